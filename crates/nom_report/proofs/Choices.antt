@@ -9,7 +9,7 @@ use Rattle.nom_report.specs.Furthest.{EachRefuses, TellsOfBranches, refuses_with
 use Rattle.nom_report.specs.declared.value.Report.{Report}
 use Rattle.nom_report.proofs.Furthest.{tells_one, tells_more}
 
-each_refuses_more : {I E : Type 0} (bs : List (I → E → Type 0)) (b : I → E → Type 0) (i : I) (es : List E) (e : E) → EachRefuses bs i es → b i e →
+pub each_refuses_more : {I E : Type 0} (bs : List (I → E → Type 0)) (b : I → E → Type 0) (i : I) (es : List E) (e : E) → EachRefuses bs i es → b i e →
     EachRefuses (bs ++ (b ∷ [])) i (es ++ (e ∷ []))
 each_refuses_more [] b i [] e h k = (k, tt)
 each_refuses_more [] b i (x ∷ es) e h k = absurd h
@@ -30,13 +30,13 @@ failure_is f (Stop (Needs k)) h = h
 
 module _ {I A E : Type 0} (w : Model I A) where
   -- a sound parser that refuses doesn't fail
-  no_failure : {V : Type 0} (m : Meaning I V E) → IsLawful w m → (s : Bool) (i : I) (o : Outcome V) → w.IsKnown i → m.answers s i Refuse →
+  pub no_failure : {V : Type 0} (m : Meaning I V E) → IsLawful w m → (s : Bool) (i : I) (o : Outcome V) → w.IsKnown i → m.answers s i Refuse →
       m.answers s i o →
       IsFailure o → ⊥
   no_failure m l s i o k r a h = subst IsFailure (sym (l.one_outcome s i i Refuse o k k (same_self w i) r tt a)) h
 
 -- where two together refuse, the first does, and then the second
-both_refuse : {I V : Type 0} (First Next : I → Outcome V → Type 0) (i : I) (first : Outcome V) → First i first → GoesOnRefused (Next i) first Refuse →
+pub both_refuse : {I V : Type 0} (First Next : I → Outcome V → Type 0) (i : I) (first : Outcome V) → First i first → GoesOnRefused (Next i) first Refuse →
     First i Refuse × Next i Refuse
 both_refuse First Next i (Accept n v) h g = absurd (cc)
 both_refuse First Next i Refuse h g = (h, g)
@@ -44,19 +44,19 @@ both_refuse First Next i (Stop why) h g = absurd (cc)
 
 -- what holds of a part that is labelled holds of it
 module _ {I P T E : Type 0} (f : P → T) (m : Meaning I P E) (s : Bool) (i : I) where
-  unlabelled_refuses : (labelled_meaning f m).answers s i Refuse → m.answers s i Refuse
+  pub unlabelled_refuses : (labelled_meaning f m).answers s i Refuse → m.answers s i Refuse
   unlabelled_refuses p =
       subst (λ z. m.answers s z Refuse) (sym p.at_is) (subst (λ o. m.answers s p.at o) (refuse_is f p.outcome p.fact) p.answered)
 
-  unlabelled_fails : (o : Outcome T) → (labelled_meaning f m).answers s i o → IsFailure o → (x : Outcome P) × m.answers s i x × IsFailure x
+  pub unlabelled_fails : (o : Outcome T) → (labelled_meaning f m).answers s i o → IsFailure o → (x : Outcome P) × m.answers s i x × IsFailure x
   unlabelled_fails o p h =
       (p.outcome, subst (λ z. m.answers s z p.outcome) (sym p.at_is) p.answered, failure_is f p.outcome (subst IsFailure p.fact h))
 
-  unlabelled_blames : (e : E) → (labelled_meaning f m).blames s i e → m.blames s i e
+  pub unlabelled_blames : (e : E) → (labelled_meaning f m).blames s i e → m.blames s i e
   unlabelled_blames e p = subst (λ z. m.blames s z e) (sym p.at_is) p.fact
 
 -- the error of a refusal that is closed by a word that adds nothing
-closed_is : {V E : Type 0} (o : Outcome V) (Blames : E → Type 0) (e : E) → (IsFailure o → ⊥) →
+pub closed_is : {V E : Type 0} (o : Outcome V) (Blames : E → Type 0) (e : E) → (IsFailure o → ⊥) →
     Closed (λ other x. x ≡ other) o Blames e → Blames e
 closed_is (Accept n v) Blames e n' h = absurd h
 closed_is Refuse Blames e n (x, h, q) = subst Blames (sym q) h
@@ -87,7 +87,7 @@ module _ {I A : Type 0} (w : Model I A) (place : I → ℕ) where
         tells_more place first.0 h.first h.second e first.2 h.joined,
       )
 
-  choice_tells : {V : Type 0} (m : Meaning I V (Report I)) → IsLawful w m → (s : Bool) (bs : List (I → Report I → Type 0)) →
+  pub choice_tells : {V : Type 0} (m : Meaning I V (Report I)) → IsLawful w m → (s : Bool) (bs : List (I → Report I → Type 0)) →
       TellsOfBranches place w bs m s → TellsOfBranches place w bs (choice_meaning (report_errors place) m) s
   choice_tells m l s bs t i e k r h =
       let refused : m.answers s i Refuse = subst (λ z. m.answers s z Refuse) (sym r.at_is) (subst (λ o. m.answers s r.at o) (sym r.fact) r.answered) in

@@ -3,8 +3,10 @@ mod Again
 mod Among
 mod Choices
 mod Contexts
+mod Each
 mod Fronts
 mod Furthest
+mod Inner
 mod Items
 mod Lines
 mod Whole

@@ -2,9 +2,10 @@
 use Rattle.std.specs.Prelude.{◌≡◌, ℕ, ◌≤◌, Bool, IsTrue, ◌⊎◌, List, [], ◌∷◌}
 use Rattle.std.specs.List.{IsAmong}
 use Rattle.nom_internal.specs.Prelude.{Meaning, Model, Refuse}
-use Rattle.nom_branch.specs.Lists.{Each}
+use Rattle.nom_branch.specs.Lists.{Each, list_meaning}
 use Rattle.nom_report.specs.Wanted.{Wanted}
 use Rattle.nom_report.specs.Kept.{Kept, kept}
+use Rattle.nom_report.specs.Reports.{report_errors}
 use Rattle.nom_report.specs.declared.value.Report.{Report}
 
 -- a branch refuses at an input, with an error
@@ -38,3 +39,14 @@ module _ {I : Type 0} (place : I → ℕ) where
   abbrev pub TellsOfBranches : {A V : Type 0} → Model I A → List (I → Report I → Type 0) → Meaning I V (Report I) → Bool → Type 0
   TellsOfBranches w bs m s = (i : I) (e : Report I) → w.IsKnown i → m.answers s i Refuse → m.blames s i e →
       (es : List (Report I)) × EachRefuses bs i es × TellsFurthest es e
+
+-- each of some branches, by its state
+abbrev pub branches_of : {S I V E : Type 0} → (S → Meaning I V E) → Bool → List S → List (I → E → Type 0)
+branches_of part s [] = []
+branches_of part s (t ∷ ts) = refuses_with s (part t) ∷ branches_of part s ts
+
+-- the same of the branches of a list, of which there is one at least
+abbrev pub TellsOfEach : {S I A V : Type 0} → (I → ℕ) → Model I A → (S → Meaning I V (Report I)) → List S → Bool → Type 0
+TellsOfEach place w part [] s = Unit {0}
+TellsOfEach place w part (t ∷ ts) s =
+    TellsOfBranches place w (branches_of part s (t ∷ ts)) (list_meaning (report_errors place) part (t ∷ ts)) s

@@ -8,5 +8,6 @@ pub mod Quotes
 pub mod Rendered
 pub mod Reports
 pub mod Wanted
+pub mod Within
 pub mod Words
 pub mod laws

@@ -1,13 +1,21 @@
 //! What a report promises of choices. These functions do nothing: their contracts are the promises.
-ghost use Rattle.std.specs.Prelude.{◌∷◌, []};
+ghost use Rattle.std.specs.Prelude.{◌∷◌, [], map};
 ghost use Rattle.nom_branch.specs.Alternatives.{alt_of, or_of};
-ghost use Rattle.nom_report.specs.Furthest.{TellsOfBranches, refuses_with};
+ghost use Rattle.nom_branch.specs.Lists.{Each};
+ghost use Rattle.nom_report.specs.Furthest.{TellsOfBranches, TellsOfEach, refuses_with};
 ghost use Rattle.nom_report.specs.Reports.{report_errors};
+ghost use Rattle.nom_report.specs.Within.{StaysWithin};
 
 use crate::place::Placed;
 use crate::value::Report;
 use nom_branch::Choice;
 use nom_internal::parser::Parser;
+
+/// A report that is made at a rest of an input lies neither before the input's start nor behind its end; and what is made of
+/// reports that lie in an input, by a choice or under a context, lies in it too.
+pub fn stays_within<I: Placed>(_input: I)
+    ensures { StaysWithin I.model I.place }
+{}
 
 /// Where a choice of two refuses, its report stands at the furthest place that any branch's does; all that was expected
 /// there by a branch is expected, unless it is told that there was more.
@@ -214,4 +222,10 @@ pub fn furthest_of_eight<
         (F.grammar (F.state _choice.now.parsers.5)))
         (G.grammar (G.state _choice.now.parsers.6)))
         (H.grammar (H.state _choice.now.parsers.7)))).meaning s }
+{}
+
+/// The same of a choice among the parsers of a list, of which there is one at least.
+pub fn furthest_of_each<I: Placed, A: Parser<I, Error = Report<I>>>(_branches: &[A])
+    requires { Each (λ s. (A.grammar s).meaning.IsSound) (map A.state _branches.now) }
+    ensures { (s : _) → TellsOfEach I.place I.model (λ t. (A.grammar t).meaning) (map A.state _branches.now) s }
 {}
