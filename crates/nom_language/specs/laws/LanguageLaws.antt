@@ -12,7 +12,7 @@ use Rattle.nom_combinator.specs.laws.VerdictLaws.{not_lawful, not_steady}
 use Rattle.nom_repeat.specs.Bounds.{any_limits}
 use Rattle.nom_repeat.specs.laws.ItemsLaws.{items_lawful, items_steady}
 use Rattle.nom_language.specs.LeftFolds.{left_assoc_meaning}
-use Rattle.nom_language.specs.Precedences.{growing_meaning, terms_meaning, Itself, expression_meaning}
+use Rattle.nom_language.specs.Precedences.{growing_meaning, terms_meaning, Itself, evaluated_meaning}
 
 module _ {I A V W E : Type 0} {w : Model I A} {first : Meaning I V E} {m : Meaning I W E} where
   growing_lawful : IsLawful w m → IsLawful w (growing_meaning first m)
@@ -39,11 +39,11 @@ module _ {I A T C E : Type 0} {w : Model I A} (l : InputLaws w) (errs : Errors I
 module _ {I A T C O X E : Type 0} {w : Model I A} (l : InputLaws w) (errs : Errors I E) (externals : Externals I X E) {CanFold : Type 0}
     {Evaluates : T × List (C × T) → Result O X → Type 0} {term : Meaning I T E} {binary : Meaning I C E}
     (j : IsJudge {R = Result O X} Evaluates Itself is_ok) where
-  pub expression_lawful : IsLawful w term → IsLawful w binary → IsLawful w (expression_meaning w errs externals CanFold Evaluates term binary)
-  expression_lawful p q = premised_lawful (judged_lawful {Takes = λ _. Unit {0}} j (terms_lawful l errs p q))
+  pub evaluated_lawful : IsLawful w term → IsLawful w binary → IsLawful w (evaluated_meaning w errs externals CanFold Evaluates term binary)
+  evaluated_lawful p q = premised_lawful (judged_lawful {Takes = λ _. Unit {0}} j (terms_lawful l errs p q))
 
-  pub expression_steady : IsSteady w term → IsSteady w binary → IsSteady w (expression_meaning w errs externals CanFold Evaluates term binary)
-  expression_steady p q = premised_steady (judged_steady {Takes = λ _. Unit {0}} j (terms_steady l errs p q))
+  pub evaluated_steady : IsSteady w term → IsSteady w binary → IsSteady w (evaluated_meaning w errs externals CanFold Evaluates term binary)
+  evaluated_steady p q = premised_steady (judged_steady {Takes = λ _. Unit {0}} j (terms_steady l errs p q))
 
 module _ {I A T C E : Type 0} {w : Model I A} (l : InputLaws w) (errs : Errors I E) {CanBuild : Type 0} {child : Meaning I T E} {operator : Meaning I C E} where
   pub left_assoc_lawful : IsLawful w child → IsLawful w operator → IsLawful w (left_assoc_meaning w errs CanBuild child operator)
