@@ -18,8 +18,8 @@ use Rattle.nom_language.specs.Precedences.{AcceptsAt}
 use Rattle.nom_language.proofs.LeftShown.{some_same}
 
 -- memory may run out for another cause too
-pub runs_out_beside : {I A V O E : Type 0} {w : Model I A} {IsOutput : V → O → Type 0} {mode : Modes} {i : I} {Answers : Outcome V → Type 0} {IsError : E → Type 0}
-    {RunsOut Other : Type 0} {r : PResult I O E} → ShowsAnswer w IsOutput mode i Answers IsError RunsOut r →
+pub runs_out_beside : {I A V O E : Type 0} {w : Model I A} {IsOutput : V → O → Type 0} {mode : Modes} {i : I} {Answers : Outcome V → Type 0}
+    {IsError : E → Type 0} {RunsOut Other : Type 0} {r : PResult I O E} → ShowsAnswer w IsOutput mode i Answers IsError RunsOut r →
     ShowsAnswer w IsOutput mode i Answers IsError (RunsOut ⊎ Other) r
 runs_out_beside (RanOut e h) = RanOut e (inl h)
 runs_out_beside (Shown o a s) = Shown o a s

@@ -52,7 +52,8 @@ module _ {I A T C E : Type 0} {w : Model I A} (l : InputLaws w) (errs : Errors I
   pub left_assoc_steady : IsSteady w child → IsSteady w operator → IsSteady w (left_assoc_meaning w errs CanBuild child operator)
   left_assoc_steady p q = premised_steady (sequence_steady l p (items_steady l errs (any_limits Kind.SeparatedList) (built_steady (pair_steady l q p))))
 
-module _ {I A H T E : Type 0} {w : Model I A} (l : InputLaws w) (errs : Errors I E) {Runs IsSound : Type 0} {expression : Meaning I T E} {binary : Meaning I H E} where
+module _ {I A H T E : Type 0} {w : Model I A} (l : InputLaws w) (errs : Errors I E) {Runs IsSound : Type 0} {expression : Meaning I T E}
+    {binary : Meaning I H E} where
   pub require_operands_lawful : IsLawful w expression → IsLawful w binary → IsLawful w (premised Runs IsSound
       (sequence_meaning w (λ e _. e) (λ o. o) (λ o. o) expression (not_meaning (λ i. errs.of_kind i Kind.Precedence) errs.grows binary)))
   require_operands_lawful p q = premised_lawful (sequence_lawful l {second_mode = λ o. o} p (not_lawful q))

@@ -29,7 +29,8 @@ returns-in_err-end-clause-shown g c =
       meaning = items_meaning g.I.Items.model g.F.Error.ParseError.errors (any_limits Kind.SeparatedList) ⊥
           (operator_and_term_meaning g.I.Items.model binary.meaning (g.F.Parser.grammar s).meaning);
       IsOutput = Accumulated (LeftPushes (λ k. k.value) (λ k. k.builder.now) (λ f a h b z. g.G.Fn.post f (a, (h, (b, tt))) z))
-          (λ k. IsSome k.value × ((x : g.row.F-Output.Denot) (h : g.row.C-Output.Denot) (y : g.row.F-Output.Denot) → g.G.Fn.pre k.builder.now (x, (h, (y, tt)))))
+          (λ k. IsSome k.value
+          × ((x : g.row.F-Output.Denot) (h : g.row.C-Output.Denot) (y : g.row.F-Output.Denot) → g.G.Fn.pre k.builder.now (x, (h, (y, tt)))))
           (λ t o. binary.IsOutput t.0 o.0 × (g.F.Parser.grammar s).IsOutput t.1 o.1) c.begun-begun.result;
     }) c.in_ok-rest.ensures.kept c.in_err-end.ensures.shown in
     then_ok g.met.I.Items.lawful c.in_ok-rest.ensures.shown (λ t b. output_err more c.from_residual-in_err-end.ensures)
@@ -43,7 +44,8 @@ returns-clause-shown g c =
       meaning = items_meaning g.I.Items.model g.F.Error.ParseError.errors (any_limits Kind.SeparatedList) ⊥
           (operator_and_term_meaning g.I.Items.model binary.meaning (g.F.Parser.grammar s).meaning);
       IsOutput = Accumulated (LeftPushes (λ k. k.value) (λ k. k.builder.now) (λ f a h b z. g.G.Fn.post f (a, (h, (b, tt))) z))
-          (λ k. IsSome k.value × ((x : g.row.F-Output.Denot) (h : g.row.C-Output.Denot) (y : g.row.F-Output.Denot) → g.G.Fn.pre k.builder.now (x, (h, (y, tt)))))
+          (λ k. IsSome k.value
+          × ((x : g.row.F-Output.Denot) (h : g.row.C-Output.Denot) (y : g.row.F-Output.Denot) → g.G.Fn.pre k.builder.now (x, (h, (y, tt)))))
           (λ t o. binary.IsOutput t.0 o.0 × (g.F.Parser.grammar s).IsOutput t.1 o.1) c.begun-begun.result;
     }) c.in_ok-rest.ensures.kept c.in_ok-end.ensures.shown in
     then_ok g.met.I.Items.lawful c.in_ok-rest.ensures.shown (λ t b. output_ok more (λ us k. left_built (λ k. k.value) (λ k. k.builder.now)
