@@ -18,11 +18,11 @@ use Rattle.nom_language.specs.Precedences.{AcceptsAt}
 use Rattle.nom_language.proofs.LeftShown.{some_same}
 
 -- memory may run out for another cause too
-pub beside : {I A V O E : Type 0} {w : Model I A} {IsOutput : V → O → Type 0} {mode : Modes} {i : I} {Answers : Outcome V → Type 0} {IsError : E → Type 0}
-    {RunsOut Other : Type 0} {r : PResult I O E} → ShowsAnswer w IsOutput mode i Answers IsError RunsOut r →
+pub runs_out_beside : {I A V O E : Type 0} {w : Model I A} {IsOutput : V → O → Type 0} {mode : Modes} {i : I} {Answers : Outcome V → Type 0}
+    {IsError : E → Type 0} {RunsOut Other : Type 0} {r : PResult I O E} → ShowsAnswer w IsOutput mode i Answers IsError RunsOut r →
     ShowsAnswer w IsOutput mode i Answers IsError (RunsOut ⊎ Other) r
-beside (RanOut e h) = RanOut e (inl h)
-beside (Shown o a s) = Shown o a s
+runs_out_beside (RanOut e h) = RanOut e (inl h)
+runs_out_beside (Shown o a s) = Shown o a s
 
 -- what is accepted of a part that is closed is accepted of the part
 pub closed_accepts : {I A V O E : Type 0} {w : Model I A} {IsOutput : V → O → Type 0} {built streaming : Bool} {i j : I} {x : Option O}

@@ -5,7 +5,7 @@ use Rattle.std.proofs.Common.{sym, ◌∙◌, ap, subst}
 use Rattle.nom_internal.specs.Prelude.{Built, BuiltFrom}
 use Rattle.nom_repeat.specs.Accumulated.{Adds, Accumulated}
 use Rattle.nom_language.specs.LeftFolds.{IsFolded}
-use Rattle.nom_language.specs.helpers.Accumulated.{FoldPushes}
+use Rattle.nom_language.specs.helpers.Accumulated.{LeftPushes}
 
 none_some : {X : Type 0} (x : X) → None ≡ Some x → ⊥
 none_some x e = absurd (cc (e))
@@ -23,7 +23,7 @@ given_built false P Gives Q None y f g h = g
 
 module _ {K L H O : Type 0} (value : K → Option O) (builder : K → L) (Gives : L → O → H → O → O → Type 0) where
   -- pairs are folded in their order
-  fold_adds : (k : K) (ps : List (H × O)) (new : K) (x : O) → value k ≡ Some x → Adds (FoldPushes value builder Gives) k ps new →
+  fold_adds : (k : K) (ps : List (H × O)) (new : K) (x : O) → value k ≡ Some x → Adds (LeftPushes value builder Gives) k ps new →
       (y : O) × (value new ≡ Some y) × FoldsTo (λ a p c. Gives (builder k) a p.0 p.1 c) x ps y
   fold_adds k [] new x h a = (x, ap value a ∙ h, refl)
   fold_adds k (p ∷ ps) new x h a =
@@ -44,7 +44,7 @@ module _ {K L H O : Type 0} (value : K → Option O) (builder : K → L) (Gives 
     pub left_built : (builds : Bool) (t : T) (us : List (C × T)) (b : L) (first : Option O) (begun folded : Option K) (result : Option O) →
         BuiltFrom true (λ x k. (value k ≡ Some x) × (builder k ≡ b)) first begun → MatchOption folded (result ≡ None) (λ k. result ≡ value k) →
         Built builds (IsItem t) first →
-        Built builds (Accumulated (FoldPushes value builder Gives) CanPush (λ u o. IsOperator u.0 o.0 × IsItem u.1 o.1) begun us) folded →
+        Built builds (Accumulated (LeftPushes value builder Gives) CanPush (λ u o. IsOperator u.0 o.0 × IsItem u.1 o.1) begun us) folded →
         Built builds (IsFolded IsItem IsOperator (Gives b) (t, us)) result
     left_built true t us b (Some x) begun (Some n) result g m h a =
         let acc = a.2 in

@@ -6,7 +6,7 @@ use Rattle.nom_error.specs.declared.kind.ErrorKind.TheVariants as Kind
 use Rattle.nom_internal.specs.Prelude.{Grammar, Meaning, Model, sequence_meaning, premised}
 use Rattle.nom_repeat.specs.Bounds.{any_limits}
 use Rattle.nom_repeat.specs.Items.{items_meaning}
-use Rattle.nom_language.specs.Precedences.{next_meaning}
+use Rattle.nom_language.specs.Precedences.{operator_and_term_meaning}
 
 -- the value of a first item and of pairs of an operator and an item, from left to right
 pub record IsFolded {T C H O : Type 0} (IsItem : T → O → Type 0) (IsOperator : C → H → Type 0) (Gives : O → H → O → O → Type 0) (e : T × List (C × T))
@@ -24,7 +24,7 @@ abbrev pub left_assoc_meaning : {I A T C E : Type 0} → Model I A → Errors I 
 left_assoc_meaning w errs CanBuild child operator =
     premised (child.Runs × operator.Runs × CanBuild) (child.IsSound × operator.IsSound)
     (sequence_meaning w (λ t ps. (t, ps)) (λ o. o) (λ o. o) child
-    (items_meaning w errs (any_limits Kind.SeparatedList) ⊥ (next_meaning w operator child)))
+    (items_meaning w errs (any_limits Kind.SeparatedList) ⊥ (operator_and_term_meaning w operator child)))
 
 abbrev pub left_assoc_by : {I A T C H O E : Type 0} → Model I A → Errors I E → (CanBuild : Type 0) → (O → H → O → O → Type 0) → Grammar I T O E →
     Grammar I C H E → Grammar I (T × List (C × T)) O E

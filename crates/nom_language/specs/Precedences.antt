@@ -26,15 +26,15 @@ growing_meaning first m = record m {
 }
 
 -- a binary operator and a term after it, as a tuple
-abbrev pub next_meaning : {I A C T E : Type 0} → Model I A → Meaning I C E → Meaning I T E → Meaning I (C × T) E
-next_meaning w binary term = built_meaning (pair_meaning w binary term)
+abbrev pub operator_and_term_meaning : {I A C T E : Type 0} → Model I A → Meaning I C E → Meaning I T E → Meaning I (C × T) E
+operator_and_term_meaning w binary term = built_meaning (pair_meaning w binary term)
 
 -- A first term, to whose refusal `Precedence` is added at the start; and then pairs, as many as are accepted. Where an operator or its
 -- term is refused, the pairs end before that operator. A pair that consumes nothing is refused. What waits takes memory.
 abbrev pub terms_meaning : {I A T C E : Type 0} → Model I A → Errors I E → Meaning I T E → Meaning I C E → Meaning I (T × List (C × T)) E
 terms_meaning w errs term binary = growing_meaning term (sequence_meaning w (λ t ps. (t, ps)) (λ o. o) (λ o. o)
     (closed_meaning (λ i. errs.appended i Kind.Precedence) errs.grows term)
-    (items_meaning w errs (any_limits Kind.Precedence) (Unit {0}) (next_meaning w binary term)))
+    (items_meaning w errs (any_limits Kind.Precedence) (Unit {0}) (operator_and_term_meaning w binary term)))
 
 -- what was evaluated stands for itself
 abbrev pub Itself : {R : Type 0} → R → R → Type 0
@@ -42,9 +42,9 @@ Itself r s = s ≡ r
 
 -- What is read is evaluated in every mode, by what a tree stands for: a refusal of the fold refuses it, at the start. The premise of the
 -- laws is that the fold either refuses all that a tree stands for, or nothing.
-abbrev pub expression_meaning : {I A T C O X E : Type 0} → Model I A → Errors I E → Externals I X E → (CanFold : Type 0) →
+abbrev pub evaluated_meaning : {I A T C O X E : Type 0} → Model I A → Errors I E → Externals I X E → (CanFold : Type 0) →
     (T × List (C × T) → Result O X → Type 0) → Meaning I T E → Meaning I C E → Meaning I (T × List (C × T)) E
-expression_meaning {O = O} {X = X} w errs externals CanFold Evaluates term binary =
+evaluated_meaning {O = O} {X = X} w errs externals CanFold Evaluates term binary =
     premised (term.Runs × binary.Runs × CanFold) (term.IsSound × binary.IsSound × IsJudge {R = Result O X} Evaluates Itself is_ok)
     (judged_meaning {R = Result O X} Evaluates (λ _. Unit {0}) Itself is_ok (λ i. OfError (externals.of_external i Kind.Precedence)) externals.grows
     (terms_meaning w errs term binary))
@@ -53,7 +53,7 @@ expression_meaning {O = O} {X = X} w errs externals CanFold Evaluates term binar
 abbrev pub expression_by : {I A T C P Q B O X M E : Type 0} → Model I A → Errors I E → Externals I X E → (CanFold : Type 0) →
     (Operation P Q B O → Result O X → Type 0) → Grammar I T (TermOutput P O Q M) E → Grammar I C (Binary B) E → Grammar I (T × List (C × T)) O E
 expression_by w errs externals CanFold Gives term binary = record {
-  meaning = expression_meaning w errs externals CanFold (IsEvaluated term.IsOutput binary.IsOutput Gives) term.meaning binary.meaning;
+  meaning = evaluated_meaning w errs externals CanFold (IsEvaluated term.IsOutput binary.IsOutput Gives) term.meaning binary.meaning;
   IsOutput = λ e y. IsEvaluated term.IsOutput binary.IsOutput Gives e (Ok y);
 }
 

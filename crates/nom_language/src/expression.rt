@@ -58,7 +58,7 @@ impl<
 where
     T::Error: FromExternalError<I, X>,
 {
-    ghost use Rattle.nom_language.specs.laws.LanguageLaws.{expression_lawful};
+    ghost use Rattle.nom_language.specs.laws.LanguageLaws.{evaluated_lawful};
 
     type Output = O;
 
@@ -90,7 +90,7 @@ where
         }
     }
 
-    ghost lawful = { λ s k. expression_lawful I.lawful T.Error.errors T.Error.externals k.2 (T.lawful s.1 k.0) (C.lawful s.0 k.1) };
+    ghost lawful = { λ s k. evaluated_lawful I.lawful T.Error.errors T.Error.externals k.2 (T.lawful s.1 k.0) (C.lawful s.0 k.1) };
 }
 
 impl<
@@ -108,7 +108,7 @@ impl<
 where
     T::Error: FromExternalError<I, X>,
 {
-    ghost use Rattle.nom_language.specs.laws.LanguageLaws.{expression_steady};
+    ghost use Rattle.nom_language.specs.laws.LanguageLaws.{evaluated_steady};
     ghost use Rattle.nom_language.specs.laws.PinnedLaws.{expression_pinned};
     ghost use Rattle.nom_operators.specs.laws.ViewLaws.{OperatesAlike};
 
@@ -116,7 +116,7 @@ where
 
     ghost pinned = { λ p k h. expression_pinned P.view Q.view B.view O.view (T.pinned p.pair.1 k.0 h.0) (C.pinned p.pair.0 k.1 h.1) h.2 };
 
-    ghost steady = { λ s k. expression_steady I.lawful T.Error.errors T.Error.externals k.2 (T.steady s.1 k.0) (C.steady s.0 k.1) };
+    ghost steady = { λ s k. evaluated_steady I.lawful T.Error.errors T.Error.externals k.2 (T.steady s.1 k.0) (C.steady s.0 k.1) };
 }
 
 /// A first term, to whose refusal `Precedence` is added at the start, and then pairs, with the value of them all, or the

@@ -2,7 +2,7 @@
 ghost use Rattle.std.specs.Prelude.{◌≡◌, IsSome, List, MatchOption, None, Some, true};
 ghost use Rattle.nom_internal.specs.Prelude.{BuiltFrom};
 ghost use Rattle.nom_language.specs.LeftFolds.{left_assoc_by};
-ghost use Rattle.nom_language.specs.helpers.Accumulated.{FoldPushes};
+ghost use Rattle.nom_language.specs.helpers.Accumulated.{LeftPushes};
 
 use nom_error::answer::{OutOfMemory, PResult};
 use nom_error::kind::ErrorKind;
@@ -83,7 +83,7 @@ struct Folded<'a, H, O, G> {
 }
 
 impl<'a, H: Drop, O: Drop, G: Fn(O, H, O) -> O> Accumulator<(H, O)> for Folded<'a, H, O, G> {
-    ghost Pushes = { λ old x new. FoldPushes (λ k. k.value) (λ k. k.builder.now) (λ f a h b c. G.post f a h b c) old x new };
+    ghost Pushes = { λ old x new. LeftPushes (λ k. k.value) (λ k. k.builder.now) (λ f a h b c. G.post f a h b c) old x new };
 
     ghost CanPush = { λ k. IsSome k.value × ((x : O) (h : H) (y : O) → G.pre k.builder.now x h y) };
 

@@ -41,7 +41,7 @@ impl<
 where
     T::Error: FromExternalError<I, X>,
 {
-    ghost use Rattle.nom_language.specs.laws.LanguageLaws.{expression_lawful, require_operands_lawful};
+    ghost use Rattle.nom_language.specs.laws.LanguageLaws.{evaluated_lawful, require_operands_lawful};
 
     type Output = O;
 
@@ -63,7 +63,7 @@ where
     }
 
     ghost lawful = { λ s k. require_operands_lawful I.lawful T.Error.errors
-        (expression_lawful I.lawful T.Error.errors T.Error.externals {CanFold = Unit {0}} k.2 (T.lawful s.1 k.0) (C.lawful s.0 k.1)) (C.lawful s.0 k.1) };
+        (evaluated_lawful I.lawful T.Error.errors T.Error.externals {CanFold = Unit {0}} k.2 (T.lawful s.1 k.0) (C.lawful s.0 k.1)) (C.lawful s.0 k.1) };
 }
 
 impl<
@@ -81,7 +81,7 @@ impl<
 where
     T::Error: FromExternalError<I, X>,
 {
-    ghost use Rattle.nom_language.specs.laws.LanguageLaws.{expression_steady, require_operands_steady};
+    ghost use Rattle.nom_language.specs.laws.LanguageLaws.{evaluated_steady, require_operands_steady};
     ghost use Rattle.nom_language.specs.laws.PinnedLaws.{expression_pinned};
     ghost use Rattle.nom_operators.specs.laws.ViewLaws.{OperatesAlike};
 
@@ -92,7 +92,7 @@ where
         (C.pinned p.expression.pair.0 k.1 h.1) h.2 };
 
     ghost steady = { λ s k. require_operands_steady I.lawful T.Error.errors
-        (expression_steady I.lawful T.Error.errors T.Error.externals {CanFold = Unit {0}} k.2 (T.steady s.1 k.0) (C.steady s.0 k.1)) (C.steady s.0 k.1) };
+        (evaluated_steady I.lawful T.Error.errors T.Error.externals {CanFold = Unit {0}} k.2 (T.steady s.1 k.0) (C.steady s.0 k.1)) (C.steady s.0 k.1) };
 }
 
 /// No operator, which is refused with `Precedence`.

@@ -18,7 +18,7 @@ pub fn unary_op<F>(precedence: usize, parser: F) -> UnaryOp<F>
     UnaryOp { precedence, parser }
 }
 
-/// A binary operator, with its precedence, and how it is grouped beside others of that precedence. A lesser precedence
+/// A binary operator, with its precedence, and how it is grouped runs_out_beside others of that precedence. A lesser precedence
 /// binds tighter.
 #[inline(always)]
 pub fn binary_op<F>(precedence: usize, assoc: Assoc, parser: F) -> BinaryOp<F>

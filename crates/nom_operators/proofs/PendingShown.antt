@@ -9,7 +9,7 @@ use Rattle.nom_operators.specs.Groups.{is_left}
 use Rattle.nom_operators.specs.OperatorTrees.{OperatorTree, Symbol, symbols, Binding, RightEdge}
 use Rattle.nom_operators.specs.OperatorTrees.OperatorTree.{Bare, Prefixed, Postfixed, Between}
 use Rattle.nom_operators.specs.OperatorTrees.Symbol.{OfPrefix, OfOperand, OfPostfix, OfBinary}
-use Rattle.nom_operators.specs.helpers.Pending.{level_of_pending, EndsNone, with_prefixes, PendingGives, StandsBefore, IsPartlyRead, HasRead, IsEnding}
+use Rattle.nom_operators.specs.helpers.Pending.{level_of_pending, EndsNone, with_prefixes, PendingGives, WaitsBefore, IsPartlyRead, HasRead, IsEnding}
 use Rattle.nom_operators.specs.declared.operation.Operation.{Operation}
 use Rattle.nom_operators.specs.declared.precedences.Unary.{Unary}
 use Rattle.nom_operators.specs.declared.precedences.Binary.{Binary}
@@ -91,7 +91,7 @@ module _ {P Q B O X : Type 0} (Gives : Operation P Q B O → Result O X → Type
   -- a binary operator waits after the operands that it ends
   pub left_waits : (ss : List (Symbol (Unary P) O (Unary Q) (Binary B))) (s : List (Pending P B (Result O X))) (y : Result O X) (b : Binary B) →
       IsEnding Gives b.precedence (is_left b.assoc) ss s y → EndsNone s b.precedence (is_left b.assoc) →
-      StandsBefore Gives (ss ++ OfBinary b ∷ []) (Left y b ∷ s)
+      WaitsBefore Gives (ss ++ OfBinary b ∷ []) (Left y b ∷ s)
   left_waits ss s y b h n = (
     h.before,
     h.tree,
@@ -109,23 +109,23 @@ module _ {P Q B O X : Type 0} (Gives : Operation P Q B O → Result O X → Type
       (b : Binary B) (left : Bool) (more : List (Symbol (Unary P) O (Unary Q) (Binary B))) (v : Result O X) → left ≡ is_left b.assoc → HasRead Gives ss s y →
       ((now : List (Symbol (Unary P) O (Unary Q) (Binary B))) → IsEnding Gives b.precedence left now s y → IsEnding Gives b.precedence left now under z) →
       EndsNone under b.precedence left → kept ≡ under →
-      ((now : List (Symbol (Unary P) O (Unary Q) (Binary B))) → StandsBefore Gives now (Left z b ∷ kept) → HasRead Gives (now ++ more) r v) →
+      ((now : List (Symbol (Unary P) O (Unary Q) (Binary B))) → WaitsBefore Gives now (Left z b ∷ kept) → HasRead Gives (now ++ more) r v) →
       HasRead Gives (ss ++ OfBinary b ∷ more) r v
   operator_waits ss s under kept r y z b left more v l h f n k g = subst (λ t. HasRead Gives t r v) (append_assoc ss (OfBinary b ∷ []) more)
-      (g (ss ++ OfBinary b ∷ []) (subst (λ u. StandsBefore Gives (ss ++ OfBinary b ∷ []) (Left z b ∷ u)) (sym k)
+      (g (ss ++ OfBinary b ∷ []) (subst (λ u. WaitsBefore Gives (ss ++ OfBinary b ∷ []) (Left z b ∷ u)) (sym k)
       (left_waits ss under z b (subst (λ d. IsEnding Gives b.precedence d ss under z) l (f ss (any_edge _ ss s y h)))
       (subst (λ d. EndsNone under b.precedence d) l n))))
 
   -- so do prefixes
   pub prefixes_wait : (ps : List (Unary P)) (ss : List (Symbol (Unary P) O (Unary Q) (Binary B))) (s : List (Pending P B (Result O X))) →
-      StandsBefore Gives ss s → StandsBefore Gives (ss ++ map OfPrefix ps) (with_prefixes ps s)
-  prefixes_wait [] ss s h = subst (λ z. StandsBefore Gives z s) (sym (append-nil ss)) h
-  prefixes_wait (p ∷ ps) ss s h = subst (λ z. StandsBefore Gives z (with_prefixes ps (Prefix p ∷ s))) (append_assoc ss (OfPrefix p ∷ []) (map OfPrefix ps))
+      WaitsBefore Gives ss s → WaitsBefore Gives (ss ++ map OfPrefix ps) (with_prefixes ps s)
+  prefixes_wait [] ss s h = subst (λ z. WaitsBefore Gives z s) (sym (append-nil ss)) h
+  prefixes_wait (p ∷ ps) ss s h = subst (λ z. WaitsBefore Gives z (with_prefixes ps (Prefix p ∷ s))) (append_assoc ss (OfPrefix p ∷ []) (map OfPrefix ps))
       (prefixes_wait ps (ss ++ OfPrefix p ∷ []) (Prefix p ∷ s) (ss, refl, h))
 
   -- an operand after what waits
   pub operand_read : (ss : List (Symbol (Unary P) O (Unary Q) (Binary B))) (s : List (Pending P B (Result O X))) (o : O) →
-      StandsBefore Gives ss s → HasRead Gives (ss ++ OfOperand o ∷ []) s (Ok o)
+      WaitsBefore Gives ss s → HasRead Gives (ss ++ OfOperand o ∷ []) s (Ok o)
   operand_read ss s o h = record {
     before = ss;
     tree = Bare o;
@@ -140,10 +140,10 @@ module _ {P Q B O X : Type 0} (Gives : Operation P Q B O → Result O X → Type
   -- a term after what waits
   pub term_read : (ps : List (Unary P)) (o : O) (qs : List (Unary Q)) (ss : List (Symbol (Unary P) O (Unary Q) (Binary B)))
       (s t r : List (Pending P B (Result O X))) (y : Result O X) → t ≡ with_prefixes ps s →
-      ((now : List (Symbol (Unary P) O (Unary Q) (Binary B))) → StandsBefore Gives now t → HasRead Gives (now ++ OfOperand o ∷ map OfPostfix qs) r y) →
-      StandsBefore Gives ss s → HasRead Gives (ss ++ term_symbols ps o qs) r y
+      ((now : List (Symbol (Unary P) O (Unary Q) (Binary B))) → WaitsBefore Gives now t → HasRead Gives (now ++ OfOperand o ∷ map OfPostfix qs) r y) →
+      WaitsBefore Gives ss s → HasRead Gives (ss ++ term_symbols ps o qs) r y
   term_read ps o qs ss s t r y e f h = subst (λ z. HasRead Gives z r y) (append_assoc ss (map OfPrefix ps) (OfOperand o ∷ map OfPostfix qs))
-      (f (ss ++ map OfPrefix ps) (subst (λ z. StandsBefore Gives (ss ++ map OfPrefix ps) z) (sym e) (prefixes_wait ps ss s h)))
+      (f (ss ++ map OfPrefix ps) (subst (λ z. WaitsBefore Gives (ss ++ map OfPrefix ps) z) (sym e) (prefixes_wait ps ss s h)))
 
   -- at the end nothing waits
   pub all_read : (Fact : ℕ → Type 0) (ss : List (Symbol (Unary P) O (Unary Q) (Binary B))) (y : Result O X) →

@@ -5,7 +5,7 @@ ghost use Rattle.nom_operators.specs.Evaluations.{IsValueOf, PostfixGives, term_
 ghost use Rattle.nom_operators.specs.Groups.{is_left};
 ghost use Rattle.nom_operators.specs.OperatorTrees.{Symbol, ends_operand};
 ghost use Rattle.nom_operators.specs.OperatorTrees.Symbol.{OfBinary, OfOperand, OfPostfix};
-ghost use Rattle.nom_operators.specs.helpers.Pending.{EndsNone, HasRead, IsEnding, PendingGives, StandsBefore, level_of_pending, with_prefixes};
+ghost use Rattle.nom_operators.specs.helpers.Pending.{EndsNone, HasRead, IsEnding, PendingGives, WaitsBefore, level_of_pending, with_prefixes};
 ghost use Rattle.nom_operators.specs.Steps.{IsNested, waiting};
 ghost use Rattle.nom_operators.specs.declared.operation.Operation.{Operation};
 ghost use Rattle.nom_operators.specs.declared.precedences.Unary.{Unary};
@@ -154,7 +154,7 @@ fn read_term<
     requires fold { (x : Operation P Q B O) → G.pre fold.now x }
     requires nested { IsNested innermost outer.old.items }
     ensures read { IfSome result (λ r. (ss : List (Symbol (Unary P) O (Unary Q) (Binary B))) →
-        StandsBefore (G.post fold.now) ss (waiting innermost outer.old.items) →
+        WaitsBefore (G.post fold.now) ss (waiting innermost outer.old.items) →
         HasRead (G.post fold.now) (ss ++ term_symbols term.prefixes.items term.operand term.postfixes.items)
         (waiting r.innermost outer.new.items) r.value) }
     ensures nested { IfSome result (λ r. IsNested r.innermost outer.new.items) }
@@ -213,7 +213,7 @@ fn apply_all<
     requires fold { (x : Operation P Q B O) → G.pre fold.now x }
     requires nested { IsNested innermost outer.old.items }
     ensures read { (ss : List (Symbol (Unary P) O (Unary Q) (Binary B))) →
-        StandsBefore (G.post fold.now) ss (waiting innermost outer.old.items) →
+        WaitsBefore (G.post fold.now) ss (waiting innermost outer.old.items) →
         HasRead (G.post fold.now) (ss ++ OfOperand operand ∷ map OfPostfix postfixes.items) (waiting result.innermost outer.new.items) result.value }
     ensures nested { IsNested result.innermost outer.new.items }
 {

@@ -12,7 +12,7 @@ use Rattle.nom_operators.specs.helpers.Pending.{HasRead}
 use Rattle.nom_language.specs.Evaluated.{TermOutput, symbols_of_term}
 
 -- One more pair folds the value with it.
-pub record FoldPushes {K L H O : Type 0} (value : K → Option O) (builder : K → L) (Gives : L → O → H → O → O → Type 0) (old : K) (item : H × O) (new : K)
+pub record LeftPushes {K L H O : Type 0} (value : K → Option O) (builder : K → L) (Gives : L → O → H → O → O → Type 0) (old : K) (item : H × O) (new : K)
     : Type 0 where
   pub before : O
   pub rest : O

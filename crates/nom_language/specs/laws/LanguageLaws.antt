@@ -12,7 +12,7 @@ use Rattle.nom_combinator.specs.laws.VerdictLaws.{not_lawful, not_steady}
 use Rattle.nom_repeat.specs.Bounds.{any_limits}
 use Rattle.nom_repeat.specs.laws.ItemsLaws.{items_lawful, items_steady}
 use Rattle.nom_language.specs.LeftFolds.{left_assoc_meaning}
-use Rattle.nom_language.specs.Precedences.{growing_meaning, terms_meaning, Itself, expression_meaning}
+use Rattle.nom_language.specs.Precedences.{growing_meaning, terms_meaning, Itself, evaluated_meaning}
 
 module _ {I A V W E : Type 0} {w : Model I A} {first : Meaning I V E} {m : Meaning I W E} where
   growing_lawful : IsLawful w m → IsLawful w (growing_meaning first m)
@@ -39,11 +39,11 @@ module _ {I A T C E : Type 0} {w : Model I A} (l : InputLaws w) (errs : Errors I
 module _ {I A T C O X E : Type 0} {w : Model I A} (l : InputLaws w) (errs : Errors I E) (externals : Externals I X E) {CanFold : Type 0}
     {Evaluates : T × List (C × T) → Result O X → Type 0} {term : Meaning I T E} {binary : Meaning I C E}
     (j : IsJudge {R = Result O X} Evaluates Itself is_ok) where
-  pub expression_lawful : IsLawful w term → IsLawful w binary → IsLawful w (expression_meaning w errs externals CanFold Evaluates term binary)
-  expression_lawful p q = premised_lawful (judged_lawful {Takes = λ _. Unit {0}} j (terms_lawful l errs p q))
+  pub evaluated_lawful : IsLawful w term → IsLawful w binary → IsLawful w (evaluated_meaning w errs externals CanFold Evaluates term binary)
+  evaluated_lawful p q = premised_lawful (judged_lawful {Takes = λ _. Unit {0}} j (terms_lawful l errs p q))
 
-  pub expression_steady : IsSteady w term → IsSteady w binary → IsSteady w (expression_meaning w errs externals CanFold Evaluates term binary)
-  expression_steady p q = premised_steady (judged_steady {Takes = λ _. Unit {0}} j (terms_steady l errs p q))
+  pub evaluated_steady : IsSteady w term → IsSteady w binary → IsSteady w (evaluated_meaning w errs externals CanFold Evaluates term binary)
+  evaluated_steady p q = premised_steady (judged_steady {Takes = λ _. Unit {0}} j (terms_steady l errs p q))
 
 module _ {I A T C E : Type 0} {w : Model I A} (l : InputLaws w) (errs : Errors I E) {CanBuild : Type 0} {child : Meaning I T E} {operator : Meaning I C E} where
   pub left_assoc_lawful : IsLawful w child → IsLawful w operator → IsLawful w (left_assoc_meaning w errs CanBuild child operator)
@@ -52,7 +52,8 @@ module _ {I A T C E : Type 0} {w : Model I A} (l : InputLaws w) (errs : Errors I
   pub left_assoc_steady : IsSteady w child → IsSteady w operator → IsSteady w (left_assoc_meaning w errs CanBuild child operator)
   left_assoc_steady p q = premised_steady (sequence_steady l p (items_steady l errs (any_limits Kind.SeparatedList) (built_steady (pair_steady l q p))))
 
-module _ {I A H T E : Type 0} {w : Model I A} (l : InputLaws w) (errs : Errors I E) {Runs IsSound : Type 0} {expression : Meaning I T E} {binary : Meaning I H E} where
+module _ {I A H T E : Type 0} {w : Model I A} (l : InputLaws w) (errs : Errors I E) {Runs IsSound : Type 0} {expression : Meaning I T E}
+    {binary : Meaning I H E} where
   pub require_operands_lawful : IsLawful w expression → IsLawful w binary → IsLawful w (premised Runs IsSound
       (sequence_meaning w (λ e _. e) (λ o. o) (λ o. o) expression (not_meaning (λ i. errs.of_kind i Kind.Precedence) errs.grows binary)))
   require_operands_lawful p q = premised_lawful (sequence_lawful l {second_mode = λ o. o} p (not_lawful q))

@@ -32,14 +32,14 @@ module _ {P Q B O X : Type 0} (Gives : Operation P Q B O → Result O X → Type
   PendingGives (Left z b) y r = BinaryGives Gives z b y r
 
   -- symbols up to an operand are these operators, each with the tree on its left
-  abbrev pub StandsBefore : List (Symbol (Unary P) O (Unary Q) (Binary B)) → List (Pending P B (Result O X)) → Type 0
-  StandsBefore ss [] = ss ≡ []
-  StandsBefore ss (Prefix p ∷ s) = (before : List (Symbol (Unary P) O (Unary Q) (Binary B))) × (ss ≡ before ++ OfPrefix p ∷ []) × StandsBefore before s
-  StandsBefore ss (Left y b ∷ s) =
+  abbrev pub WaitsBefore : List (Symbol (Unary P) O (Unary Q) (Binary B)) → List (Pending P B (Result O X)) → Type 0
+  WaitsBefore ss [] = ss ≡ []
+  WaitsBefore ss (Prefix p ∷ s) = (before : List (Symbol (Unary P) O (Unary Q) (Binary B))) × (ss ≡ before ++ OfPrefix p ∷ []) × WaitsBefore before s
+  WaitsBefore ss (Left y b ∷ s) =
       (before : List (Symbol (Unary P) O (Unary Q) (Binary B)))
       × (x : OperatorTree (Unary P) O (Unary Q) (Binary B))
       × (ss ≡ before ++ (symbols x ++ OfBinary b ∷ []))
-      × StandsBefore before s
+      × WaitsBefore before s
       × IsGrouped by_precedence x
       × RightEdge by_precedence (λ j. ends_operand b.precedence (is_left b.assoc) j ≡ true) x
       × LeftEdge by_precedence (EndsNone s) x
@@ -53,7 +53,7 @@ module _ {P Q B O X : Type 0} (Gives : Operation P Q B O → Result O X → Type
     pub before : List (Symbol (Unary P) O (Unary Q) (Binary B))
     pub tree : OperatorTree (Unary P) O (Unary Q) (Binary B)
     pub symbols_are : ss ≡ before ++ symbols tree
-    pub stands : StandsBefore before s
+    pub stands : WaitsBefore before s
     pub grouped : IsGrouped by_precedence tree
     pub right_edge : RightEdge by_precedence Fact tree
     pub left_edge : LeftEdge by_precedence (EndsNone s) tree

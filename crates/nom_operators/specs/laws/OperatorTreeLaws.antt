@@ -11,9 +11,9 @@ data Unfinished (P O Q B : Type 0) : Type 0 where
   AfterLeft : OperatorTree P O Q B → B → Unfinished P O Q B
 
 -- where the machine stands: before an operand, or after one, with its tree
-data Place (P O Q B : Type 0) : Type 0 where
-  Expects : List (Unfinished P O Q B) → Place P O Q B
-  Has : List (Unfinished P O Q B) → OperatorTree P O Q B → Place P O Q B
+data Standing (P O Q B : Type 0) : Type 0 where
+  Expects : List (Unfinished P O Q B) → Standing P O Q B
+  Has : List (Unfinished P O Q B) → OperatorTree P O Q B → Standing P O Q B
 
 module _ {P O Q B : Type 0} (l : Binding P Q B) where
   level_of_open : Unfinished P O Q B → ℕ
@@ -25,17 +25,17 @@ module _ {P O Q B : Type 0} (l : Binding P Q B) where
   finished (AfterLeft x b) y = Between x b y
 
   -- the innermost are finished that an operator ends, and then it is taken
-  pass : (List (Unfinished P O Q B) → OperatorTree P O Q B → Place P O Q B) → Bool → List (Unfinished P O Q B) → OperatorTree P O Q B →
-      Unfinished P O Q B → Place P O Q B → Place P O Q B
+  pass : (List (Unfinished P O Q B) → OperatorTree P O Q B → Standing P O Q B) → Bool → List (Unfinished P O Q B) → OperatorTree P O Q B →
+      Unfinished P O Q B → Standing P O Q B → Standing P O Q B
   pass Take true s x e ended = ended
   pass Take false s x e ended = Take (e ∷ s) x
 
-  ended : (List (Unfinished P O Q B) → OperatorTree P O Q B → Place P O Q B) → ℕ → Bool → List (Unfinished P O Q B) → OperatorTree P O Q B →
-      Place P O Q B
+  ended : (List (Unfinished P O Q B) → OperatorTree P O Q B → Standing P O Q B) → ℕ → Bool → List (Unfinished P O Q B) → OperatorTree P O Q B →
+      Standing P O Q B
   ended Take k left [] x = Take [] x
   ended Take k left (e ∷ s) x = pass Take (ends_operand k left (level_of_open e)) s x e (ended Take k left s (finished e x))
 
-  taken : Symbol P O Q B → Place P O Q B → Place P O Q B
+  taken : Symbol P O Q B → Standing P O Q B → Standing P O Q B
   taken (OfPrefix p) (Expects s) = Expects (AfterPrefix p ∷ s)
   taken (OfOperand o) (Expects s) = Has s (Bare o)
   taken (OfPostfix q) (Has s x) = ended (λ r y. Has r (Postfixed y q)) (l.postfix q) true s x
@@ -45,7 +45,7 @@ module _ {P O Q B : Type 0} (l : Binding P Q B) where
   taken (OfPostfix q) (Expects s) = Expects s
   taken (OfBinary b) (Expects s) = Expects s
 
-  all_taken : List (Symbol P O Q B) → Place P O Q B → Place P O Q B
+  all_taken : List (Symbol P O Q B) → Standing P O Q B → Standing P O Q B
   all_taken [] place = place
   all_taken (t ∷ ts) place = all_taken ts (taken t place)
 
@@ -66,7 +66,7 @@ module _ {P O Q B : Type 0} (l : Binding P Q B) where
   all_finished [] x = x
   all_finished (e ∷ s) x = all_finished s (finished e x)
 
-  found : Place P O Q B → OperatorTree P O Q B → OperatorTree P O Q B
+  found : Standing P O Q B → OperatorTree P O Q B → OperatorTree P O Q B
   found (Expects s) other = other
   found (Has s x) other = all_finished s x
 
@@ -82,13 +82,13 @@ module _ {P O Q B : Type 0} (l : Binding P Q B) where
   finished_again (Postfixed x q) s = refl
   finished_again (Between x b y) s = finished_again y (AfterLeft x b ∷ s)
 
-  module _ (Take : List (Unfinished P O Q B) → OperatorTree P O Q B → Place P O Q B) (k : ℕ) (left : Bool) where
-    passes : (b : Bool) (s : List (Unfinished P O Q B)) (x : OperatorTree P O Q B) (e : Unfinished P O Q B) (z : Place P O Q B) → b ≡ true →
+  module _ (Take : List (Unfinished P O Q B) → OperatorTree P O Q B → Standing P O Q B) (k : ℕ) (left : Bool) where
+    passes : (b : Bool) (s : List (Unfinished P O Q B)) (x : OperatorTree P O Q B) (e : Unfinished P O Q B) (z : Standing P O Q B) → b ≡ true →
         pass Take b s x e z ≡ z
     unfolding pass
     passes b s x e z h = ap (λ y. pass Take y s x e z) h
 
-    stays : (b : Bool) (s : List (Unfinished P O Q B)) (x : OperatorTree P O Q B) (e : Unfinished P O Q B) (z : Place P O Q B) → b ≡ false →
+    stays : (b : Bool) (s : List (Unfinished P O Q B)) (x : OperatorTree P O Q B) (e : Unfinished P O Q B) (z : Standing P O Q B) → b ≡ false →
         pass Take b s x e z ≡ Take (e ∷ s) x
     unfolding pass
     stays b s x e z h = ap (λ y. pass Take y s x e z) h

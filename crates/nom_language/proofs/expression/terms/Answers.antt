@@ -11,9 +11,9 @@ use Rattle.nom_repeat.specs.Items.{items_meaning}
 use Rattle.nom_operators.specs.Steps.{IsNested}
 use Rattle.nom_operators.specs.declared.operation.Operation.{Operation}
 use Rattle.nom_language.specs.helpers.Accumulated.{PairPushes}
-use Rattle.nom_language.specs.Precedences.{next_meaning}
+use Rattle.nom_language.specs.Precedences.{operator_and_term_meaning}
 use Rattle.nom_language.specs.declared.evaluation.Evaluation.{Evaluation}
-use Rattle.nom_language.proofs.EvaluationShown.{beside, built_some, closed_accepts, evaluated_built, that_some}
+use Rattle.nom_language.proofs.EvaluationShown.{runs_out_beside, built_some, closed_accepts, evaluated_built, that_some}
 use Rattle.nom_language.proofs.expression.terms.Given as given
 use Rattle.nom_language.proofs.expression.terms.Goals as goal
 
@@ -34,7 +34,7 @@ returns-in_err-rest-clause-shown g c =
     let errs = g.T.Error.ParseError.errors in
     let closed = closed_shown g.I.Items.model term.IsOutput (modes true g.OM.Error.Mode.BUILDS g.OM.Incomplete.IsStreaming.STREAMING) c.args.input
     term.meaning (λ i. errs.appended i Kind.Precedence) errs.grows c.process-read.result _ c.process-read.ensures.shown c.in_err-rest.ensures in
-    beside (then_err g.met.I.Items.lawful closed c.from_residual.ensures)
+    runs_out_beside (then_err g.met.I.Items.lawful closed c.from_residual.ensures)
 
 pub any_items-requires-clause-built : goal.any_items-requires-clause-built
 any_items-requires-clause-built g c =
@@ -57,11 +57,11 @@ returns-in_err-end-in-Some-clause-shown g c =
     term.meaning (λ i. errs.appended i Kind.Precedence) errs.grows c.process-read.result _ c.process-read.ensures.shown c.in_ok-rest.ensures in
     let more = shown_at (λ s. record {
       meaning = items_meaning g.I.Items.model errs (any_limits Kind.Precedence) (Unit {0})
-          (next_meaning g.I.Items.model binary.meaning (g.T.Parser.grammar s).meaning);
+          (operator_and_term_meaning g.I.Items.model binary.meaning (g.T.Parser.grammar s).meaning);
       IsOutput = Accumulated (PairPushes (λ (k : Accumulator g). k.partial) (λ k. k.outer.items) (λ k. k.fold.now) (λ f o r. g.G.Fn.post f (o, tt) r))
           (CanPush g) (λ t o. binary.IsOutput t.0 o.0 × (g.T.Parser.grammar s).IsOutput t.1 o.1) (Some c.in-Some.begun);
     }) c.process-read.ensures.kept c.in_err-end-in-Some.ensures.shown in
-    beside (then_ok g.met.I.Items.lawful closed (λ t b. output_err more c.from_residual-in_err-end-in-Some.ensures))
+    runs_out_beside (then_ok g.met.I.Items.lawful closed (λ t b. output_err more c.from_residual-in_err-end-in-Some.ensures))
 
 pub evaluated-requires : goal.evaluated-requires
 evaluated-requires g c = built_some _ _ c.in_ok-end-in-Some.all (λ k a. a.ready) (accepts c.in_ok-end-in-Some.ensures.shown).built_is
@@ -75,11 +75,11 @@ returns-in_ok-end-in-Some-clause-shown g c =
     term.meaning (λ i. errs.appended i Kind.Precedence) errs.grows c.process-read.result _ c.process-read.ensures.shown c.in_ok-rest.ensures in
     let more = shown_at (λ s. record {
       meaning = items_meaning g.I.Items.model errs (any_limits Kind.Precedence) (Unit {0})
-          (next_meaning g.I.Items.model binary.meaning (g.T.Parser.grammar s).meaning);
+          (operator_and_term_meaning g.I.Items.model binary.meaning (g.T.Parser.grammar s).meaning);
       IsOutput = Accumulated (PairPushes (λ (k : Accumulator g). k.partial) (λ k. k.outer.items) (λ k. k.fold.now) (λ f o r. g.G.Fn.post f (o, tt) r))
           (CanPush g) (λ t o. binary.IsOutput t.0 o.0 × (g.T.Parser.grammar s).IsOutput t.1 o.1) (Some c.in-Some.begun);
     }) c.process-read.ensures.kept c.in_ok-end-in-Some.ensures.shown in
-    beside (then_ok g.met.I.Items.lawful closed (λ t b. output_ok more (λ us k. evaluated_built (λ (z : Accumulator g). z.partial) (λ z. z.outer.items)
+    runs_out_beside (then_ok g.met.I.Items.lawful closed (λ t b. output_ok more (λ us k. evaluated_built (λ (z : Accumulator g). z.partial) (λ z. z.outer.items)
     (λ z. z.fold.now) (λ f o r. g.G.Fn.post f (o, tt) r) term.IsOutput binary.IsOutput (CanPush g) t us c.args.fold.now _ c.emitted.result c.in-Some.begun
     _ _ c.emitted.ensures b c.in-Some.ensures.read c.in-Some.ensures.fold k c.evaluated.ensures)))
 

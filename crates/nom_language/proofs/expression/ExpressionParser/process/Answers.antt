@@ -12,7 +12,8 @@ pub returns-in_err-end-clause-shown : goal.returns-in_err-end-clause-shown
 returns-in_err-end-clause-shown g c =
     let term = g.T.Parser.grammar (g.T.Parser.state c.args.self.now.pair.1) in
     let binary = g.C.Parser.grammar (g.C.Parser.state c.args.self.now.pair.0) in
-    judged_err {R = Result g.row.O.Denot g.row.X.Denot} {Takes = λ _. Unit {0}} {Gives = Itself} (λ i. OfError (g.T.Error.FromExternalError.externals.of_external i Kind.Precedence))
+    judged_err {R = Result g.row.O.Denot g.row.X.Denot} {Takes = λ _. Unit {0}} {Gives = Itself}
+    (λ i. OfError (g.T.Error.FromExternalError.externals.of_external i Kind.Precedence))
     (terms_meaning g.I.Items.model g.T.Error.ParseError.errors term.meaning binary.meaning) (record { takes = λ t p h. tt }) c.in_err-end.ensures.shown
     (err_from_residual c.from_residual.ensures)
 
@@ -20,7 +21,8 @@ pub returns-in-Ok-clause-shown : goal.returns-in-Ok-clause-shown
 returns-in-Ok-clause-shown g c =
     let term = g.T.Parser.grammar (g.T.Parser.state c.args.self.now.pair.1) in
     let binary = g.C.Parser.grammar (g.C.Parser.state c.args.self.now.pair.0) in
-    judged_fit {R = Result g.row.O.Denot g.row.X.Denot} {Takes = λ _. Unit {0}} {Gives = Itself} (λ i. OfError (g.T.Error.FromExternalError.externals.of_external i Kind.Precedence))
+    judged_fit {R = Result g.row.O.Denot g.row.X.Denot} {Takes = λ _. Unit {0}} {Gives = Itself}
+    (λ i. OfError (g.T.Error.FromExternalError.externals.of_external i Kind.Precedence))
     (terms_meaning g.I.Items.model g.T.Error.ParseError.errors term.meaning binary.meaning) (record { takes = λ t p h. tt })
     (c.emitted.ensures ∙ ap Some c.in-Ok.is) refl refl c.in_ok-end.ensures.shown
     (λ t h. built_error g.OM.Output.Mode.BUILDS _ _ _ (λ y e. subst (λ z. IsEvaluated term.IsOutput binary.IsOutput
@@ -30,6 +32,7 @@ pub returns-in-Err-clause-shown : goal.returns-in-Err-clause-shown
 returns-in-Err-clause-shown g c =
     let term = g.T.Parser.grammar (g.T.Parser.state c.args.self.now.pair.1) in
     let binary = g.C.Parser.grammar (g.C.Parser.state c.args.self.now.pair.0) in
-    judged_unfit {R = Result g.row.O.Denot g.row.X.Denot} {Takes = λ _. Unit {0}} {Gives = Itself} (λ i. OfError (g.T.Error.FromExternalError.externals.of_external i Kind.Precedence))
+    judged_unfit {R = Result g.row.O.Denot g.row.X.Denot} {Takes = λ _. Unit {0}} {Gives = Itself}
+    (λ i. OfError (g.T.Error.FromExternalError.externals.of_external i Kind.Precedence))
     (terms_meaning g.I.Items.model g.T.Error.ParseError.errors term.meaning binary.meaning) (record { takes = λ t p h. tt })
     (c.emitted.ensures ∙ ap Some c.in-Err.is) refl refl c.in_ok-end.ensures.shown c.outside_refusal.ensures

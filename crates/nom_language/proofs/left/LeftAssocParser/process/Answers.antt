@@ -6,8 +6,8 @@ use Rattle.nom_repeat.proofs.Parts.{shown_at}
 use Rattle.nom_repeat.specs.Accumulated.{Accumulated}
 use Rattle.nom_repeat.specs.Bounds.{any_limits}
 use Rattle.nom_repeat.specs.Items.{items_meaning}
-use Rattle.nom_language.specs.helpers.Accumulated.{FoldPushes}
-use Rattle.nom_language.specs.Precedences.{next_meaning}
+use Rattle.nom_language.specs.helpers.Accumulated.{LeftPushes}
+use Rattle.nom_language.specs.Precedences.{operator_and_term_meaning}
 use Rattle.nom_language.proofs.LeftShown.{given_built, left_built}
 use Rattle.nom_language.proofs.left.LeftAssocParser.process.Goals as goal
 
@@ -27,9 +27,10 @@ returns-in_err-end-clause-shown g c =
     let binary = g.C.Parser.grammar (g.C.Parser.state self.pair.0) in
     let more = shown_at (λ s. record {
       meaning = items_meaning g.I.Items.model g.F.Error.ParseError.errors (any_limits Kind.SeparatedList) ⊥
-          (next_meaning g.I.Items.model binary.meaning (g.F.Parser.grammar s).meaning);
-      IsOutput = Accumulated (FoldPushes (λ k. k.value) (λ k. k.builder.now) (λ f a h b z. g.G.Fn.post f (a, (h, (b, tt))) z))
-          (λ k. IsSome k.value × ((x : g.row.F-Output.Denot) (h : g.row.C-Output.Denot) (y : g.row.F-Output.Denot) → g.G.Fn.pre k.builder.now (x, (h, (y, tt)))))
+          (operator_and_term_meaning g.I.Items.model binary.meaning (g.F.Parser.grammar s).meaning);
+      IsOutput = Accumulated (LeftPushes (λ k. k.value) (λ k. k.builder.now) (λ f a h b z. g.G.Fn.post f (a, (h, (b, tt))) z))
+          (λ k. IsSome k.value
+          × ((x : g.row.F-Output.Denot) (h : g.row.C-Output.Denot) (y : g.row.F-Output.Denot) → g.G.Fn.pre k.builder.now (x, (h, (y, tt)))))
           (λ t o. binary.IsOutput t.0 o.0 × (g.F.Parser.grammar s).IsOutput t.1 o.1) c.begun-begun.result;
     }) c.in_ok-rest.ensures.kept c.in_err-end.ensures.shown in
     then_ok g.met.I.Items.lawful c.in_ok-rest.ensures.shown (λ t b. output_err more c.from_residual-in_err-end.ensures)
@@ -41,9 +42,10 @@ returns-clause-shown g c =
     let item = g.F.Parser.grammar (g.F.Parser.state self.pair.1) in
     let more = shown_at (λ s. record {
       meaning = items_meaning g.I.Items.model g.F.Error.ParseError.errors (any_limits Kind.SeparatedList) ⊥
-          (next_meaning g.I.Items.model binary.meaning (g.F.Parser.grammar s).meaning);
-      IsOutput = Accumulated (FoldPushes (λ k. k.value) (λ k. k.builder.now) (λ f a h b z. g.G.Fn.post f (a, (h, (b, tt))) z))
-          (λ k. IsSome k.value × ((x : g.row.F-Output.Denot) (h : g.row.C-Output.Denot) (y : g.row.F-Output.Denot) → g.G.Fn.pre k.builder.now (x, (h, (y, tt)))))
+          (operator_and_term_meaning g.I.Items.model binary.meaning (g.F.Parser.grammar s).meaning);
+      IsOutput = Accumulated (LeftPushes (λ k. k.value) (λ k. k.builder.now) (λ f a h b z. g.G.Fn.post f (a, (h, (b, tt))) z))
+          (λ k. IsSome k.value
+          × ((x : g.row.F-Output.Denot) (h : g.row.C-Output.Denot) (y : g.row.F-Output.Denot) → g.G.Fn.pre k.builder.now (x, (h, (y, tt)))))
           (λ t o. binary.IsOutput t.0 o.0 × (g.F.Parser.grammar s).IsOutput t.1 o.1) c.begun-begun.result;
     }) c.in_ok-rest.ensures.kept c.in_ok-end.ensures.shown in
     then_ok g.met.I.Items.lawful c.in_ok-rest.ensures.shown (λ t b. output_ok more (λ us k. left_built (λ k. k.value) (λ k. k.builder.now)
