@@ -41,7 +41,8 @@ where
 
     ghost grammar = { λ s. sliced I.model (escaped_meaning I.model F.Error.errors (λ x. I.Item.code x ≡ s.1) (F.grammar s.0).meaning (G.grammar s.2).meaning) };
 
-    #[inline]
+    // Inlined, so that what `normal` takes is a constant: its lists and classes are known where the parser is made.
+    #[inline(always)]
     fn process<OM: OutputMode>(&mut self, input: I) -> PResult<I, I, F::Error> {
         input.prove_known();
         let lack = Needed::new(1);

@@ -56,7 +56,8 @@ impl<I: Items, X> fmt::Display for Located<I, X> {
 
 impl<I: Items, X: Copy> Clone for Located<I, X> {
     fn clone(&self) -> Result<Self, AllocError>
-        ensures { IfOk result (λ x. (x.fragment ≡ self.now.fragment) × (x.offset ≡ self.now.offset) × (x.line ≡ self.now.line) × (x.column ≡ self.now.column) × (x.extra ≡ self.now.extra)) }
+        ensures { IfOk result (λ x. (x.fragment ≡ self.now.fragment) × (x.offset ≡ self.now.offset) × (x.line ≡ self.now.line) ×
+            (x.column ≡ self.now.column) × (x.extra ≡ self.now.extra)) }
     {
         Ok(Located {
             fragment: self.fragment,
@@ -159,7 +160,8 @@ impl<I: Input + ByteItems, X: Copy> Input for Located<I, X> {
 
     ghost views = { moving_views (located (λ x. x.fragment) (λ x. place x.offset x.line x.column) (λ x. x.extra) I.read) I.model I.view I.views };
 
-    ghost view_injective = { moving_injective (located (λ x. x.fragment) (λ x. place x.offset x.line x.column) (λ x. x.extra) I.read) I.model I.view I.view_injective };
+    ghost view_injective = { moving_injective (located (λ x. x.fragment) (λ x. place x.offset x.line x.column) (λ x. x.extra) I.read) I.model
+        I.view I.view_injective };
 }
 
 impl<I: Input + ByteItems + CutRest, X: Copy> CutRest for Located<I, X> {
@@ -352,7 +354,8 @@ impl<T, I: ByteItems + Compare<T>, X: Copy> Compare<T> for Located<I, X> {
 
     ghost comparing = { moving_comparing (located (λ x. x.fragment) (λ x. place x.offset x.line x.column) (λ x. x.extra) I.read) I.model I.comparing };
 
-    ghost comparing_no_case = { moving_comparing (located (λ x. x.fragment) (λ x. place x.offset x.line x.column) (λ x. x.extra) I.read) I.model I.comparing_no_case };
+    ghost comparing_no_case = { moving_comparing (located (λ x. x.fragment) (λ x. place x.offset x.line x.column) (λ x. x.extra) I.read) I.model
+        I.comparing_no_case };
 }
 
 impl<T, I: ByteItems + FindSubstring<T>, X: Copy> FindSubstring<T> for Located<I, X> {

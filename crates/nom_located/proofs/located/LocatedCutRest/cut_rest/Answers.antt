@@ -16,7 +16,8 @@ take_from-requires g c =
     let at : e.0 ≡ c.input_len.result - c.input_len-in-Some.result =
     omega (arith, rest_at w c.args.self.fragment _ e.0 e.2, c.input_len.ensures, c.input_len-in-Some.ensures) in
     let m = located (λ x. x.fragment) (λ x. place x.offset x.line x.column) (λ x. x.extra) g.I.ByteItems.read in
-    (subst (λ n. CutsAs (located_model (λ x. x.fragment) (λ x. place x.offset x.line x.column) (λ x. x.extra) g.I.ByteItems.read w) c.args.self n c.args.left) at
+    (subst (λ n. CutsAs (located_model (λ x. x.fragment) (λ x. place x.offset x.line x.column) (λ x. x.extra) g.I.ByteItems.read w) c.args.self n
+    c.args.left) at
     (moving_cut m w c.args.self c.args.left e.0 e.1)).place
 
 pub returns-in-Some : goal.returns-in-Some
@@ -27,7 +28,8 @@ returns-in-Some g c =
     omega (arith, rest_at w c.args.self.fragment _ e.0 e.2, c.input_len.ensures, c.input_len-in-Some.ensures) in
     let m = located (λ x. x.fragment) (λ x. place x.offset x.line x.column) (λ x. x.extra) g.I.ByteItems.read in (
       _,
-      subst (λ n. CutsAs (located_model (λ x. x.fragment) (λ x. place x.offset x.line x.column) (λ x. x.extra) g.I.ByteItems.read w) c.args.self n c.args.left) at
+      subst (λ n. CutsAs (located_model (λ x. x.fragment) (λ x. place x.offset x.line x.column) (λ x. x.extra) g.I.ByteItems.read w) c.args.self n
+          c.args.left) at
           (moving_cut m w c.args.self c.args.left e.0 e.1),
       c.take_from.ensures,
     )

@@ -11,7 +11,8 @@ pub line_after-line-requires : goal.line_after-line-requires
 line_after-line-requires g c =
     let w = g.I.Items.model in
     let fitting = located_fitting w g.I.ByteItems.read g.met.I.ByteItems.reading in
-    let fits = fits_front (located (λ x. x.fragment) (λ x. place x.offset x.line x.column) (λ x. x.extra) g.I.ByteItems.read) w fitting c.args.self.now c.args.index
+    let fits = fits_front (located (λ x. x.fragment) (λ x. place x.offset x.line x.column) (λ x. x.extra) g.I.ByteItems.read) w fitting c.args.self.now
+    c.args.index
     c.take-front.result c.args.self.now.fits c.take-front.ensures in
     let size = ap length c.as_bytes.ensures ∙ bytes_length w g.I.AsBytes.bytes g.I.ByteItems.read g.met.I.ByteItems.reading c.take-front.result
     (c.take-front.ensures).known in
@@ -31,10 +32,12 @@ invariant_of-result g c =
     let reading = g.met.I.ByteItems.reading in
     let q = c.take_from-fragment.ensures in
     let fitting = located_fitting w read reading in
-    let there = place_after w read reading (λ x. x.fragment) (λ x. place x.offset x.line x.column) (λ x. x.extra) g.met.I.Items.lawful c.args.self.now c.args.index
+    let there = place_after w read reading (λ x. x.fragment) (λ x. place x.offset x.line x.column) (λ x. x.extra) g.met.I.Items.lawful c.args.self.now
+    c.args.index
     c.take-front.result c.take_from-fragment.result c.as_bytes.result.now c.line_after-line.result.0 c.line_after-line.result.1
     c.take-front.ensures q c.as_bytes.ensures c.line_after-line.ensures in
-    let fits = fits_rest (located (λ x. x.fragment) (λ x. place x.offset x.line x.column) (λ x. x.extra) g.I.ByteItems.read) w fitting c.args.self.now c.args.index
+    let fits = fits_rest (located (λ x. x.fragment) (λ x. place x.offset x.line x.column) (λ x. x.extra) g.I.ByteItems.read) w fitting c.args.self.now
+    c.args.index
     c.take_from-fragment.result c.args.self.now.fits q in
     record { fits = subst (λ p. Fits p.0 (input_len w c.take_from-fragment.result)) (sym there) fits }
 
@@ -45,7 +48,8 @@ returns g c =
     let reading = g.met.I.ByteItems.reading in
     let q = c.take_from-fragment.ensures in
     let fitting = located_fitting w read reading in
-    let there = place_after w read reading (λ x. x.fragment) (λ x. place x.offset x.line x.column) (λ x. x.extra) g.met.I.Items.lawful c.args.self.now c.args.index
+    let there = place_after w read reading (λ x. x.fragment) (λ x. place x.offset x.line x.column) (λ x. x.extra) g.met.I.Items.lawful c.args.self.now
+    c.args.index
     c.take-front.result c.take_from-fragment.result c.as_bytes.result.now c.line_after-line.result.0 c.line_after-line.result.1
     c.take-front.ensures q c.as_bytes.ensures c.line_after-line.ensures in
     rest_moving (located (λ x. x.fragment) (λ x. place x.offset x.line x.column) (λ x. x.extra) g.I.ByteItems.read) w fitting c.args.self.now _ c.args.index
