@@ -1,6 +1,6 @@
 -- What `process` shows where the errors of refusals aren't built, as `parse` shows it: all but refusals.
-use Rattle.std.proofs.Common.{◌≡◌, ℕ, Bool, true, false, Ok, Err, Option, Some, refl, sym, ◌∙◌, ap, subst}
-use Rattle.nom_internal.specs.Prelude.{Needed, Incomplete, Error, Failure, OutOfMemory, modes, size_of, Model, Outcome, Accept, Refuse, Stop, Fails, Needs}
+use Rattle.std.proofs.Common.{◌≡◌, Bool, true, false, Ok, Err, Option, Some, refl, sym, ◌∙◌, ap, subst}
+use Rattle.nom_internal.specs.Prelude.{Needed, Incomplete, Failure, modes, size_of, Model, Outcome, Accept, Refuse, Stop, Fails, Needs}
 use Rattle.nom_internal.specs.Prelude.{ShowsAnswer, ParsesAnswer, Shown, RanOut, Parsed}
 use Rattle.nom_error.specs.declared.answer.Err as Answer
 use Rattle.nom_internal.proofs.Shown.{accepts}

@@ -1,6 +1,6 @@
 -- Reports lie in the input.
-use Rattle.std.proofs.Common.{◌≡◌, ℕ, ◌+◌, ◌≤◌, List, sym, ap, subst, arith, inl, inr}
-use Rattle.nom_internal.specs.Prelude.{Model, IsSuffixOf, input_len}
+use Rattle.std.proofs.Common.{◌≡◌, ℕ, ◌+◌, sym, ap, subst, arith, inl, inr}
+use Rattle.nom_internal.specs.Prelude.{Model, IsSuffixOf}
 use Rattle.nom_internal.proofs.Consumed.{rest_length}
 use Rattle.nom_report.specs.Reports.IsFurthest.{FirstGotFurther, SecondGotFurther, GotAsFar}
 use Rattle.nom_report.specs.Within.{LiesIn, StaysWithin}
