@@ -1,5 +1,6 @@
-//! Operators between values, by levels: which of them wait for their right side, and what they join. The tree of
-//! terms and operators that their steps make is told by a rule of its own.
+//! Operators: which of them wait for their right operand, and what they make of their operands. Those between values
+//! have levels (`waiting`); or they stand before, after and between operands, each with its precedence (`pending`). The
+//! tree of what stands in an expression is told by a rule of its own, for each of the two.
 #![tactic(auto)]
 
 pub mod operation;
