@@ -1,4 +1,4 @@
-//! What a parser answers.
+//! The answers of parsers.
 ghost use Rattle.std.specs.Prelude.{◌≡◌, ◌<◌, ◌↔◌, Some, None, IsTrue};
 ghost use Rattle.nom_error.specs.Answers.{size_of, text_of, IsIncomplete, IsMapped, IsNeededBy};
 ghost use Rattle.nom_error.specs.Inputs.{IsInputMapped, IsFirstMapped};
@@ -9,11 +9,11 @@ use std::alloc::{AllocError, AllocFailed};
 use std::fmt;
 use std::num::NonZeroUsize;
 
-/// Memory ran out: a growth, or a clone that takes memory, was refused.
+/// The error that memory ran out: a growth, or a clone that takes memory, was refused.
 #[derive(Clone, Copy, Debug, PartialEq, Eq)]
 pub struct OutOfMemory;
 
-/// So that `?` passes a refused growth on.
+/// Lets `?` pass on a refused growth.
 impl From<AllocError> for OutOfMemory {
     ghost from_gives = { λ _ e. e ≡ record {} };
 
@@ -22,7 +22,7 @@ impl From<AllocError> for OutOfMemory {
     }
 }
 
-/// So that `?` passes on that a value could not be put on the heap; the value is let go.
+/// Lets `?` pass on the error of a value that couldn't be put on the heap. The value is dropped.
 impl<T: Drop> From<AllocFailed<T>> for OutOfMemory {
     ghost from_gives = { λ _ e. e ≡ record {} };
 
@@ -31,7 +31,7 @@ impl<T: Drop> From<AllocFailed<T>> for OutOfMemory {
     }
 }
 
-/// So that `?` passes on that a text could not be written to memory.
+/// Lets `?` pass on the error of a text that couldn't be written to memory.
 impl From<fmt::Error> for OutOfMemory {
     ghost from_gives = { λ _ e. e ≡ record {} };
 
@@ -40,17 +40,17 @@ impl From<fmt::Error> for OutOfMemory {
     }
 }
 
-/// How much more a parser needs.
+/// The amount of input that a parser still needs.
 #[derive(Clone, Copy, Debug, PartialEq, Eq)]
 pub enum Needed {
-    /// More, and it isn't known how much.
+    /// More input is needed, and the amount isn't known.
     Unknown,
-    /// So many more bytes or characters, as the leaf that asks for them counts.
+    /// That many more bytes or characters are needed. The unit is that of the leaf parser that requires them.
     Size(NonZeroUsize),
 }
 
 impl Needed {
-    /// `Size` of `s`, or `Unknown` where that is 0.
+    /// Returns `Size` of `s`, or `Unknown` if `s` is 0.
     #[inline(always)]
     pub fn new(s: usize) -> Self
         ensures none { s ≡ 0 → result ≡ Needed.Unknown }
@@ -62,7 +62,7 @@ impl Needed {
         }
     }
 
-    /// Whether a size is known.
+    /// Returns whether the size is known.
     pub fn is_known(&self) -> bool
         ensures { IsTrue result ↔ (size_of self.now ≡ None → ⊥) }
     {
@@ -72,7 +72,7 @@ impl Needed {
         }
     }
 
-    /// Maps a size; one that becomes 0 is `Unknown`.
+    /// Maps the size with `f`. A size that becomes 0 is `Unknown`.
     pub fn map<F: Fn(NonZeroUsize) -> usize>(self, f: F) -> Needed
         requires { F.IsAlwaysCallable f }
         ensures { IsNeededBy (F.post f) self result }
@@ -84,23 +84,25 @@ impl Needed {
     }
 }
 
-/// What a parser answers in place of an acceptance. A refusal holds an `E`, a failure an `F`. What is
-/// needed is a type argument, always `Needed`, since the check covers an enum that holds both references
-/// and a `NonZeroUsize` only so.
+/// The answer of a parser that doesn't accept.
+///
+/// A refusal holds an `E`, a failure an `F`. The amount needed has the type `N`, which is always `Needed`. It
+/// is a type argument because the check covers an enum with both references and a `NonZeroUsize` only in this
+/// form.
 #[derive(Clone, Debug, Drop, PartialEq, Eq)]
 pub enum Err<F, E = F, N = Needed> {
-    /// More input is needed to decide.
+    /// The parser needs more input to decide.
     Incomplete(N),
-    /// The parser refuses, and another may be tried.
+    /// The parser refuses. Another one may be tried.
     Error(E),
-    /// The parser refuses, and no other is to be tried.
+    /// The parser fails. No other one is to be tried.
     Failure(F),
     /// Memory ran out.
     OutOfMemory,
 }
 
 impl<E> Err<E> {
-    /// Whether more input is needed.
+    /// Returns whether more input is needed.
     pub fn is_incomplete(&self) -> bool
         ensures { IsTrue result ↔ IsIncomplete self.now }
     {
@@ -176,7 +178,7 @@ impl<T> Err<(T, ErrorKind)> {
     }
 }
 
-/// So that `?` passes a refused growth on in a function that answers `IResult`.
+/// Lets `?` pass on a refused growth in a function that returns `IResult`.
 impl<F, E, N> From<AllocError> for Err<F, E, N> {
     ghost use Rattle.nom_error.specs.declared.answer.Err.{Err};
 
@@ -187,7 +189,7 @@ impl<F, E, N> From<AllocError> for Err<F, E, N> {
     }
 }
 
-/// So that `v.push(x)?` serves in a function that answers `IResult`; the value is let go.
+/// Lets `v.push(x)?` work in a function that returns `IResult`. If the push is refused, the value is dropped.
 impl<T: Drop, F, E, N> From<AllocFailed<T>> for Err<F, E, N> {
     ghost use Rattle.nom_error.specs.declared.answer.Err.{Err};
 
@@ -198,7 +200,7 @@ impl<T: Drop, F, E, N> From<AllocFailed<T>> for Err<F, E, N> {
     }
 }
 
-/// So that `?` passes on that memory ran out in a function that answers `IResult`.
+/// Lets `?` pass on `OutOfMemory` in a function that returns `IResult`.
 impl<F, E, N> From<OutOfMemory> for Err<F, E, N> {
     ghost use Rattle.nom_error.specs.declared.answer.Err.{Err};
 
@@ -209,7 +211,7 @@ impl<F, E, N> From<OutOfMemory> for Err<F, E, N> {
     }
 }
 
-/// The text of a refusal or a failure ends in its error as `{:?}` writes it.
+/// Writes the answer as a text. That of a refusal or a failure ends in its error as `{:?}` writes it.
 impl<E: fmt::Debug> fmt::Display for Err<E> {
     ghost output = { text_of E.debug_output };
 
@@ -224,9 +226,11 @@ impl<E: fmt::Debug> fmt::Display for Err<E> {
     }
 }
 
-/// What `parse` answers: the rest of the input and the output, or an `Err`.
+/// The answer of `parse`: the rest of the input and the output, or an `Err`.
 pub type IResult<I, O, E = Error<I>> = Result<(I, O), Err<E>>;
 
-/// What `process` answers: an output only where outputs are built, the error of a refusal only where
-/// errors are built, and that of a failure always.
+/// The answer of `process`.
+///
+/// It holds an output only if outputs are built, and the error of a refusal only if errors are built. It
+/// always holds the error of a failure.
 pub type PResult<I, O, E> = Result<(I, Option<O>), Err<E, Option<E>>>;

@@ -1,10 +1,10 @@
-//! A parser's answer where no more input can come.
+//! The answer of a parser when no more input can come.
 ghost use Rattle.std.specs.Prelude.{Result};
 ghost use Rattle.nom_error.specs.Answers.{IsFinished, WantsMore};
 
 use crate::answer::{Err, IResult};
 
-/// Why a finished parse has no output.
+/// The reason why a finished parse has no output.
 #[derive(Clone, Debug, Drop, PartialEq, Eq)]
 pub enum FinishError<E> {
     /// The parser refused or failed.
@@ -17,7 +17,7 @@ pub enum FinishError<E> {
 pub trait Finish<I, O, E>: Sized {
     ghost use Rattle.nom_error.specs.declared.finish.FinishError.{FinishError};
 
-    /// Which values may be finished: those that don't ask for more input.
+    /// The values that may be finished: those that don't need more input.
     ghost can_finish: { Self → Type 0 };
 
     ghost finish_gives: { Self → Result (I × O) (FinishError E) → Type 0 };

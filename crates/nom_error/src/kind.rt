@@ -1,10 +1,12 @@
-//! Why a parser refuses.
+//! The kinds of errors.
 ghost use Rattle.std.specs.Prelude.{◌≡◌, Some};
 ghost use Rattle.nom_error.specs.Kinds.{description_of, name_of, kind_number};
 
 use std::fmt;
 
-/// Why a parser refuses: the kind of an error. The names, numbers and descriptions are nom's.
+/// The kind of an error: why a parser refuses.
+///
+/// The names, numbers and descriptions are those of nom.
 #[derive(Clone, Copy, PartialEq, Eq, Hash)]
 pub enum ErrorKind {
     Tag,
@@ -67,7 +69,7 @@ pub enum ErrorKind {
 }
 
 impl ErrorKind {
-    /// The text that names the kind.
+    /// Returns the text that describes the kind.
     pub fn description(&self) -> &'static str
         ensures { result.now ≡ description_of self.now }
     {
@@ -133,7 +135,7 @@ impl ErrorKind {
     }
 }
 
-/// The name of the kind. It is written out, since a derived one promises no text.
+/// Writes the name of the kind. The impl is written by hand, because a derived one promises no text.
 impl fmt::Debug for ErrorKind {
     ghost debug_output = { λ kind. Some (name_of kind) };
 
@@ -201,7 +203,7 @@ impl fmt::Debug for ErrorKind {
     }
 }
 
-/// The number of the kind.
+/// Returns the number of the kind.
 pub fn error_to_u32(e: &ErrorKind) -> u32
     ensures { result ≡ kind_number e.now }
 {

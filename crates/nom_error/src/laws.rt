@@ -1,5 +1,6 @@
-//! What `==` says of kinds, sizes, errors and answers, and that equal kinds hash alike: for users whose
-//! own contracts compare them.
+//! Laws of `==` on kinds, sizes, errors and answers, and of the hashes of equal kinds.
+//!
+//! They are for users whose own contracts compare these values.
 ghost use Rattle.std.specs.Prelude.{◌≡◌, ◌↔◌, IsTrue};
 ghost use Rattle.nom_error.specs.Equality.{AreSame, AreFinishedSame};
 
@@ -9,27 +10,27 @@ use crate::kind::ErrorKind;
 use crate::value::Error;
 use std::hash::Hash;
 
-/// Two kinds are equal where they are one kind.
+/// Compares two kinds: they are equal if they are the same kind.
 pub fn kinds_are_equal(kind: ErrorKind, other: ErrorKind) -> bool
     ensures { IsTrue result ↔ (kind ≡ other) }
 {
     kind == other
 }
 
-/// Equal kinds feed a hasher alike.
+/// States that equal kinds feed a hasher the same input.
 pub fn equal_kinds_hash_alike()
     ensures { (kind other : _) → IsTrue (⟦<ErrorKind as PartialEq>⟧.eq kind other)
         → ⟦<ErrorKind as Hash>⟧.hash_input kind ≡ ⟦<ErrorKind as Hash>⟧.hash_input other }
 {}
 
-/// What is needed is equal where both are unknown, or one size.
+/// Compares two needs: they are equal if both are unknown, or both are the same size.
 pub fn needs_are_equal(needed: Needed, other: Needed) -> bool
     ensures { IsTrue result ↔ (needed ≡ other) }
 {
     needed == other
 }
 
-/// Two errors are equal where their kinds are one and their inputs are equal.
+/// Compares two errors: they are equal if their kinds are the same and their inputs are equal.
 pub fn errors_are_equal<I: PartialEq>(error: &Error<I>, other: &Error<I>) -> bool
     ensures { IsTrue result
         ↔ ((error.now.code ≡ other.now.code) × IsTrue (I.eq error.now.input other.now.input)) }
@@ -37,14 +38,14 @@ pub fn errors_are_equal<I: PartialEq>(error: &Error<I>, other: &Error<I>) -> boo
     error == other
 }
 
-/// Two answers are equal where they are of one variant, and what they hold is equal.
+/// Compares two answers: they are equal if they are the same variant and hold equal values.
 pub fn answers_are_equal<F: PartialEq, E: PartialEq>(answer: &Err<F, E>, other: &Err<F, E>) -> bool
     ensures { IsTrue result ↔ AreSame F.eq E.eq answer.now other.now }
 {
     answer == other
 }
 
-/// Two errors of finished parses are equal where they are of one variant, and what they hold is equal.
+/// Compares two errors of finished parses: they are equal if they are the same variant and hold equal values.
 pub fn finished_are_equal<E: PartialEq>(fault: &FinishError<E>, other: &FinishError<E>) -> bool
     ensures { IsTrue result ↔ AreFinishedSame E.eq fault.now other.now }
 {

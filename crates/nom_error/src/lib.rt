@@ -1,5 +1,6 @@
-//! What parsers answer beside an acceptance, what they build, and their error values: the base that
-//! all crates of this repository share.
+//! The answers of parsers other than an acceptance, the modes of building, and the error values.
+//!
+//! All crates of this repository share this base.
 #![tactic(auto)]
 
 pub mod answer;

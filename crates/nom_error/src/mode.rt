@@ -1,4 +1,4 @@
-//! What a parser builds, and whether more input may come.
+//! Modes of a parse: which values a parser builds, and whether more input may come.
 ghost use Rattle.std.specs.Prelude.{Bool, true, false, ◌≡◌, Option};
 ghost use Rattle.nom_error.specs.Modes.{Built, BuiltFrom, BuiltFromBoth};
 ghost use Rattle.nom_error.specs.Answers.{IsLack};
@@ -6,14 +6,14 @@ ghost use Rattle.nom_error.specs.Answers.{IsLack};
 use crate::answer::{Err, Needed};
 use std::marker::PhantomData;
 
-/// Whether values are built.
+/// Chooses whether values are built.
 pub trait Mode: Sized {
     ghost BUILDS: { Bool };
 
     /// Whether values are built.
     const BUILDS: bool;
 
-    /// What `f` gives, where values are built.
+    /// Returns the value of `f` if values are built.
     #[inline(always)]
     final fn bind<T, F: FnOnce() -> T + Drop>(f: F) -> Option<T>
         requires { F.IsAlwaysCallable f }
@@ -22,7 +22,7 @@ pub trait Mode: Sized {
         if Self::BUILDS { Some(f()) } else { None }
     }
 
-    /// What `f` gives for a value, where values are built.
+    /// Maps a value with `f` if values are built.
     #[inline(always)]
     final fn map<T: Drop, U, F: FnOnce(T) -> U + Drop>(x: Option<T>, f: F) -> Option<U>
         requires { F.IsAlwaysCallable f }
@@ -38,7 +38,7 @@ pub trait Mode: Sized {
         }
     }
 
-    /// What `f` gives for two values, where values are built.
+    /// Combines two values with `f` if values are built.
     #[inline(always)]
     final fn combine<T: Drop, U: Drop, V, F: FnOnce(T, U) -> V + Drop>(
         x: Option<T>,
@@ -59,10 +59,10 @@ pub trait Mode: Sized {
     }
 }
 
-/// Values are built.
+/// The mode in which values are built.
 pub struct Emit;
 
-/// Values are only checked.
+/// The mode in which values are only checked.
 pub struct Check;
 
 impl Mode for Emit {
@@ -77,14 +77,14 @@ impl Mode for Check {
     const BUILDS: bool = false;
 }
 
-/// Whether more input may come.
+/// Chooses whether more input may come.
 pub trait IsStreaming: Sized {
     ghost STREAMING: { Bool };
 
     /// Whether more input may come.
     const STREAMING: bool;
 
-    /// Whether more input may come.
+    /// Returns whether more input may come.
     #[inline(always)]
     final fn is_streaming() -> bool
         ensures { result ≡ STREAMING }
@@ -92,7 +92,9 @@ pub trait IsStreaming: Sized {
         Self::STREAMING
     }
 
-    /// What is answered where an input ends too early: more is needed, or a refusal with what `f` gives.
+    /// Returns the answer for an input that ends too early.
+    ///
+    /// A streaming parser needs more input. A complete one refuses with the error that `f` returns.
     #[inline(always)]
     final fn incomplete<E, F: FnOnce() -> E + Drop>(needed: Needed, f: F) -> Err<E>
         requires { F.IsAlwaysCallable f }
@@ -106,10 +108,11 @@ pub trait IsStreaming: Sized {
     }
 }
 
-/// More input may come: where a parser can't decide, its answer is `Incomplete`.
+/// The streaming mode: more input may come. If a parser can't decide, it answers `Incomplete`.
 pub struct Streaming;
 
-/// The input is complete: where a parser would need more, it refuses or takes what there is.
+/// The complete mode: no more input comes. A parser that would need more refuses, or takes the input that
+/// there is.
 pub struct Complete;
 
 impl IsStreaming for Streaming {
@@ -124,7 +127,7 @@ impl IsStreaming for Complete {
     const STREAMING: bool = false;
 }
 
-/// What `process` builds, and whether more input may come.
+/// Chooses what `process` builds, and whether more input may come.
 pub trait OutputMode {
     /// Whether outputs are built.
     type Output: Mode;
@@ -136,7 +139,7 @@ pub trait OutputMode {
     type Incomplete: IsStreaming;
 }
 
-/// The mode made of three.
+/// The output mode made of three modes: for outputs, for errors, and for the end of the input.
 pub struct OutputM<M, EM, S> {
     modes: PhantomData<(M, EM, S)>,
 }

@@ -1,4 +1,4 @@
-//! Error types that tell where they stood, and that take other errors in.
+//! Error types that keep a context, and error types that are made of other errors.
 ghost use Rattle.std.specs.Prelude.{◌≡◌, MatchResult};
 ghost use Rattle.nom_error.specs.Errors.{Contexts, Externals};
 
@@ -6,8 +6,9 @@ use crate::answer::OutOfMemory;
 use crate::kind::ErrorKind;
 use crate::value::Error;
 
-/// An error type that can keep a name for the place where a parser refused. `contexts` says what the
-/// function gives; it may answer `OutOfMemory` where `grows` holds.
+/// An error type that can keep a name for the place where a parser refused.
+///
+/// `contexts` specifies the result. It may be `OutOfMemory` if `grows` holds.
 pub trait ContextError<I>: Sized {
     ghost contexts: { Contexts I Self };
 
@@ -15,8 +16,9 @@ pub trait ContextError<I>: Sized {
         ensures { MatchResult result (contexts.named input context.now other) (λ _. contexts.grows) };
 }
 
-/// An error type that is made of another error `E`, as of one that a closure gave. `externals` says what
-/// the function gives; it may answer `OutOfMemory` where `grows` holds.
+/// An error type that can be made of another error `E`, for example one that a closure returned.
+///
+/// `externals` specifies the result. It may be `OutOfMemory` if `grows` holds.
 pub trait FromExternalError<I, E>: Sized {
     ghost externals: { Externals I E Self };
 
@@ -24,7 +26,7 @@ pub trait FromExternalError<I, E>: Sized {
         ensures { MatchResult result (externals.of_external input kind e) (λ _. externals.grows) };
 }
 
-/// The name isn't kept.
+/// Drops the name.
 impl<I: Drop> ContextError<I> for Error<I> {
     ghost contexts = { record { named = λ _ _ other e. e ≡ other; grows = ⊥ } };
 
@@ -34,7 +36,7 @@ impl<I: Drop> ContextError<I> for Error<I> {
     }
 }
 
-/// The other error isn't kept.
+/// Drops the other error.
 impl<I, E: Drop> FromExternalError<I, E> for Error<I> {
     ghost externals = { record { of_external = λ i k _ e. e ≡ record { input = i; code = k }; grows = ⊥ } };
 

@@ -8,7 +8,8 @@ use crate::value::Error;
 use std::alloc::Allocator;
 
 impl<'a> Error<&'a [u8]> {
-    /// The error with its input owned. Memory may run out only where the input isn't empty.
+    /// Copies the input, and returns the error with the copy. Memory may run out only if the input isn't
+    /// empty.
     pub fn cloned<A: Allocator>(self, alloc: A) -> Result<Error<Vec<u8, A>>, OutOfMemory>
         ensures { IsCloned vec_items self.entry result }
     {
@@ -21,7 +22,8 @@ impl<'a> Error<&'a [u8]> {
 }
 
 impl<'a> Error<&'a str> {
-    /// The error with its input owned. Memory may run out only where the input isn't empty.
+    /// Copies the input, and returns the error with the copy. Memory may run out only if the input isn't
+    /// empty.
     pub fn cloned<A: Allocator>(self, alloc: A) -> Result<Error<String<A>>, OutOfMemory>
         ensures { IsCloned string_bytes self.entry result }
     {
@@ -34,7 +36,7 @@ impl<'a> Error<&'a str> {
 }
 
 impl<'a, I: Copy> Error<&'a I> {
-    /// The error with a copy of the input that was lent.
+    /// Returns the error with a copy of the borrowed input.
     pub fn copied(self) -> Error<I>
         ensures { result ≡ record { input = self.entry.input.now; code = self.entry.code } }
     {
@@ -46,7 +48,7 @@ impl<'a, I: Copy> Error<&'a I> {
 }
 
 impl<'a, I: Copy> Error<&'a mut I> {
-    /// The error with a copy of the input that was lent.
+    /// Returns the error with a copy of the borrowed input.
     pub fn copied(self) -> Error<I>
         ensures { result ≡ record { input = self.entry.input.now; code = self.entry.code } }
     {
@@ -58,7 +60,8 @@ impl<'a, I: Copy> Error<&'a mut I> {
 }
 
 impl<'a> Err<Error<&'a [u8]>> {
-    /// The answer with the input of its error owned. Memory may run out only where that isn't empty.
+    /// Returns the answer with the input of its error owned. Memory may run out only if that input isn't
+    /// empty.
     pub fn to_owned<A: Allocator>(self, alloc: A) -> Result<Err<Error<Vec<u8, A>>>, OutOfMemory>
         ensures { IsOwned vec_items self.entry result }
     {
@@ -72,7 +75,8 @@ impl<'a> Err<Error<&'a [u8]>> {
 }
 
 impl<'a> Err<Error<&'a str>> {
-    /// The answer with the input of its error owned. Memory may run out only where that isn't empty.
+    /// Returns the answer with the input of its error owned. Memory may run out only if that input isn't
+    /// empty.
     pub fn to_owned<A: Allocator>(self, alloc: A) -> Result<Err<Error<String<A>>>, OutOfMemory>
         ensures { IsOwned string_bytes self.entry result }
     {
@@ -86,7 +90,8 @@ impl<'a> Err<Error<&'a str>> {
 }
 
 impl<'a> Err<(&'a [u8], ErrorKind)> {
-    /// The answer with the input of its error owned. Memory may run out only where that isn't empty.
+    /// Returns the answer with the input of its error owned. Memory may run out only if that input isn't
+    /// empty.
     pub fn to_owned<A: Allocator>(
         self,
         alloc: A,
@@ -103,7 +108,8 @@ impl<'a> Err<(&'a [u8], ErrorKind)> {
 }
 
 impl<'a> Err<(&'a str, ErrorKind)> {
-    /// The answer with the input of its error owned. Memory may run out only where that isn't empty.
+    /// Returns the answer with the input of its error owned. Memory may run out only if that input isn't
+    /// empty.
     pub fn to_owned<A: Allocator>(
         self,
         alloc: A,

@@ -1,4 +1,4 @@
-//! An input beside a kind, as an error type. It takes no memory.
+//! A pair of an input and a kind, as an error type. It takes no memory.
 ghost use Rattle.std.specs.Prelude.{◌≡◌};
 ghost use Rattle.nom_error.specs.declared.kind.ErrorKind.TheVariants.{Char};
 
@@ -38,7 +38,7 @@ impl<I: Drop> ParseError<I> for (I, ErrorKind) {
     }
 }
 
-/// The name isn't kept.
+/// Drops the name.
 impl<I: Drop> ContextError<I> for (I, ErrorKind) {
     ghost contexts = { record { named = λ _ _ other e. e ≡ other; grows = ⊥ } };
 
@@ -48,7 +48,7 @@ impl<I: Drop> ContextError<I> for (I, ErrorKind) {
     }
 }
 
-/// The other error isn't kept.
+/// Drops the other error.
 impl<I, E: Drop> FromExternalError<I, E> for (I, ErrorKind) {
     ghost externals = { record { of_external = λ i k _ e. e ≡ (i, k); grows = ⊥ } };
 

@@ -1,4 +1,4 @@
-//! Nothing at all, as an error type: there is one value. It takes no memory.
+//! The unit type as an error type. It holds nothing and takes no memory.
 ghost use Rattle.std.specs.Prelude.{⊤};
 
 use crate::answer::OutOfMemory;

@@ -12,8 +12,9 @@ use crate::kind::ErrorKind;
 use crate::mode::Mode;
 use std::fmt;
 
-/// An error type of parsers over inputs of type `I`. `errors` says what each function gives; it may answer
-/// `OutOfMemory` where `grows` holds.
+/// An error type of parsers over inputs of type `I`.
+///
+/// `errors` specifies the result of each function. It may be `OutOfMemory` if `grows` holds.
 pub trait ParseError<I>: Drop + Sized {
     ghost errors: { Errors I Self };
 
@@ -30,8 +31,7 @@ pub trait ParseError<I>: Drop + Sized {
         ensures { MatchResult result (errors.joined self other) (λ _. errors.grows) };
 }
 
-/// The error type that parsers have where no other is asked for: the input at which a parser refused,
-/// and why. It takes no memory.
+/// The default error type of parsers: the input at which a parser refused, and the kind. It takes no memory.
 #[derive(Clone, Copy, Debug, PartialEq, Eq)]
 pub struct Error<I> {
     pub input: I,
@@ -81,7 +81,7 @@ impl<I: fmt::Display> fmt::Display for Error<I> {
     }
 }
 
-/// The error for a kind at an input.
+/// Returns the error of a kind at an input.
 #[inline(always)]
 pub fn make_error<I, E: ParseError<I>>(input: I, kind: ErrorKind) -> Result<E, OutOfMemory>
     ensures { MatchResult result (E.errors.of_kind input kind) (λ _. E.errors.grows) }
@@ -89,7 +89,7 @@ pub fn make_error<I, E: ParseError<I>>(input: I, kind: ErrorKind) -> Result<E, O
     E::from_error_kind(input, kind)
 }
 
-/// The error that adds a kind at an input to one from below.
+/// Returns `other`, the error from below, with a kind at an input added.
 #[inline(always)]
 pub fn append_error<I, E: ParseError<I>>(
     input: I,
@@ -101,7 +101,7 @@ pub fn append_error<I, E: ParseError<I>>(
     E::append(input, kind, other)
 }
 
-/// A refusal of a kind at an input, with its error where errors are built.
+/// Returns a refusal of a kind at an input, with its error if errors are built.
 #[inline(always)]
 pub fn refusal<M: Mode, I: Drop, E: ParseError<I>>(input: I, kind: ErrorKind) -> Err<E, Option<E>>
     ensures { Refuses (E.errors.of_kind input kind) E.errors.grows M.BUILDS result }
