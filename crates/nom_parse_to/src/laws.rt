@@ -1,11 +1,12 @@
-//! From what whole numbers, `bool`s and characters are read, in texts and in bytes: for users whose own
-//! contracts speak of what `parse_to` gives.
+//! Laws of the texts and bytes that are read as whole numbers, `bool`s and characters.
+//!
+//! They are for users whose own contracts refer to the result of `parse_to`.
 ghost use Rattle.std.specs.Int.{w8, w16, w32, w64, w128};
 ghost use Rattle.nom_parse_to.specs.Parses.{ReadsUnsigned, ReadsSigned, ReadsBool, ReadsChar};
 
 use crate::parse::ParseTo;
 
-/// In a text, a whole number without sign is an optional `+` and decimal digits, one at least.
+/// States the form of an unsigned number in a text: an optional `+` and at least one decimal digit.
 pub fn texts_read_unsigned()
     ensures u8 { (s : _) (o : _) → ⟦<&'static str as ParseTo<u8>>⟧.parses s o → ReadsUnsigned 8 s.now o }
     ensures u16 { (s : _) (o : _) → ⟦<&'static str as ParseTo<u16>>⟧.parses s o → ReadsUnsigned 16 s.now o }
@@ -15,7 +16,7 @@ pub fn texts_read_unsigned()
     ensures usize { (s : _) (o : _) → ⟦<&'static str as ParseTo<usize>>⟧.parses s o → ReadsUnsigned 64 s.now o }
 {}
 
-/// In a text, a whole number with sign is an optional `+` or `-` and decimal digits, one at least.
+/// States the form of a signed number in a text: an optional `+` or `-` and at least one decimal digit.
 pub fn texts_read_signed()
     ensures i8 { (s : _) (o : _) → ⟦<&'static str as ParseTo<i8>>⟧.parses s o → ReadsSigned w8 s.now o }
     ensures i16 { (s : _) (o : _) → ⟦<&'static str as ParseTo<i16>>⟧.parses s o → ReadsSigned w16 s.now o }
@@ -25,13 +26,13 @@ pub fn texts_read_signed()
     ensures isize { (s : _) (o : _) → ⟦<&'static str as ParseTo<isize>>⟧.parses s o → ReadsSigned w64 s.now o }
 {}
 
-/// In a text, a truth value is `true` or `false`, and a character is one character.
+/// States the form of a `bool` and of a `char` in a text: `true` or `false`, and one character.
 pub fn texts_read_words()
     ensures bool { (s : _) (o : _) → ⟦<&'static str as ParseTo<bool>>⟧.parses s o → ReadsBool s.now o }
     ensures char { (s : _) (o : _) → ⟦<&'static str as ParseTo<char>>⟧.parses s o → ReadsChar s.now o }
 {}
 
-/// Bytes are read as whole numbers without sign from the same as texts.
+/// States that bytes are read as unsigned numbers from the same forms as texts.
 pub fn bytes_read_unsigned()
     ensures u8 { (s : _) (o : _) → ⟦<&'static [u8] as ParseTo<u8>>⟧.parses s o → ReadsUnsigned 8 s.now o }
     ensures u16 { (s : _) (o : _) → ⟦<&'static [u8] as ParseTo<u16>>⟧.parses s o → ReadsUnsigned 16 s.now o }
@@ -41,7 +42,7 @@ pub fn bytes_read_unsigned()
     ensures usize { (s : _) (o : _) → ⟦<&'static [u8] as ParseTo<usize>>⟧.parses s o → ReadsUnsigned 64 s.now o }
 {}
 
-/// Bytes are read as numbers with sign from the same as texts.
+/// States that bytes are read as signed numbers from the same forms as texts.
 pub fn bytes_read_signed()
     ensures i8 { (s : _) (o : _) → ⟦<&'static [u8] as ParseTo<i8>>⟧.parses s o → ReadsSigned w8 s.now o }
     ensures i16 { (s : _) (o : _) → ⟦<&'static [u8] as ParseTo<i16>>⟧.parses s o → ReadsSigned w16 s.now o }
@@ -51,7 +52,7 @@ pub fn bytes_read_signed()
     ensures isize { (s : _) (o : _) → ⟦<&'static [u8] as ParseTo<isize>>⟧.parses s o → ReadsSigned w64 s.now o }
 {}
 
-/// Bytes are read as truth values and as characters from the same as texts.
+/// States that bytes are read as `bool`s and as characters from the same forms as texts.
 pub fn bytes_read_words()
     ensures bool { (s : _) (o : _) → ⟦<&'static [u8] as ParseTo<bool>>⟧.parses s o → ReadsBool s.now o }
     ensures char { (s : _) (o : _) → ⟦<&'static [u8] as ParseTo<char>>⟧.parses s o → ReadsChar s.now o }

@@ -1,4 +1,4 @@
-//! Values that bytes and texts are read as.
+//! Bytes and texts read as values.
 #![tactic(auto)]
 
 pub mod laws;

@@ -1,17 +1,19 @@
-//! Values that bytes and texts are read as.
+//! Bytes and texts read as values.
 ghost use Rattle.std.specs.Prelude.{Option};
 ghost use Rattle.nom_parse_to.specs.Parses.{ParsesText, ParsesBytes};
 
 use std::str::FromStr;
 
-/// A value that is read as an `R`.
+/// A value that can be read as an `R`.
 pub trait ParseTo<R> {
-    /// What the value may be read as.
+    /// The results that reading the value may have.
     ghost parses: { Self → Option R → Type 0 };
 
-    /// The value as an `R`, or none where it is no `R`, whole and without blanks. A whole number is an
-    /// optional `+`, for signed types also `-`, and one decimal digit or more, within the type; a `bool` is
-    /// `true` or `false`; a `char` is one character. Bytes that aren't UTF-8 are nothing.
+    /// Reads the whole value as an `R`, and returns `None` if it isn't one.
+    ///
+    /// Blanks aren't skipped. A whole number is an optional `+`, for signed types also `-`, and at least one
+    /// decimal digit, within the range of the type. A `bool` is `true` or `false`. A `char` is one character.
+    /// Bytes that aren't UTF-8 are read as `None`.
     fn parse_to(&self) -> Option<R>
         ensures { parses self.now result };
 }
