@@ -1,5 +1,7 @@
-//! Bits of bytes as inputs: a pair of an input of bytes and a position is the list of the input's bits from
-//! the position on, highest first in each byte, each of length 1. Past the end the list is empty.
+//! Inputs of bits.
+//!
+//! A pair of an input of bytes and a position is the list of the input's bits from that position on. The most
+//! significant bit of each byte comes first, and each bit has length 1. Past the end the list is empty.
 ghost use Rattle.std.specs.Prelude.{◌≡◌};
 ghost use Rattle.nom_traits.specs.Bits.{bits_model, bits_lawful, bits_are_values};
 ghost use Rattle.nom_traits.specs.BitPlaces.{GrowsByBytes, PassesBits, TellsMarks, AreBitsAlone};
@@ -24,7 +26,7 @@ impl<I: Items<Item = u8>> Items for (I, usize) {
     ghost values = { λ i h. bits_are_values ((bits_model I.model).elements i) };
 }
 
-/// How many bits an input of bits has.
+/// Returns the number of bits in an input of bits.
 #[inline(always)]
 fn bit_count<I: CountItems + Items<Item = u8>>(input: (I, usize)) -> u128
     ensures { result ≡ input_len (bits_model I.model) input }
@@ -58,24 +60,27 @@ impl<I: Input<Item = u8> + CountItems> CutRest for (I, usize) {
 
 // What inputs of bits promise. These functions do nothing: their contracts are the promises.
 
-/// A longer input of bits is longer by whole bytes, such as may follow the input of bytes.
+/// A longer input of bits is longer by whole bytes, which may be any that may follow the input of bytes.
 pub fn bits_grow_by_bytes<I: Items<Item = u8>>()
     ensures { GrowsByBytes I.model }
 {}
 
-/// Past `n` bits of `(x, o)` stands what is `(n + o) / 8` bytes on in `x`, from its bit `(n + o) % 8` on.
+/// The rest of `(x, o)` after `n` bits is the rest of `x` after `(n + o) / 8` bytes, from bit `(n + o) % 8`
+/// on.
 pub fn bits_pass<I: Items<Item = u8>>()
     ensures { PassesBits I.model }
 {}
 
-/// The mark of `(x, o)` tells the mark of `x` without its first `o / 8` bytes and, where inputs of bytes can
-/// differ in their marks, the `o % 8` bits passed of the next byte; and no more.
+/// The mark of `(x, o)` determines the mark of `x` without its first `o / 8` bytes.
+///
+/// If inputs of bytes can differ in their marks, it also determines the `o % 8` bits passed of the next byte.
+/// It determines nothing more.
 pub fn bits_tell_marks<I: Items<Item = u8>>()
     ensures { TellsMarks I.model }
 {}
 
-/// Bits of slices of bytes have no mark: they are equal as models where their lists are equal, whatever bits
-/// stand before them.
+/// Bits of slices of bytes have no mark. They are equal as models if their lists are equal, whatever bits
+/// come before them.
 pub fn bits_of_slices_have_no_mark()
     ensures { AreBitsAlone bytes_model }
 {}

@@ -1,4 +1,4 @@
-//! Slices of bytes as inputs: the items are the bytes, each of length 1.
+//! Slices of bytes as inputs. The items are the bytes, each of length 1.
 ghost use Rattle.std.specs.Prelude.{◌-◌, length, Some, refl};
 ghost use Rattle.nom_traits.specs.Bytes.{bytes_model, bytes_lawful};
 

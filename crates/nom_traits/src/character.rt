@@ -1,4 +1,4 @@
-//! Items as characters, and their classes.
+//! Items as characters, and the classes of characters.
 ghost use Rattle.std.specs.Prelude.{◌≡◌, ℕ};
 ghost use Rattle.std.specs.Char.{len_utf8};
 ghost use Rattle.nom_traits.specs.Classes.{has_code, in_set, is_listed};
@@ -29,7 +29,7 @@ pub enum AsciiClass {
 }
 
 impl AsciiClass {
-    /// Whether an item is of the class.
+    /// Returns whether an item is in the class.
     #[inline(always)]
     pub fn has<C: AsChar>(self, item: C) -> bool
         ensures { result ≡ has_code self (C.code item) }
@@ -49,8 +49,10 @@ impl AsciiClass {
     }
 }
 
-/// A set of code points, as brackets give one in a regular expression: those of a class, `[0-9]`, those of a list,
-/// `[abc]`, or all that aren't in the list, `[^abc]`. A list is one of bytes, each of which stands for its number.
+/// A set of code points, like the brackets of a regular expression.
+///
+/// It is a class, `[0-9]`, a list, `[abc]`, or everything that isn't in a list, `[^abc]`. A list consists of
+/// bytes, each of which is the code point of its number.
 #[derive(Clone, Copy)]
 pub enum CodeSet<'a> {
     Class(AsciiClass),
@@ -59,7 +61,7 @@ pub enum CodeSet<'a> {
 }
 
 impl<'a> CodeSet<'a> {
-    /// Whether a byte is in the set.
+    /// Returns whether a byte is in the set.
     #[inline(always)]
     pub(crate) fn has_byte(self, byte: u8) -> bool
         ensures { result ≡ in_set self.entry byte }
@@ -79,49 +81,50 @@ fn is_listed(list: &[u8], byte: u8) -> bool
     list.iter().any(|listed| *listed == byte)
 }
 
-/// An item that stands for a character: a byte is the character of the same number. Each class has
-/// ASCII characters alone.
+/// An item that represents a character. A byte is the character with the same number.
+///
+/// Each class consists of ASCII characters only.
 pub trait AsChar: Copy + Value {
-    /// The length as an item of an input.
+    /// The length of the character as an item of an input.
     ghost size: { Self → ℕ };
 
-    /// The character.
+    /// Returns the character.
     fn as_char(self) -> char
         ensures { result ≡ Self.code self };
 
-    /// A letter: `A` to `Z` or `a` to `z`.
+    /// Returns whether the character is a letter: `A` to `Z` or `a` to `z`.
     fn is_alpha(self) -> bool
         ensures { result ≡ is_alpha_code (Self.code self) };
 
-    /// A letter or a decimal digit.
+    /// Returns whether the character is a letter or a decimal digit.
     fn is_alphanum(self) -> bool
         ensures { result ≡ is_alphanum_code (Self.code self) };
 
-    /// `0` to `9`.
+    /// Returns whether the character is `0` to `9`.
     fn is_dec_digit(self) -> bool
         ensures { result ≡ is_dec_digit_code (Self.code self) };
 
-    /// `0` to `9`, `A` to `F` or `a` to `f`.
+    /// Returns whether the character is `0` to `9`, `A` to `F` or `a` to `f`.
     fn is_hex_digit(self) -> bool
         ensures { result ≡ is_hex_digit_code (Self.code self) };
 
-    /// `0` to `7`.
+    /// Returns whether the character is `0` to `7`.
     fn is_oct_digit(self) -> bool
         ensures { result ≡ is_oct_digit_code (Self.code self) };
 
-    /// `0` or `1`.
+    /// Returns whether the character is `0` or `1`.
     fn is_bin_digit(self) -> bool
         ensures { result ≡ is_bin_digit_code (Self.code self) };
 
-    /// The length as an item: 1 for a byte, that of its UTF-8 form for a character.
+    /// Returns the length as an item: 1 for a byte, the length of the UTF-8 form for a character.
     fn len(self) -> usize
         ensures { result ≡ size self };
 
-    /// A space or a tab.
+    /// Returns whether the character is a space or a tab.
     fn is_space(self) -> bool
         ensures { result ≡ is_space_code (Self.code self) };
 
-    /// The end of a line, `\n`.
+    /// Returns whether the character ends a line: `\n`.
     fn is_newline(self) -> bool
         ensures { result ≡ is_newline_code (Self.code self) };
 }
@@ -234,7 +237,7 @@ impl AsChar for char {
     }
 }
 
-/// A reference stands for what it points to.
+/// Treats a reference as the character that it points to.
 impl<T: AsChar> AsChar for &T {
     ghost size = { λ c. T.size c.now };
 

@@ -6,54 +6,56 @@ ghost use Rattle.nom_traits.specs.CompareTags.{IsForm, bytes_comparing, bytes_co
 
 use crate::input::Items;
 
-/// What a comparison of an input with a tag finds.
+/// The result of comparing an input with a tag.
 #[derive(Debug, Drop, PartialEq, Eq)]
 pub enum CompareResult {
-    /// The tag is a front of the input.
+    /// The tag is a prefix of the input.
     Ok,
-    /// The input is a proper front of the tag.
+    /// The input is a proper prefix of the tag.
     Incomplete,
-    /// Neither.
+    /// Neither is a prefix of the other.
     Error,
 }
 
-/// An input that is compared with tags of type `T`.
+/// An input that can be compared with tags of type `T`.
 pub trait Compare<T>: Items {
-    /// The model of a tag: tags equal as models are one to every parser.
+    /// The model of a tag. Tags that are equal as models are the same to every parser.
     ghost Tag: { Type 0 };
 
     ghost tag_model: { T → Tag };
 
-    /// The length of a tag, as a front of an input.
+    /// The length of a tag as a prefix of an input.
     ghost tag_size: { Tag → ℕ };
 
-    /// What a comparison of a list of items with a tag finds.
+    /// The result of comparing a list of items with a tag.
     ghost compares: { Tag → List Self.Item → CompareResult → Type 0 };
 
-    /// The same, where the case of ASCII letters doesn't matter.
+    /// The result of comparing a list of items with a tag, ignoring the case of ASCII letters.
     ghost compares_no_case: { Tag → List Self.Item → CompareResult → Type 0 };
 
-    /// The length of a tag, as a front of an input.
+    /// Returns the length of a tag as a prefix of an input.
     fn tag_len(tag: T) -> usize
         ensures { result ≡ tag_size (tag_model tag) };
 
-    /// Compares the input's front with a tag.
+    /// Compares the start of the input with a tag.
     fn compare(&self, tag: T) -> CompareResult
         ensures { compares (tag_model tag) (Self.model.elements self.now) result };
 
-    /// Compares the input's front with a tag, where the case of ASCII letters doesn't matter.
+    /// Compares the start of the input with a tag, ignoring the case of ASCII letters.
     fn compare_no_case(&self, tag: T) -> CompareResult
         ensures { compares_no_case (tag_model tag) (Self.model.elements self.now) result };
 
-    /// What is decided stays on longer inputs; a tag that is found ends at a place; where more is
-    /// needed, the input is shorter than the tag.
+    /// A decided result stays the same on longer inputs.
+    ///
+    /// A tag that is found ends at a place between items. If more input is needed, the input is shorter than
+    /// the tag.
     ghost comparing: { CompareLaws Self.model tag_size compares };
 
-    /// The same laws of `compare_no_case`.
+    /// The same laws for `compare_no_case`.
     ghost comparing_no_case: { CompareLaws Self.model tag_size compares_no_case };
 }
 
-/// Bytes are compared one by one.
+/// Compares bytes one by one.
 impl<'a, 'b> Compare<&'b [u8]> for &'a [u8] {
     ghost Tag = { List ℕ };
 
@@ -87,7 +89,7 @@ impl<'a, 'b> Compare<&'b [u8]> for &'a [u8] {
     ghost comparing_no_case = { bytes_comparing_no_case };
 }
 
-/// A text as a tag is the bytes of its UTF-8 form.
+/// Compares bytes with the UTF-8 form of a text.
 impl<'a, 'b> Compare<&'b str> for &'a [u8] {
     ghost Tag = { List ℕ };
 
@@ -187,7 +189,7 @@ impl<'a, 'b, const N: usize> Compare<&'b [u8; N]> for &'a [u8] {
     ghost comparing_no_case = { bytes_comparing_no_case };
 }
 
-/// A text is compared by its characters.
+/// Compares the characters of a text.
 impl<'a, 'b> Compare<&'b str> for &'a str {
     ghost Tag = { List ℕ };
 
@@ -221,7 +223,7 @@ impl<'a, 'b> Compare<&'b str> for &'a str {
     ghost comparing_no_case = { text_comparing_no_case };
 }
 
-/// Bytes that end inside a character of the text are no front of it.
+/// Compares a text with bytes. Bytes that end inside a character of the text are no prefix of it.
 impl<'a, 'b> Compare<&'b [u8]> for &'a str {
     ghost Tag = { List ℕ };
 
@@ -272,7 +274,8 @@ fn compare_bytes(bytes: &[u8], tag: &[u8]) -> CompareResult
     CompareResult::Ok
 }
 
-/// The same of bytes that are fewer than the tag's. It stands apart, so that the other stays small.
+/// Compares bytes that are fewer than those of the tag. It is a separate function to keep `compare_bytes`
+/// small.
 #[cold]
 #[inline(never)]
 fn compare_short(bytes: &[u8], tag: &[u8]) -> CompareResult
@@ -322,8 +325,7 @@ fn compare_text_no_case(text: &str, tag: &[u8]) -> CompareResult
     between_characters(text, tag, compare_bytes_no_case(text.as_bytes(), tag))
 }
 
-/// What a comparison of a text finds, where that of its bytes found `found`: a tag must end between
-/// characters.
+/// Returns the result for a text, given the result `found` for its bytes. A tag must end between characters.
 #[inline(always)]
 fn between_characters(text: &str, tag: &[u8], found: CompareResult) -> CompareResult
     ensures { (form : List ℕ → List ℕ) → IsForm form → ComparesAs (λ xs. xs) form tag.now text.now found →

@@ -1,12 +1,12 @@
 //! Numbers as counts and lengths.
 ghost use Rattle.std.specs.Prelude.{◌≡◌, ℕ};
 
-/// A whole number that is at least 0, as a count or a length.
+/// A whole number of at least 0, as a count or a length.
 pub trait ToUsize {
     /// The number.
     ghost size: { Self → ℕ };
 
-    /// The number as a `usize`: each fits, since a `usize` has 64 bits.
+    /// Returns the number as a `usize`. Each one fits, because a `usize` has 64 bits.
     fn to_usize(&self) -> usize
         ensures { result ≡ size self.now };
 }

@@ -1,16 +1,16 @@
-//! The bytes of a slice, one by one.
+//! Iterators over the bytes of a slice.
 ghost use Rattle.std.specs.Prelude.{◌≡◌, ◌+◌, ◌<◌, ◌^◌, length};
 ghost use Rattle.std.specs.Iterator.{YieldsFirst, item_count};
 ghost use Rattle.nom_traits.specs.Input.{placed};
 
-/// Gives the bytes of a slice.
+/// An iterator over the bytes of a slice.
 #[derive(Clone, Drop)]
 pub struct Bytes<'a> {
     rest: &'a [u8],
 }
 
 impl<'a> Bytes<'a> {
-    /// The bytes of a slice.
+    /// Returns an iterator over the bytes of a slice.
     #[inline(always)]
     pub fn new(bytes: &'a [u8]) -> Self
         ensures { result.rest ≡ bytes.entry }
@@ -37,7 +37,7 @@ impl Iterator for Bytes<'_> {
     }
 }
 
-/// Gives the bytes of a slice, each with its place.
+/// An iterator over the bytes of a slice, each with its place.
 #[derive(Clone, Drop)]
 pub struct ByteIndices<'a> {
     rest: &'a [u8],
@@ -45,7 +45,7 @@ pub struct ByteIndices<'a> {
 }
 
 impl<'a> ByteIndices<'a> {
-    /// The bytes of a slice, the first at 0.
+    /// Returns an iterator over the bytes of a slice. The first byte is at place 0.
     #[inline(always)]
     pub fn new(bytes: &'a [u8]) -> Self
         ensures rest { result.rest ≡ bytes.entry }

@@ -19,10 +19,10 @@ use nom_error::value::{ParseError, refusal};
 
 /// A type of items.
 pub trait Value {
-    /// Which values in contracts are values of the type.
+    /// The values in contracts that are values of the type.
     ghost IsValue: { Self → Type 0 };
 
-    /// The code point of a value that stands for a character; 0 for any other.
+    /// The code point of a value that represents a character, and 0 for any other value.
     ghost code: { Self → ℕ } = { λ _. 0 };
 }
 
@@ -42,26 +42,27 @@ impl Value for bool {
     ghost IsValue = { λ _. Unit {0} };
 }
 
-/// A reference is a value as what it points to is.
+/// Treats a reference as the value that it points to.
 impl<T: Value> Value for &T {
     ghost IsValue = { λ r. T.IsValue r.now };
 
     ghost code = { λ r. T.code r.now };
 }
 
-/// A value whose model is a list of items, each of a length of at least 1, with a mark.
+/// A value whose model is a list of items with a mark. Each item has a length of at least 1.
 pub trait Items: Copy {
-    /// An item.
+    /// The type of the items.
     type Item: Value;
 
     /// The model of the values.
     ghost model: { Model Self Self.Item };
 
-    /// Changes nothing, and tells that a value of the type is an input.
+    /// Changes nothing. Its contract states that a value of the type is an input.
     fn prove_known(self)
         ensures { model.IsKnown self };
 
-    /// Each item has a length, and the mark after some items follows from theirs.
+    /// Each item has a length, and the mark after some items is determined by the earlier mark and those
+    /// items.
     ghost lawful: { InputLaws model };
 
     /// The items are values of their type.
@@ -70,59 +71,62 @@ pub trait Items: Copy {
 
 /// An input that can be cut at the places between its items.
 pub trait Input: Items + Viewed {
-    /// The size that is needed, where a list has fewer items than a count; none where it is unknown.
+    /// The size that is needed if a list has fewer items than a count, or `None` if it is unknown.
     ghost lack: { ℕ → List Self.Item → Option ℕ };
 
-    /// Gives the items one by one.
+    /// An iterator over the items.
     type Iter: Iterator<Item = Self::Item>;
 
-    /// Gives the items one by one, each with its place.
+    /// An iterator over the items, each with its place.
     type IterIndices: Iterator<Item = (usize, Self::Item)>;
 
-    /// The length: the sum of the items' lengths.
+    /// Returns the length: the sum of the lengths of the items.
     fn input_len(&self) -> usize
         ensures { result ≡ input_len Self.model self.now };
 
-    /// The first items, of length `index`.
+    /// Returns the first items, of total length `index`.
     fn take(&self, index: usize) -> Self
         requires { IsBoundary Self.model self.now index }
         ensures { IsPrefixOf Self.model self.now index result };
 
-    /// The rest after the first items, of length `index`.
+    /// Returns the rest after the first items, of total length `index`.
     fn take_from(&self, index: usize) -> Self
         requires { IsBoundary Self.model self.now index }
         ensures { IsSuffixOf Self.model self.now index result };
 
-    /// The length of the first `count` items, or what is needed where there are fewer.
+    /// Returns the length of the first `count` items, or the size needed if there are fewer.
     fn slice_index(&self, count: usize) -> Result<usize, Needed>
         ensures { MatchResult result
             (λ n. IsCount Self.model self.now count n)
             (λ k. (length (Self.model.elements self.now) < count) × (size_of k ≡ lack count (Self.model.elements self.now))) };
 
-    /// The length of an item.
+    /// Returns the length of an item.
     fn item_len(&self, item: &Self::Item) -> usize
         ensures { result ≡ Self.model.item_len item.now };
 
-    /// The items, one by one.
+    /// Returns an iterator over the items.
     fn iter_elements(&self) -> Self::Iter
         ensures gives { AlwaysYields Self.Iter.next_gives (λ x. x) result (Self.model.elements self.now) }
         ensures can { Self.Iter.can_next result }
         ensures ends { IsFinite (Self.Iter.remaining result) };
 
-    /// The items, one by one, each with its place.
+    /// Returns an iterator over the items, each with its place.
     fn iter_indices(&self) -> Self::IterIndices
         ensures gives { AlwaysYields Self.IterIndices.next_gives (λ x. x) result (placed Self.model.item_len 0 (Self.model.elements self.now)) }
         ensures can { Self.IterIndices.can_next result }
         ensures ends { IsFinite (Self.IterIndices.remaining result) };
 
-    /// Whether `iter_indices` is quicker than adding up lengths: a hint, of which nothing is promised.
+    /// Returns whether `iter_indices` is faster than adding up lengths. This is a hint, and promises nothing.
     #[inline(always)]
     fn knows_places(&self) -> bool {
         false
     }
 
-    /// The place of the first item whose code isn't in the set, or `None` where all are in it: an answer where the input
-    /// knows a quicker way than item by item.
+    /// Returns the place of the first item whose code isn't in the set, if the input has a faster way than
+    /// item by item.
+    ///
+    /// The inner option is `None` if all codes are in the set. The outer one is `None` if there is no faster
+    /// way.
     fn run_end(&self, set: CodeSet<'_>) -> Option<Option<usize>>
         ensures { MatchOption result (Unit {0})
             (λ place. IsPosition Self.model (λ x. IsIn set.entry (Self.Item.code x)) (λ x. IsNotIn set.entry (Self.Item.code x)) self.now place) }
@@ -133,13 +137,13 @@ pub trait Input: Items + Viewed {
     /// Any items may follow.
     ghost more: { (xs : List Self.Item) → Self.model.IsMore xs };
 
-    /// Inputs that are equal as models are compared as one.
+    /// Inputs that are equal as models have equal views.
     ghost views: { (x y : Self) → IsSame Self.model x y → Self.view.value x ≡ Self.view.value y };
 
-    /// Inputs that are compared as one are equal as models: they have the same items and the same mark.
+    /// Inputs that have equal views are equal as models: they have the same items and the same mark.
     ghost view_injective: { (x y : Self) → Self.view.value x ≡ Self.view.value y → IsSame Self.model x y };
 
-    /// The rest, and then the first items, of length `index`.
+    /// Returns the rest and then the first items, of total length `index`.
     #[inline(always)]
     final fn take_split(&self, index: usize) -> (Self, Self)
         requires { IsBoundary Self.model self.now index }
@@ -149,8 +153,7 @@ pub trait Input: Items + Viewed {
         (self.take_from(index), self.take(index))
     }
 
-    /// The place of the first item for which the predicate answers true; `None` where it answers false
-    /// for each.
+    /// Returns the place of the first item for which the predicate returns true, or `None` if there is none.
     #[inline(always)]
     final fn position<P: Fn(Self::Item) -> bool>(&self, predicate: P) -> Option<usize>
         requires { P.IsAlwaysCallable predicate }
@@ -163,7 +166,7 @@ pub trait Input: Items + Viewed {
         }
     }
 
-    /// The place of the first item that isn't of the class; `None` where all are.
+    /// Returns the place of the first item that isn't in the class, or `None` if all are.
     #[inline(always)]
     final fn position_outside(&self, class: AsciiClass) -> Option<usize>
     where
@@ -181,8 +184,10 @@ pub trait Input: Items + Viewed {
         }
     }
 
-    /// The items before the first for which the predicate answers true, and the rest first. Where there is
-    /// none, more is needed.
+    /// Splits the input before the first item for which the predicate returns true. The rest comes first in
+    /// the result.
+    ///
+    /// If there is no such item, more input is needed.
     #[inline(always)]
     final fn split_at_position<P: Fn(Self::Item) -> bool, E: ParseError<Self>>(
         &self,
@@ -197,7 +202,9 @@ pub trait Input: Items + Viewed {
         }
     }
 
-    /// `split_at_position`, one item at least: where the first item is such, it refuses with the kind.
+    /// Splits the input like `split_at_position`, after at least one item.
+    ///
+    /// If the predicate returns true for the first item, it refuses with `kind`.
     #[inline(always)]
     final fn split_at_position1<P: Fn(Self::Item) -> bool, E: ParseError<Self>>(
         &self,
@@ -215,7 +222,9 @@ pub trait Input: Items + Viewed {
         }
     }
 
-    /// `split_at_position`, where no more may come: where there is no such item, it gives all.
+    /// Splits the input like `split_at_position`, where no more input may come.
+    ///
+    /// If the predicate returns true for no item, the whole input is taken.
     #[inline(always)]
     final fn split_at_position_complete<P: Fn(Self::Item) -> bool, E: ParseError<Self>>(
         &self,
@@ -230,8 +239,9 @@ pub trait Input: Items + Viewed {
         }
     }
 
-    /// `split_at_position_complete`, one item at least: where there is none, or the first is such, it
-    /// refuses with the kind.
+    /// Splits the input like `split_at_position_complete`, after at least one item.
+    ///
+    /// If the input is empty, or the predicate returns true for the first item, it refuses with `kind`.
     #[inline(always)]
     final fn split_at_position1_complete<P: Fn(Self::Item) -> bool, E: ParseError<Self>>(
         &self,
@@ -249,8 +259,9 @@ pub trait Input: Items + Viewed {
         }
     }
 
-    /// `split_at_position` or `split_at_position_complete`, as the mode says, with the items only where
-    /// outputs are built.
+    /// Splits the input like `split_at_position` or `split_at_position_complete`, depending on the mode.
+    ///
+    /// The items are returned only if outputs are built.
     #[inline(always)]
     final fn split_at_position_mode<OM: OutputMode, P: Fn(Self::Item) -> bool, E: ParseError<Self>>(
         &self,
@@ -266,8 +277,9 @@ pub trait Input: Items + Viewed {
         }
     }
 
-    /// `split_at_position1` or `split_at_position1_complete`, as the mode says, with the items and the
-    /// error only where outputs and errors are built.
+    /// Splits the input like `split_at_position1` or `split_at_position1_complete`, depending on the mode.
+    ///
+    /// The items are returned only if outputs are built, and the error only if errors are built.
     #[inline(always)]
     final fn split_at_position_mode1<
         OM: OutputMode,
@@ -287,7 +299,7 @@ pub trait Input: Items + Viewed {
     }
 }
 
-/// The place of the first item for which the predicate answers true, by the places of the items.
+/// Returns the place of the first item for which the predicate returns true, from the places of the items.
 #[inline(always)]
 fn first_place<I: Input, P: Fn(I::Item) -> bool>(input: &I, predicate: P) -> Option<usize>
     requires { P.IsAlwaysCallable predicate }
@@ -301,7 +313,7 @@ fn first_place<I: Input, P: Fn(I::Item) -> bool>(input: &I, predicate: P) -> Opt
     None
 }
 
-/// The same, by the lengths of the items.
+/// Returns the place of the first item for which the predicate returns true, from the lengths of the items.
 #[inline(always)]
 fn length_before<I: Input, P: Fn(I::Item) -> bool>(input: &I, predicate: P) -> Option<usize>
     requires { P.IsAlwaysCallable predicate }

@@ -1,4 +1,4 @@
-//! Runs of the bytes of a set, in blocks of 32.
+//! Runs of the bytes of a set, searched in blocks of 32.
 ghost use Rattle.std.specs.Prelude.{◌≡◌, ℕ, ◌+◌, ◌<◌, ◌≤◌, length, take, map, not, slice_index};
 ghost use Rattle.std.specs.List.{All};
 ghost use Rattle.std.specs.Simd.Lanes.{mask_l};
@@ -10,14 +10,14 @@ ghost use Rattle.nom_traits.specs.Runs.{IsPosition};
 use crate::character::{AsciiClass, CodeSet};
 use std::simd::prelude::*;
 
-/// How many bytes a block has.
+/// The number of bytes in a block.
 const BLOCK: usize = 32;
 
-/// How many bytes the first block has. It is smaller, since most runs are short, and what comes after a run waits
-/// for its length.
+/// The number of bytes in the first block. It is smaller, because most runs are short and the code after a
+/// run waits for its length.
 const FIRST: usize = 16;
 
-/// The place of the first byte that isn't in the set; `None` where all are in it.
+/// Returns the place of the first byte that isn't in the set, or `None` if all are.
 // Inlined, since the set is known where it is called. Whether anything is left is asked first, though the blocks
 // would tell it too: after an item that may be absent, as a sign, the question keeps two paths apart. Without it the
 // compiler adds 1 or 0 to the place, and the load of the block waits for the sum.
@@ -46,7 +46,7 @@ pub(crate) fn bytes_outside(bytes: &[u8], set: CodeSet<'_>) -> Option<usize>
     rest_outside(bytes, place, set)
 }
 
-/// The same, where all bytes before `start` are in the set.
+/// Returns the same as `bytes_outside`, where all bytes before `start` are in the set.
 #[inline(always)]
 fn rest_outside(bytes: &[u8], start: usize, set: CodeSet<'_>) -> Option<usize>
     requires { All (IsIn set) (take start bytes.now) }
@@ -60,7 +60,7 @@ fn rest_outside(bytes: &[u8], start: usize, set: CodeSet<'_>) -> Option<usize>
     None
 }
 
-/// How many bytes of the block at a place come before the first that isn't in the set.
+/// Returns the number of bytes in the block at a place that come before the first one not in the set.
 #[inline(always)]
 fn run_in_block(bytes: &[u8], place: usize, set: CodeSet<'_>) -> usize
     requires { place + BLOCK ≤ length bytes.now }
@@ -74,7 +74,7 @@ fn run_in_block(bytes: &[u8], place: usize, set: CodeSet<'_>) -> usize
     }
 }
 
-/// How many of the first bytes come before the first that isn't in the set.
+/// Returns the number of bytes in the first block that come before the first one not in the set.
 #[inline(always)]
 fn run_in_first(bytes: &[u8], set: CodeSet<'_>) -> usize
     requires { FIRST ≤ length bytes.now }
@@ -88,7 +88,7 @@ fn run_in_first(bytes: &[u8], set: CodeSet<'_>) -> usize
     }
 }
 
-/// Which bytes of a block aren't in the set: bit k stands for byte k.
+/// Returns the bytes of a block that aren't in the set. Bit k is set for byte k.
 #[inline(always)]
 fn outside(block: u8x32, set: CodeSet<'_>) -> u64
     ensures { result ≡ mask_l (map (λ b. not (in_set set.entry b)) block) }
@@ -100,7 +100,7 @@ fn outside(block: u8x32, set: CodeSet<'_>) -> u64
     }
 }
 
-/// How far each byte lies after the nearest one of a list: 0 for those of the list alone.
+/// Returns the distance of each byte after the nearest one of a list. It is 0 only for the bytes of the list.
 #[inline(always)]
 fn nearest(block: u8x32, list: &[u8]) -> u8x32
     ensures nearest { result ≡ map (nearest list.now) block }
@@ -113,7 +113,7 @@ fn nearest(block: u8x32, list: &[u8]) -> u8x32
     nearest
 }
 
-/// Which bytes of a block aren't of the class: bit k stands for byte k.
+/// Returns the bytes of a block that aren't in the class. Bit k is set for byte k.
 #[inline(always)]
 fn outside_class(block: u8x32, class: AsciiClass) -> u64
     ensures { result ≡ mask_l (map (λ b. not (has_code class b)) block) }
@@ -138,7 +138,7 @@ fn outside_class(block: u8x32, class: AsciiClass) -> u64
     }
 }
 
-/// Letters in lower case. No other byte becomes a letter.
+/// Converts letters to lower case. No other byte becomes a letter.
 #[inline(always)]
 fn in_lower_case(block: u8x32) -> u8x32
     ensures { result ≡ map lower_case block }
@@ -146,7 +146,7 @@ fn in_lower_case(block: u8x32) -> u8x32
     block | u8x32::splat(0x20)
 }
 
-/// How far each byte lies after `low`; past 256 it starts again.
+/// Returns the distance of each byte after `low`, modulo 256.
 #[inline(always)]
 fn less(block: u8x32, low: u8) -> u8x32
     ensures { result ≡ map (above low) block }
@@ -154,7 +154,7 @@ fn less(block: u8x32, low: u8) -> u8x32
     block - u8x32::splat(low)
 }
 
-/// Which bytes of the first block aren't in the set: bit k stands for byte k.
+/// Returns the bytes of the first block that aren't in the set. Bit k is set for byte k.
 #[inline(always)]
 fn outside_first(block: u8x16, set: CodeSet<'_>) -> u64
     ensures { result ≡ mask_l (map (λ b. not (in_set set.entry b)) block) }
@@ -170,7 +170,7 @@ fn outside_first(block: u8x16, set: CodeSet<'_>) -> u64
     }
 }
 
-/// How far each byte lies after the nearest one of a list: 0 for those of the list alone.
+/// Returns the distance of each byte after the nearest one of a list. It is 0 only for the bytes of the list.
 #[inline(always)]
 fn nearest_first(block: u8x16, list: &[u8]) -> u8x16
     ensures nearest { result ≡ map (nearest list.now) block }
@@ -183,7 +183,7 @@ fn nearest_first(block: u8x16, list: &[u8]) -> u8x16
     nearest
 }
 
-/// Which bytes of the first block aren't of the class: bit k stands for byte k.
+/// Returns the bytes of the first block that aren't in the class. Bit k is set for byte k.
 #[inline(always)]
 fn outside_class_first(block: u8x16, class: AsciiClass) -> u64
     ensures { result ≡ mask_l (map (λ b. not (has_code class b)) block) }
@@ -208,7 +208,7 @@ fn outside_class_first(block: u8x16, class: AsciiClass) -> u64
     }
 }
 
-/// Letters in lower case. No other byte becomes a letter.
+/// Converts letters to lower case. No other byte becomes a letter.
 #[inline(always)]
 fn in_lower_case_first(block: u8x16) -> u8x16
     ensures { result ≡ map lower_case block }
@@ -216,7 +216,7 @@ fn in_lower_case_first(block: u8x16) -> u8x16
     block | u8x16::splat(0x20)
 }
 
-/// How far each byte lies after `low`; past 256 it starts again.
+/// Returns the distance of each byte after `low`, modulo 256.
 #[inline(always)]
 fn less_first(block: u8x16, low: u8) -> u8x16
     ensures { result ≡ map (above low) block }

@@ -1,5 +1,8 @@
-//! Inputs: values whose models are lists of items, how they are cut, and how they are compared with tags; items as
-//! characters and their classes; what outputs are compared by; numbers as lengths.
+//! Inputs and items.
+//!
+//! Inputs are values whose models are lists of items. They can be cut and compared with tags. The other
+//! modules cover items as characters, the classes of characters, the views that compare outputs, and numbers
+//! as lengths.
 #![tactic(auto)]
 
 pub mod bits;

@@ -1,12 +1,12 @@
-//! How far one input lies in another.
+//! The distance of one input in another.
 ghost use Rattle.std.specs.Prelude.{ℕ};
 ghost use Rattle.nom_traits.specs.Input.{IsSuffixOf};
 
 use crate::input::Items;
 
-/// An input that tells where a rest of it begins.
+/// An input that can find the start of its rests.
 pub trait Offset: Items {
-    /// The length of the items before `second`, which is a rest of this input.
+    /// Returns the length of the items before `second`, which is a rest of this input.
     fn offset(&self, second: &Self) -> usize
         requires { (n : ℕ) × IsSuffixOf Self.model self.now n second.now }
         ensures { IsSuffixOf Self.model self.now result second.now };

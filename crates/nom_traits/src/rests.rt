@@ -1,20 +1,20 @@
-//! Rests by their lengths.
+//! Rests found by their lengths.
 ghost use Rattle.std.specs.Prelude.{◌≡◌, ℕ, length, MatchOption};
 ghost use Rattle.nom_traits.specs.Cuts.{CutsAs, CutsNowhere};
 ghost use Rattle.nom_traits.specs.Input.{IsSuffixOf};
 
 use crate::input::{Input, Items};
 
-/// An input that can be cut where what follows is as long as another input.
+/// An input that can be cut before a rest that is as long as another input.
 pub trait CutRest: Items {
-    /// The rest that is as long as `left`; `None` where no rest is.
+    /// Returns the rest that is as long as `left`, or `None` if there is no such rest.
     fn cut_rest(self, left: Self) -> Option<Self>
         ensures { MatchOption result (CutsNowhere Self.model self left) (λ j. (n : ℕ) × CutsAs Self.model self n left × IsSuffixOf Self.model self n j) };
 }
 
 /// An input that counts its items at once.
 pub trait CountItems: Items {
-    /// How many items it has.
+    /// Returns the number of items.
     fn item_count(self) -> usize
         ensures { result ≡ length (Self.model.elements self) };
 }

@@ -9,8 +9,9 @@ use nom_error::kind::ErrorKind;
 use nom_error::mode::{IsStreaming, Mode};
 use nom_error::value::ParseError;
 
-/// The length of the first items for which the predicate answers false; `None` where more may come and
-/// no item ends them.
+/// Returns the length of the first items for which the predicate returns false.
+///
+/// It returns `None` if more input may come and no item ends the run.
 #[inline(always)]
 pub fn run_len<I: Input, S: IsStreaming, P: Fn(I::Item) -> bool>(
     input: I,
@@ -28,7 +29,7 @@ pub fn run_len<I: Input, S: IsStreaming, P: Fn(I::Item) -> bool>(
     }
 }
 
-/// The first items of an input, where outputs are built.
+/// Returns the first items of an input if outputs are built.
 #[inline(always)]
 pub fn front_built<M: Mode, I: Input>(input: I, index: usize) -> Option<I>
     requires { IsBoundary I.model input index }
@@ -41,7 +42,7 @@ pub fn front_built<M: Mode, I: Input>(input: I, index: usize) -> Option<I>
     }
 }
 
-/// A refusal of a kind at an input.
+/// Returns a refusal of a kind at an input.
 #[inline(always)]
 pub fn refused<I: Drop, E: ParseError<I>>(input: I, kind: ErrorKind) -> Err<E>
     ensures { RefusesWith (E.errors.of_kind input kind) E.errors.grows result }

@@ -1,4 +1,4 @@
-//! Texts as inputs: the items are the characters, each as long as its UTF-8 form.
+//! Texts as inputs. The items are the characters, each as long as its UTF-8 form.
 ghost use Rattle.std.specs.Prelude.{◌≡◌, ◌<◌, true, nat_lt, length, chars, None, MatchResult, refl};
 ghost use Rattle.std.specs.List.{list_all};
 ghost use Rattle.nom_error.specs.Answers.{size_of};
@@ -110,7 +110,7 @@ impl Offset for &str {
     }
 }
 
-/// Whether ASCII characters alone tell what is in a set.
+/// Returns whether ASCII characters alone determine the set.
 #[inline(always)]
 fn is_of_ascii(set: CodeSet<'_>) -> bool
     ensures { result ≡ of_ascii set.entry }
@@ -121,8 +121,8 @@ fn is_of_ascii(set: CodeSet<'_>) -> bool
     }
 }
 
-/// Whether all bytes are ASCII. The loop is in place, since a list that is known where a parser is built is then
-/// tested by the compiler.
+/// Returns whether all bytes are ASCII. It is inlined, and the compiler tests a list that is known where a
+/// parser is built.
 #[inline(always)]
 pub fn are_ascii(bytes: &[u8]) -> bool
     ensures { result ≡ list_all (λ b. nat_lt b 128) bytes.now }
@@ -130,7 +130,7 @@ pub fn are_ascii(bytes: &[u8]) -> bool
     bytes.iter().all(|byte| *byte < 128)
 }
 
-/// The place of the first character that isn't in the set; `None` where all are.
+/// Returns the place of the first character that isn't in the set, or `None` if all are.
 // A byte below 128 is a character, and no part of a longer one. So the first byte outside a set of such characters begins
 // the first character outside it, and the first byte inside is the first character inside it.
 #[inline(always)]
@@ -142,7 +142,7 @@ fn text_outside(text: &str, set: CodeSet<'_>) -> Option<usize>
     bytes_outside(text.as_bytes(), set)
 }
 
-/// The place after the first `count` characters.
+/// Returns the place after the first `count` characters.
 #[inline]
 fn index_after(text: &str, count: usize) -> Result<usize, Needed>
     ensures { MatchResult result

@@ -1,4 +1,4 @@
-//! What outputs are compared by.
+//! Views, by which outputs are compared.
 ghost use Rattle.nom_traits.specs.View.{View, itself, single_view, pair_view, view_3, view_4, view_5, view_6, view_7, view_8, option_view};
 ghost use Rattle.nom_traits.specs.View.{result_view, list_view, vec_view, deque_view, box_view, rc_view, arc_view, string_view, behind_view, text_view};
 ghost use Rattle.nom_traits.specs.View.{tree_map_view, hash_map_view, tree_set_view, hash_set_view};
@@ -13,9 +13,11 @@ use std::rc::Rc;
 use std::sync::Arc;
 use std::time::Duration;
 
-/// A type whose values are compared by a view of them: references, boxes and shared values by what they
-/// hold, lists and sets by their items, maps by their entries, and texts by their characters. With no
-/// member given, a value is compared as it is, so `impl Viewed for Color {}` serves most types.
+/// A type whose values are compared by a view.
+///
+/// References, boxes and shared values are compared by the values that they hold. Lists and sets are compared
+/// by their items, maps by their entries, and texts by their characters. If no member is given, a value is
+/// compared as it is. `impl Viewed for Color {}` therefore works for most types.
 pub trait Viewed {
     ghost view: { View Self } = { itself };
 }
@@ -145,7 +147,7 @@ impl<T: Viewed, A: Allocator> Viewed for LinkedList<T, A> {
     ghost view = { list_view T.view };
 }
 
-/// A map is compared by its entries, in the order of its keys.
+/// Compares a map by its entries, in the order of its keys.
 impl<K: Ord + Viewed, V: Viewed, A: Allocator> Viewed for BTreeMap<K, V, A> {
     ghost view = { tree_map_view K.view V.view };
 }
@@ -154,7 +156,7 @@ impl<K: Ord + Viewed, A: Allocator> Viewed for BTreeSet<K, A> {
     ghost view = { tree_set_view K.view };
 }
 
-/// A map is compared by its entries, in the order in which its iterator gives them.
+/// Compares a map by its entries, in the order in which its iterator returns them.
 impl<K: Eq + Hash + Viewed, V: Viewed, S: BuildHasher, A: Allocator> Viewed
     for HashMap<K, V, S, A> {
     ghost view = { hash_map_view K.view V.view };
