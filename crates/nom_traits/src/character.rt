@@ -52,7 +52,7 @@ impl AsciiClass {
 /// A set of code points, like the brackets of a regular expression.
 ///
 /// It is a class, `[0-9]`, a list, `[abc]`, or everything that isn't in a list, `[^abc]`. A list consists of
-/// bytes, each of which is the code point of its number.
+/// bytes. Each byte represents the code point with its number.
 #[derive(Clone, Copy)]
 pub enum CodeSet<'a> {
     Class(AsciiClass),

@@ -61,8 +61,7 @@ pub trait Items: Copy {
     fn prove_known(self)
         ensures { model.IsKnown self };
 
-    /// Each item has a length, and the mark after some items is determined by the earlier mark and those
-    /// items.
+    /// Each item has a length, and the mark after some items follows from the items.
     ghost lawful: { InputLaws model };
 
     /// The items are values of their type.

@@ -88,7 +88,7 @@ fn run_in_first(bytes: &[u8], set: CodeSet<'_>) -> usize
     }
 }
 
-/// Returns the bytes of a block that aren't in the set. Bit k is set for byte k.
+/// Returns a mask of the bytes of a block that aren't in the set. Bit k is the bit of byte k.
 #[inline(always)]
 fn outside(block: u8x32, set: CodeSet<'_>) -> u64
     ensures { result ≡ mask_l (map (λ b. not (in_set set.entry b)) block) }
@@ -113,7 +113,7 @@ fn nearest(block: u8x32, list: &[u8]) -> u8x32
     nearest
 }
 
-/// Returns the bytes of a block that aren't in the class. Bit k is set for byte k.
+/// Returns a mask of the bytes of a block that aren't in the class. Bit k is the bit of byte k.
 #[inline(always)]
 fn outside_class(block: u8x32, class: AsciiClass) -> u64
     ensures { result ≡ mask_l (map (λ b. not (has_code class b)) block) }
@@ -154,7 +154,7 @@ fn less(block: u8x32, low: u8) -> u8x32
     block - u8x32::splat(low)
 }
 
-/// Returns the bytes of the first block that aren't in the set. Bit k is set for byte k.
+/// Returns a mask of the bytes of the first block that aren't in the set. Bit k is the bit of byte k.
 #[inline(always)]
 fn outside_first(block: u8x16, set: CodeSet<'_>) -> u64
     ensures { result ≡ mask_l (map (λ b. not (in_set set.entry b)) block) }
@@ -183,7 +183,7 @@ fn nearest_first(block: u8x16, list: &[u8]) -> u8x16
     nearest
 }
 
-/// Returns the bytes of the first block that aren't in the class. Bit k is set for byte k.
+/// Returns a mask of the bytes of the first block that aren't in the class. Bit k is the bit of byte k.
 #[inline(always)]
 fn outside_class_first(block: u8x16, class: AsciiClass) -> u64
     ensures { result ≡ mask_l (map (λ b. not (has_code class b)) block) }

@@ -121,8 +121,9 @@ fn is_of_ascii(set: CodeSet<'_>) -> bool
     }
 }
 
-/// Returns whether all bytes are ASCII. It is inlined, and the compiler tests a list that is known where a
-/// parser is built.
+/// Returns whether all bytes are ASCII.
+///
+/// The loop is inlined. The compiler then tests a list that is known where a parser is built.
 #[inline(always)]
 pub fn are_ascii(bytes: &[u8]) -> bool
     ensures { result ≡ list_all (λ b. nat_lt b 128) bytes.now }
