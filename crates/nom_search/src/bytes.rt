@@ -4,12 +4,12 @@ ghost use Rattle.nom_search.specs.Reads.{ReadsBytes, bytes_read, text_read};
 
 use nom_traits::input::Items;
 
-/// A value that lends its bytes.
+/// A value that can be borrowed as bytes.
 pub trait AsBytes {
     /// The bytes.
     ghost bytes: { Self → List ℕ };
 
-    /// The bytes, without a copy.
+    /// Borrows the bytes, without a copy.
     fn as_bytes(&self) -> &[u8]
         ensures { result.now ≡ bytes self.now };
 }
@@ -23,7 +23,7 @@ impl AsBytes for &[u8] {
     }
 }
 
-/// The bytes of a text are those of its UTF-8 form.
+/// Borrows the UTF-8 form of a text.
 impl AsBytes for &str {
     ghost bytes = { λ s. s.now };
 
@@ -56,12 +56,12 @@ pub trait ByteItems: Items + AsBytes {
     /// The bytes of an item.
     ghost read: { Self.Item → List ℕ };
 
-    /// Does nothing: `AsBytes` lends the bytes.
+    /// Does nothing. `AsBytes` borrows the bytes.
     #[inline(always)]
     fn reads(&self) {}
 
-    /// The bytes are those of the items, each of which has as many as its length. A byte of ASCII is an
-    /// item of its own.
+    /// The bytes are those of the items. An item has as many bytes as its length. Each ASCII byte is a
+    /// separate item.
     ghost reading: { ReadsBytes Self.model Self.bytes read };
 }
 

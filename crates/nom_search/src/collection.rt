@@ -1,4 +1,4 @@
-//! Collections of items that come one after another.
+//! Collections of consecutive items.
 ghost use Rattle.std.specs.Prelude.{◌≡◌, ℕ, ◌+◌, ◌<◌, ◌≤◌, List, [], ◌∷◌, ◌++◌, length, map, chars, encode_utf8, is_ok, OnErr, if◌then◌else◌};
 ghost use Rattle.std.specs.Prelude.{string_bytes, string_capacity, string_len, vec_capacity, vec_len};
 ghost use Rattle.std.specs.VecDeque.{deque_items, deque_len, deque_capacity};
@@ -8,19 +8,19 @@ use nom_traits::view::Viewed;
 use std::alloc::Allocator;
 use std::collections::VecDeque;
 
-/// What items of type `T` are collected in, in memory of an allocator of type `A`.
+/// A collection of items of type `T`, in memory of an allocator of type `A`.
 pub trait Collection<T, A: Allocator>: Drop {
-    /// The items, the first first.
+    /// The items, in their order.
     ghost items: { Self → List T };
 
-    /// That the collection has to grow before the item fits.
+    /// The collection has to grow before the item fits.
     ghost grows: { T → Self → Type 0 };
 
-    /// A collection of no items. It takes no memory.
+    /// Returns an empty collection. It takes no memory.
     fn empty(alloc: A) -> Self
         ensures { items result ≡ [] };
 
-    /// Appends an item. Where memory runs out, the collection stays as it was, and the item is dropped.
+    /// Appends an item. If memory runs out, the collection stays as it was, and the item is dropped.
     fn append(&mut self, item: T) -> Result<(), OutOfMemory>
         ensures items { items self.new ≡ (if is_ok result then items self.old ++ item ∷ [] else items self.old) }
         ensures full { OnErr result (grows item self.old) };
@@ -28,7 +28,7 @@ pub trait Collection<T, A: Allocator>: Drop {
 
 /// A collection that is compared by its items.
 pub trait ViewedCollection<T: Viewed, A: Allocator>: Collection<T, A> + Viewed {
-    /// Collections whose items are compared as one are compared as one.
+    /// Collections whose items have equal views have equal views.
     ghost views: { (x y : Self) → map T.view.value (Self.items x) ≡ map T.view.value (Self.items y) → Self.view.value x ≡ Self.view.value y };
 }
 
@@ -78,7 +78,7 @@ impl<T: Viewed + Drop, A: Allocator> ViewedCollection<T, A> for VecDeque<T, A> {
     ghost views = { λ x y h. h };
 }
 
-/// The items of a text are its characters.
+/// Collects characters in a text.
 impl<A: Allocator> Collection<char, A> for String<A> {
     ghost items = { λ s. chars (string_bytes s) };
 

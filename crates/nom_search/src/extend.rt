@@ -1,4 +1,4 @@
-//! Values that are appended to builders.
+//! Values that can be appended to builders.
 ghost use Rattle.std.specs.Prelude.{◌≡◌, ℕ, ◌+◌, ◌<◌, ◌++◌, List, [], length, chars, encode_utf8, encode_utf8_all, is_ok, map, OnErr, string_bytes};
 ghost use Rattle.std.specs.Prelude.{string_capacity, string_len, vec_capacity, vec_len, if◌then◌else◌};
 ghost use Rattle.std.proofs.Common.{ap};
@@ -8,15 +8,15 @@ use nom_traits::input::Items;
 use nom_traits::view::Viewed;
 use std::alloc::{AllocError, Allocator};
 
-/// What values are appended to: a list of parts grows. Builders are compared by their parts.
+/// A growing list of parts, to which values are appended. Builders are compared by their parts.
 pub trait Builder: Viewed {
-    /// A part.
+    /// The type of the parts.
     type Part;
 
-    /// The parts, the first first.
+    /// The parts, in their order.
     ghost parts: { Self → List Self.Part };
 
-    /// Builders of the same parts are compared as one.
+    /// Builders of the same parts have equal views.
     ghost views: { (x y : Self) → parts x ≡ parts y → Self.view.value x ≡ Self.view.value y };
 }
 
@@ -28,7 +28,7 @@ impl<T: Viewed, A: Allocator> Builder for Vec<T, A> {
     ghost views = { λ x y h. ap (map T.view.value) h };
 }
 
-/// The parts of a text are the bytes of its UTF-8 form.
+/// Builds a text from the bytes of its UTF-8 form.
 impl<A: Allocator> Builder for String<A> {
     type Part = u8;
 
@@ -39,28 +39,28 @@ impl<A: Allocator> Builder for String<A> {
 
 /// A value that can be appended to a builder, which takes its memory from an allocator of type `A`.
 pub trait ExtendInto<A: Allocator + Copy>: Viewed {
-    /// An item of the value.
+    /// The type of the value's items.
     type Item;
 
-    /// What the value is appended to.
+    /// The builder to which the value is appended.
     type Extender: Builder;
 
     /// The parts that the value adds.
     ghost added: { Self → List Self.Extender.Part };
 
-    /// That the builder has to grow before the value fits.
+    /// The builder has to grow before the value fits.
     ghost grows: { Self → Self.Extender → Type 0 };
 
-    /// An empty builder.
+    /// Returns an empty builder.
     fn new_builder(&self, alloc: A) -> Self::Extender
         ensures { Self.Extender.parts result ≡ [] };
 
-    /// Appends the value. Where memory runs out, the builder stays as it was.
+    /// Appends the value. If memory runs out, the builder stays as it was.
     fn extend_into(&self, acc: &mut Self::Extender) -> Result<(), OutOfMemory>
         ensures parts { Self.Extender.parts acc.new ≡ (if is_ok result then Self.Extender.parts acc.old ++ added self.now else Self.Extender.parts acc.old) }
         ensures full { OnErr result (grows self.now acc.old) };
 
-    /// Values that are compared as one add the same.
+    /// Values that have equal views add the same parts.
     ghost views: { (x y : Self) → Self.view.value x ≡ Self.view.value y → added x ≡ added y };
 }
 
@@ -86,7 +86,7 @@ impl<A: Allocator + Copy> ExtendInto<A> for &[u8] {
     ghost views = { λ x y h. h };
 }
 
-/// A text adds the UTF-8 form of its characters.
+/// Appends the UTF-8 form of the characters of a text.
 impl<A: Allocator + Copy> ExtendInto<A> for &str {
     type Item = char;
 
@@ -133,7 +133,7 @@ impl<A: Allocator + Copy> ExtendInto<A> for char {
     ghost views = { λ x y h. ap encode_utf8 h };
 }
 
-/// Whether a builder grew.
+/// Converts the result of a growth.
 #[inline(always)]
 fn told(grown: Result<(), AllocError>) -> Result<(), OutOfMemory>
     ensures { is_ok result ≡ is_ok grown }

@@ -1,4 +1,4 @@
-//! Tokens and substrings that are looked for, bytes, and what outputs are built and collected in.
+//! Searches for tokens and substrings, values as bytes, and the collections and builders of outputs.
 #![tactic(auto)]
 
 pub mod bytes;

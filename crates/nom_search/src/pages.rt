@@ -1,4 +1,4 @@
-//! The first place of a byte: where it is far, it is looked for in four pages side by side.
+//! Searches for the first place of a byte. If it is far away, four pages are searched side by side.
 ghost use Rattle.std.specs.Prelude.{◌+◌, ◌*◌, ◌≤◌, length, IsTrue};
 ghost use Rattle.memchr.specs.Find.{IsFirst, IsFirstByte, Nowhere, Passes, is_byte};
 ghost use Rattle.nom_search.specs.FourPages.{NowhereInPages};
@@ -6,22 +6,23 @@ ghost use Rattle.nom_search.specs.FourPages.{NowhereInPages};
 use memchr::memchr;
 use std::simd::prelude::*;
 
-/// How many bytes are tested at once.
+/// The number of bytes that are tested at once.
 const LINE: usize = 64;
 
-/// How many bytes a page has. A processor fetches ahead within a page, and in several pages at once.
+/// The number of bytes in a page. A processor fetches ahead within a page, and in several pages at once.
 const PAGE: usize = 4096;
 
-/// How many lines a page has.
+/// The number of lines in a page.
 const LINES: usize = PAGE / LINE;
 
-/// How many bytes four pages have.
+/// The number of bytes in four pages.
 const BLOCK: usize = 4 * PAGE;
 
-/// How far `memchr` looks alone. After that, it costs little that a block with the byte is read twice.
+/// The number of bytes that `memchr` searches alone. After that, reading the block with the byte twice costs
+/// little.
 const NEAR: usize = 64 * PAGE;
 
-/// The first place of a byte.
+/// Returns the first place of a byte.
 // Over many pages `memchr` waits for memory, since it reads them one after the other.
 #[inline(always)]
 pub(crate) fn find_byte(byte: u8, bytes: &[u8]) -> Option<usize>
@@ -34,7 +35,7 @@ pub(crate) fn find_byte(byte: u8, bytes: &[u8]) -> Option<usize>
     }
 }
 
-/// The same, where the byte stands nowhere before `start`.
+/// Returns the first place of a byte, which doesn't occur before `start`.
 // A call of its own, so that a search that ends near is small where it is inlined.
 #[inline(never)]
 fn find_far(byte: u8, bytes: &[u8], start: usize) -> Option<usize>
@@ -46,7 +47,7 @@ fn find_far(byte: u8, bytes: &[u8], start: usize) -> Option<usize>
     find_between(byte, bytes, place, bytes.len())
 }
 
-/// The first place of a byte from `start` up to `end`.
+/// Returns the first place of a byte from `start` up to `end`.
 #[inline(always)]
 fn find_between(byte: u8, bytes: &[u8], start: usize, end: usize) -> Option<usize>
     requires ordered { start ≤ end }
@@ -59,7 +60,7 @@ fn find_between(byte: u8, bytes: &[u8], start: usize, end: usize) -> Option<usiz
     }
 }
 
-/// Goes past each block that lacks a byte.
+/// Skips each block that lacks a byte.
 #[inline(always)]
 fn skip_blocks(byte: u8, bytes: &[u8], start: usize) -> usize
     requires { start ≤ length bytes.now }
@@ -74,7 +75,8 @@ fn skip_blocks(byte: u8, bytes: &[u8], start: usize) -> usize
     place
 }
 
-/// Whether a block lacks a byte: the first lines of its pages are tested, then the second ones, and so on.
+/// Returns whether a block lacks a byte. It tests the first lines of the four pages, then the second ones,
+/// and so on.
 #[inline(always)]
 fn block_lacks(byte: u8, bytes: &[u8], start: usize) -> bool
     requires { start + BLOCK ≤ length bytes.now }
@@ -88,7 +90,7 @@ fn block_lacks(byte: u8, bytes: &[u8], start: usize) -> bool
     true
 }
 
-/// Whether four lines lack a byte, one of each page.
+/// Returns whether four lines lack a byte, one line of each page.
 #[inline(always)]
 fn lines_lack(byte: u8, bytes: &[u8], place: usize) -> bool
     requires { place + 3 * PAGE + LINE ≤ length bytes.now }
@@ -100,7 +102,7 @@ fn lines_lack(byte: u8, bytes: &[u8], place: usize) -> bool
         && line_lacks(byte, bytes, place + 3 * PAGE)
 }
 
-/// Whether a line lacks a byte.
+/// Returns whether a line lacks a byte.
 #[inline(always)]
 fn line_lacks(byte: u8, bytes: &[u8], place: usize) -> bool
     requires { place + LINE ≤ length bytes.now }

@@ -1,4 +1,4 @@
-//! Substrings that are looked for.
+//! Searches for substrings.
 ghost use Rattle.std.specs.Prelude.{ℕ, ◌+◌, ◌≤◌, List, Option, length, chars, MatchOption};
 ghost use Rattle.std.specs.Char.{len_utf8};
 ghost use Rattle.memchr.specs.Find.{FindsNeedle, Nowhere, OccursAt};
@@ -10,21 +10,22 @@ use memchr::arch::all::is_prefix;
 use memchr::memmem;
 use nom_traits::input::Items;
 
-/// An input in which needles of type `T` are looked for.
+/// An input that can be searched for needles of type `T`.
 pub trait FindSubstring<T>: Items {
-    /// The model of a needle: needles equal as models are one to every parser.
+    /// The model of a needle. Needles that are equal as models are the same to every parser.
     ghost Needle: { Type 0 };
 
     ghost needle_model: { T → Needle };
 
-    /// What a search of a list of items for a needle finds.
+    /// The result of searching a list of items for a needle.
     ghost finds: { Needle → List Self.Item → Option ℕ → Type 0 };
 
-    /// The first place at which the needle stands, if it stands anywhere. An empty one stands at 0.
+    /// Returns the first place of the needle, or `None` if it doesn't occur. An empty needle occurs at 0.
     fn find_substring(&self, substr: T) -> Option<usize>
         ensures { finds (needle_model substr) (Self.model.elements self.now) result };
 
-    /// There is one result; what is found begins at a place, and is found there in longer inputs too.
+    /// There is one result. A needle that is found begins at a place between items, and is found there in
+    /// longer inputs too.
     ghost finding: { FindLaws Self.model finds };
 }
 
@@ -43,7 +44,7 @@ impl<'a, 'b> FindSubstring<&'b [u8]> for &'a [u8] {
     ghost finding = { bytes_finding };
 }
 
-/// A text as a needle is the bytes of its UTF-8 form.
+/// Searches bytes for the UTF-8 form of a text.
 impl<'a, 'b> FindSubstring<&'b str> for &'a [u8] {
     ghost Needle = { List ℕ };
 
@@ -59,7 +60,7 @@ impl<'a, 'b> FindSubstring<&'b str> for &'a [u8] {
     ghost finding = { bytes_finding };
 }
 
-/// A text is searched by its characters. The place is a length in bytes, as all places of texts are.
+/// Searches a text by its characters. The place is a length in bytes, like all places in texts.
 impl<'a, 'b> FindSubstring<&'b str> for &'a str {
     ghost Needle = { List ℕ };
 
@@ -75,7 +76,7 @@ impl<'a, 'b> FindSubstring<&'b str> for &'a str {
     ghost finding = { text_finding };
 }
 
-/// The first place of some bytes.
+/// Returns the first place of some bytes.
 // Bytes before the needle's first byte are passed over by a search for one byte in place of two. Often the
 // needle stands there, and a searcher need not be made.
 #[inline(always)]
@@ -88,7 +89,7 @@ fn find_bytes(bytes: &[u8], needle: &[u8]) -> Option<usize>
     }
 }
 
-/// The same, where the needle stands nowhere before `start`.
+/// Returns the first place of the needle, which doesn't occur before `start`.
 #[inline(always)]
 fn first_after(bytes: &[u8], needle: &[u8], start: usize) -> Option<usize>
     requires room { start ≤ length bytes.now }
@@ -105,7 +106,7 @@ fn first_after(bytes: &[u8], needle: &[u8], start: usize) -> Option<usize>
     }
 }
 
-/// A place before which the needle stands nowhere; `None` where it stands nowhere at all.
+/// Returns a place before which the needle doesn't occur, or `None` if it doesn't occur at all.
 #[inline(always)]
 fn first_candidate(bytes: &[u8], needle: &[u8]) -> Option<usize>
     ensures { MatchOption result
@@ -118,7 +119,7 @@ fn first_candidate(bytes: &[u8], needle: &[u8]) -> Option<usize>
     }
 }
 
-/// The first place of some bytes, in the words of the searcher.
+/// Returns the first place of some bytes, with the contract of the searcher.
 // A call of its own: most searches end before it, and are small where they are inlined.
 #[inline(never)]
 fn first_match(bytes: &[u8], needle: &[u8]) -> Option<usize>
@@ -127,7 +128,7 @@ fn first_match(bytes: &[u8], needle: &[u8]) -> Option<usize>
     memmem::find(bytes, needle)
 }
 
-/// The first place of a text in a text: no text begins inside a character of another.
+/// Returns the first place of a text in a text. No text begins inside a character of another.
 #[inline(always)]
 fn find_text(text: &str, needle: &str) -> Option<usize>
     ensures { FindsFirst len_utf8 (chars needle.now) (chars text.now) result }

@@ -1,4 +1,4 @@
-//! Tokens that are looked for.
+//! Searches for tokens.
 ghost use Rattle.std.specs.Prelude.{◌≡◌, ◌==◌, ◌↔◌, IsTrue, MatchOption, chars};
 ghost use Rattle.std.specs.List.{Contains, list_any};
 ghost use Rattle.memchr.specs.Find.{IsFirstByte, is_byte};
@@ -7,16 +7,17 @@ use memchr::memchr;
 use nom_traits::input::Value;
 use nom_traits::text::are_ascii;
 
-/// A list in which tokens of type `T` are looked for.
+/// A list that can be searched for tokens of type `T`.
 pub trait FindToken<T: Value> {
-    /// That a token stands in the list.
+    /// A token is in the list.
     ghost finds: { Self → T → Type 0 };
 
-    /// Whether the token stands in the list.
+    /// Returns whether the token is in the list.
     fn find_token(&self, token: T) -> bool
         ensures { IsTrue result ↔ finds self.now token };
 
-    /// Bytes that are the codes of the tokens in the list, and of no other: a hint, by which a run is sought in blocks.
+    /// Returns bytes that are the codes of the tokens in the list, and of no others. This is a hint for
+    /// searching a run in blocks.
     #[inline(always)]
     fn codes(&self) -> Option<&[u8]>
         ensures { MatchOption result (Unit {0}) (λ list. (t : T) → finds self.now t ↔ Contains list.now (T.code t)) }
@@ -48,7 +49,7 @@ impl<'a> FindToken<&'a u8> for &[u8] {
     }
 }
 
-/// A byte in a text is one of the bytes of its UTF-8 form.
+/// Searches the UTF-8 form of a text for a byte.
 impl FindToken<u8> for &str {
     ghost finds = { λ s t. Contains s.now t };
 
@@ -95,7 +96,7 @@ impl<'a, const N: usize> FindToken<&'a u8> for [u8; N] {
     }
 }
 
-/// A character in bytes is a byte of its code point: none, where that is above 255.
+/// Searches bytes for the code point of a character. A code point above 255 is never found.
 impl FindToken<char> for &[u8] {
     ghost finds = { λ s t. Contains s.now t };
 
@@ -149,7 +150,7 @@ fn has_byte(bytes: &[u8], token: u8) -> bool
     first_place(bytes, token).is_some()
 }
 
-/// The first place of a byte, in the words of the searcher.
+/// Returns the first place of a byte, with the contract of the searcher.
 #[inline(always)]
 fn first_place(bytes: &[u8], token: u8) -> Option<usize>
     ensures { IsFirstByte (is_byte token) bytes.now result }
@@ -171,7 +172,8 @@ fn has_char(list: &[char], token: char) -> bool
     list.iter().any(|c| *c == token)
 }
 
-/// A character of ASCII is a byte of its own, so it is sought in the bytes, with no decoding.
+/// Returns whether a character is in a text. An ASCII character is a single byte, and is searched without
+/// decoding.
 #[inline(always)]
 fn has_char_in_text(text: &str, token: char) -> bool
     ensures { IsTrue result ↔ Contains (chars text.now) token }
@@ -198,7 +200,7 @@ fn any_char_is(text: &str, token: char) -> bool
     text.chars().any(|c| c == token)
 }
 
-/// The bytes of a text, where all are ASCII: they are its characters.
+/// Returns the bytes of a text if all are ASCII. They are then its characters.
 #[inline(always)]
 fn ascii_bytes(text: &str) -> Option<&[u8]>
     ensures { MatchOption result (Unit {0}) (λ list. list.now ≡ chars text.now) }
