@@ -9,7 +9,7 @@ use bstr::ByteSlice;
 use nom_error::answer::OutOfMemory;
 use std::alloc::Allocator;
 
-/// The dump of some bytes, before it is made a text.
+/// Returns the dump of some bytes, before it is converted to a text.
 pub(crate) fn dump_bytes<A: Allocator + Copy>(
     alloc: A,
     bytes: &[u8],
@@ -52,7 +52,7 @@ fn push_line<A: Allocator + Copy>(
     Ok(())
 }
 
-/// Each byte as two digits and a space.
+/// Appends each byte as two digits and a space.
 fn push_digits<A: Allocator>(dump: &mut Vec<u8, A>, bytes: &[u8]) -> Result<(), OutOfMemory>
     ensures { OnOk result (dump.new.items ≡ dump.old.items ++ flat_map hex_byte bytes.now) }
 {
@@ -73,7 +73,7 @@ fn digit(value: u8) -> u8
     }
 }
 
-/// Three spaces for each byte that is missing.
+/// Appends three spaces for each missing byte.
 fn push_blanks<A: Allocator>(dump: &mut Vec<u8, A>, missing: usize) -> Result<(), OutOfMemory>
     ensures { OnOk result (dump.new.items ≡ dump.old.items ++ replicate (3 * missing) 32) }
 {
@@ -83,7 +83,7 @@ fn push_blanks<A: Allocator>(dump: &mut Vec<u8, A>, missing: usize) -> Result<()
     Ok(())
 }
 
-/// The bytes, with points for control characters.
+/// Appends the bytes, with a dot for each control character.
 fn push_shown<A: Allocator>(dump: &mut Vec<u8, A>, bytes: &[u8]) -> Result<(), OutOfMemory>
     ensures { OnOk result (dump.new.items ≡ dump.old.items ++ map shown_byte bytes.now) }
 {
@@ -97,7 +97,7 @@ fn push_shown<A: Allocator>(dump: &mut Vec<u8, A>, bytes: &[u8]) -> Result<(), O
     Ok(())
 }
 
-/// Bytes as a text, with U+FFFD for what is no character.
+/// Converts bytes to a text, with U+FFFD for each invalid sequence.
 pub(crate) fn lossy_text<A: Allocator>(alloc: A, bytes: &[u8]) -> Result<String<A>, OutOfMemory>
     ensures text { IfOk result (λ text. string_bytes text ≡ encode_utf8_all (lossy_chars bytes.now)) }
     ensures memory { OnErr result (0 < length bytes.now) }

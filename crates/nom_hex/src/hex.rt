@@ -1,4 +1,4 @@
-//! Values that are shown as hex dumps.
+//! Values that can be shown as hex dumps.
 ghost use Rattle.std.specs.Prelude.{◌≡◌, ◌<◌, ℕ, List, length, IfOk, OnErr, string_bytes, encode_utf8_all};
 ghost use Rattle.std.specs.Str.{IsAscii};
 ghost use Rattle.bstr.specs.Utf8.{lossy_chars};
@@ -8,15 +8,20 @@ use crate::dump::{dump_bytes, lossy_text};
 use nom_error::answer::OutOfMemory;
 use std::alloc::Allocator;
 
-/// A value whose bytes are shown as a hex dump: a line for each `chunk_size` of them, with the offset of
-/// the first in at least eight hexadecimal digits, a tab, each byte as two digits and a space, three spaces
-/// for each that is missing, a tab, the bytes as characters, and the end of the line. A point stands for
-/// each control character, and the whole is made a text with U+FFFD for what isn't UTF-8.
+/// A value whose bytes can be shown as a hex dump.
+///
+/// The dump has one line for each `chunk_size` bytes. A line consists of:
+///
+/// - the offset of its first byte, in at least eight hexadecimal digits, and a tab;
+/// - each byte as two digits and a space, with three spaces for each missing byte, and a tab;
+/// - the bytes as characters, with a dot for each control character, and a line end.
+///
+/// The dump is then converted to a text, with U+FFFD for everything that isn't UTF-8.
 pub trait HexDisplay {
     /// The bytes.
     ghost bytes: { Self → List ℕ };
 
-    /// The dump, whose first offset is 0.
+    /// Returns the dump. Its first offset is 0.
     fn to_hex<A: Allocator + Copy>(
         self,
         alloc: A,
@@ -27,7 +32,7 @@ pub trait HexDisplay {
         ensures ascii { IsAscii (bytes self) → IfOk result (λ text. string_bytes text ≡ hex_dump chunk_size 0 (bytes self)) }
         ensures memory { OnErr result (0 < length (bytes self)) };
 
-    /// The dump, whose first offset is `from`.
+    /// Returns the dump. Its first offset is `from`.
     fn to_hex_from<A: Allocator + Copy>(
         self,
         alloc: A,
@@ -62,7 +67,7 @@ impl HexDisplay for &[u8] {
     }
 }
 
-/// A text is dumped as the bytes of its UTF-8 form.
+/// Dumps the UTF-8 form of a text.
 impl HexDisplay for &str {
     ghost bytes = { λ s. s.now };
 
@@ -84,7 +89,7 @@ impl HexDisplay for &str {
     }
 }
 
-/// The dump of some bytes, as a text.
+/// Returns the dump of some bytes, as a text.
 fn hex_text<A: Allocator + Copy>(
     alloc: A,
     bytes: &[u8],
