@@ -1,11 +1,11 @@
-//! The numbers of a range.
+//! The bounds of a range, as numbers.
 ghost use Rattle.std.specs.Prelude.{◌≡◌};
 ghost use Rattle.nom_ranges.specs.Ranges.{fewest, most_items, limit};
 
 use crate::range::NomRange;
 use std::ops::Bound;
 
-/// The fewest items that the range allows.
+/// Returns the minimum number of items that the range allows.
 #[inline(always)]
 pub fn least<R: NomRange<usize>>(range: &R) -> usize
     ensures { result ≡ fewest (R.lower range.now) }
@@ -18,7 +18,7 @@ pub fn least<R: NomRange<usize>>(range: &R) -> usize
     }
 }
 
-/// The most items that the range allows, `usize::MAX` where it has no second end.
+/// Returns the maximum number of items that the range allows, or `usize::MAX` if it has no upper bound.
 #[inline(always)]
 pub fn most<R: NomRange<usize>>(range: &R) -> usize
     ensures { result ≡ limit (most_items (R.upper range.now)) }

@@ -11,43 +11,44 @@ use crate::saturating::SaturatingIterator;
 use nom_traits::convert::ToUsize;
 use std::ops::{Bound, Range, RangeFrom, RangeFull, RangeInclusive, RangeTo, RangeToInclusive};
 
-/// How many items are wanted: a range of counts, or one count.
+/// The number of items that is wanted: a range of counts, or one count.
 pub trait NomRange<Idx: ToUsize> {
-    /// Counts up to the most items, and on without end where there is no bound.
+    /// An iterator that counts up to the maximum, or without end if there is no upper bound.
     type Saturating: Iterator<Item = Idx>;
 
-    /// Counts up to the most items, at most `usize::MAX`.
+    /// An iterator that counts up to the maximum, which is at most `usize::MAX`.
     type Bounded: Iterator<Item = Idx>;
 
-    /// The first end.
+    /// The lower bound.
     ghost lower: { Self → Bound ℕ };
 
-    /// The second end.
+    /// The upper bound.
     ghost upper: { Self → Bound ℕ };
 
-    /// The range was iterated to its end, so that nothing is left of it.
+    /// The range was iterated to its end, and nothing is left of it.
     ghost IsSpent: { Self → Type 0 } = { λ _. ⊥ };
 
-    /// The two ends. The fewest items fit a `usize`.
+    /// Returns the two bounds. The minimum fits in a `usize`.
     fn bounds(&self) -> (Bound<Idx>, Bound<Idx>)
         ensures lower { bound_map Idx.size result.0 ≡ lower self.now }
         ensures upper { bound_map Idx.size result.1 ≡ upper self.now }
         ensures fits { fewest (lower self.now) < 2 ^ 64 };
 
-    /// Whether the range contains a count.
+    /// Returns whether the range contains a count.
     fn contains(&self, item: &Idx) -> bool
         ensures { IsTrue result ↔ ((IsSpent self.now → ⊥) × IsWithin (lower self.now) (upper self.now) (Idx.size item.now)) };
 
-    /// Whether the range has two ends and nothing between them.
+    /// Returns whether the range has two bounds and nothing between them.
     fn is_inverted(&self) -> bool
         ensures { IsTrue result ↔ (IsSpent self.now ⊎ IsInverted (lower self.now) (upper self.now)) };
 
-    /// Counts from 0 up to, not including, the most items. Without a bound it stays at `usize::MAX`.
+    /// Counts from 0 up to the maximum, which is excluded. Without an upper bound it stays at `usize::MAX`.
     fn saturating_iter(&self) -> Self::Saturating
         ensures ready { Self.Saturating.can_next result }
         ensures counts { CountsTo Self.Saturating.next_gives Idx.size (most_items (upper self.now)) result };
 
-    /// Counts from 0 up to, not including, the most items, `usize::MAX` without a bound.
+    /// Counts from 0 up to the maximum, which is excluded. Without an upper bound the maximum is
+    /// `usize::MAX`.
     fn bounded_iter(&self) -> Self::Bounded
         ensures ready { Self.Bounded.can_next result }
         ensures ends { IsFinite (Self.Bounded.remaining result) }
@@ -269,7 +270,7 @@ impl NomRange<usize> for RangeToInclusive<usize> {
     }
 }
 
-/// One count, and no other.
+/// Allows one count, and no other.
 impl NomRange<usize> for usize {
     type Saturating = Range<usize>;
 
@@ -305,7 +306,7 @@ impl NomRange<usize> for usize {
     }
 }
 
-/// The counts from 0 up to, not including, `most`.
+/// Returns the counts from 0 up to `most`, which is excluded.
 #[inline(always)]
 fn up_to(most: usize) -> Range<usize>
     ensures { CountsTo ⟦<Range<usize> as Iterator>⟧.next_gives (λ n. n) (Some most) result }
@@ -313,7 +314,7 @@ fn up_to(most: usize) -> Range<usize>
     0..most
 }
 
-/// The counts from 0 on.
+/// Returns the counts from 0 on, without end.
 #[inline(always)]
 fn endless() -> SaturatingIterator
     ensures { CountsTo ⟦<SaturatingIterator as Iterator>⟧.next_gives (λ n. n) None result }
@@ -321,7 +322,7 @@ fn endless() -> SaturatingIterator
     SaturatingIterator { count: 0 }
 }
 
-/// The counts from 0 up to, not including, the last before `end`.
+/// Returns the counts from 0 up to the last one before `end`, which is excluded.
 #[inline(always)]
 fn before(end: usize) -> Range<usize>
     ensures { CountsTo ⟦<Range<usize> as Iterator>⟧.next_gives (λ n. n) (Some (end - 1)) result }
@@ -329,7 +330,7 @@ fn before(end: usize) -> Range<usize>
     up_to(end.saturating_sub(1))
 }
 
-/// The counts from 0 up to, not including, the last of the range.
+/// Returns the counts from 0 up to the last one of the range, which is excluded.
 #[inline(always)]
 fn through(range: &RangeInclusive<usize>) -> Range<usize>
     ensures { CountsTo ⟦<Range<usize> as Iterator>⟧.next_gives (λ n. n) (Some (range_inclusive_end range.now)) result }
@@ -337,7 +338,7 @@ fn through(range: &RangeInclusive<usize>) -> Range<usize>
     up_to(*range.end())
 }
 
-/// The number as it is. A number behind a reference isn't known to fit.
+/// Returns `n` unchanged. A number behind a reference isn't known to fit.
 #[inline(always)]
 fn prove_known(n: usize) -> usize
     ensures same { result ≡ n }

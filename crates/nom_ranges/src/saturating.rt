@@ -1,7 +1,7 @@
 //! A count that never ends.
 ghost use Rattle.std.specs.Prelude.{◌≡◌, ◌+◌, ◌-◌, ◌^◌, min, Some};
 
-/// Counts on from `count`, and stays at `usize::MAX`.
+/// An iterator that counts on from `count`, and stays at `usize::MAX`.
 #[derive(Drop)]
 pub struct SaturatingIterator {
     pub count: usize,
