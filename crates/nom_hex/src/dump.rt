@@ -97,7 +97,7 @@ fn push_shown<A: Allocator>(dump: &mut Vec<u8, A>, bytes: &[u8]) -> Result<(), O
     Ok(())
 }
 
-/// Converts bytes to a text, with U+FFFD for each invalid sequence.
+/// Converts bytes to a text, with U+FFFD for bytes that are no character.
 pub(crate) fn lossy_text<A: Allocator>(alloc: A, bytes: &[u8]) -> Result<String<A>, OutOfMemory>
     ensures text { IfOk result (λ text. string_bytes text ≡ encode_utf8_all (lossy_chars bytes.now)) }
     ensures memory { OnErr result (0 < length bytes.now) }
