@@ -42,13 +42,12 @@ pub trait NomRange<Idx: ToUsize> {
     fn is_inverted(&self) -> bool
         ensures { IsTrue result ↔ (IsSpent self.now ⊎ IsInverted (lower self.now) (upper self.now)) };
 
-    /// Counts from 0 up to the maximum, which is excluded. Without an upper bound it stays at `usize::MAX`.
+    /// Counts from 0 up to, not including, the maximum. Without an upper bound it stays at `usize::MAX`.
     fn saturating_iter(&self) -> Self::Saturating
         ensures ready { Self.Saturating.can_next result }
         ensures counts { CountsTo Self.Saturating.next_gives Idx.size (most_items (upper self.now)) result };
 
-    /// Counts from 0 up to the maximum, which is excluded. Without an upper bound the maximum is
-    /// `usize::MAX`.
+    /// Counts from 0 up to, not including, the maximum, which is `usize::MAX` without an upper bound.
     fn bounded_iter(&self) -> Self::Bounded
         ensures ready { Self.Bounded.can_next result }
         ensures ends { IsFinite (Self.Bounded.remaining result) }
@@ -306,7 +305,7 @@ impl NomRange<usize> for usize {
     }
 }
 
-/// Returns the counts from 0 up to `most`, which is excluded.
+/// Returns the counts from 0 up to, not including, `most`.
 #[inline(always)]
 fn up_to(most: usize) -> Range<usize>
     ensures { CountsTo ⟦<Range<usize> as Iterator>⟧.next_gives (λ n. n) (Some most) result }
@@ -322,7 +321,7 @@ fn endless() -> SaturatingIterator
     SaturatingIterator { count: 0 }
 }
 
-/// Returns the counts from 0 up to the last one before `end`, which is excluded.
+/// Returns the counts from 0 up to, not including, the last one before `end`.
 #[inline(always)]
 fn before(end: usize) -> Range<usize>
     ensures { CountsTo ⟦<Range<usize> as Iterator>⟧.next_gives (λ n. n) (Some (end - 1)) result }
@@ -330,7 +329,7 @@ fn before(end: usize) -> Range<usize>
     up_to(end.saturating_sub(1))
 }
 
-/// Returns the counts from 0 up to the last one of the range, which is excluded.
+/// Returns the counts from 0 up to, not including, the last one of the range.
 #[inline(always)]
 fn through(range: &RangeInclusive<usize>) -> Range<usize>
     ensures { CountsTo ⟦<Range<usize> as Iterator>⟧.next_gives (λ n. n) (Some (range_inclusive_end range.now)) result }
