@@ -27,10 +27,14 @@ use nom_traits::view::Viewed;
 use std::alloc::{AllocError, Allocator};
 use std::fmt;
 
-/// An input, with its offset, line and column: how many bytes stand before it in the whole, and its line and its place in
-/// that line, both from 1 on, in bytes. The byte 10 ends a line. Each rest of it knows where it stands, and so does the
-/// input that an error keeps; a front stands where the whole does. All of them carry a label of the user's, `extra`, as the
-/// name of a file. Two are equal where the other four parts are, whatever their labels.
+/// An input with its offset, line and column.
+///
+/// The offset is the number of bytes before the input in the whole. The line and the column start at 1, and
+/// the column counts bytes. The byte 10 ends a line. Each rest of the input knows its own place, and so does
+/// the input that an error keeps. A prefix has the place of the input.
+///
+/// All of them carry a label of the user, `extra`, for example the name of a file. Two inputs are equal if
+/// the other four parts are equal, whatever their labels.
 #[derive(Debug)]
 #[derive_where(PartialEq, Eq, Hash; I)]
 pub struct Located<I: Items, X = ()> {
@@ -45,7 +49,7 @@ pub struct Located<I: Items, X = ()> {
 
 impl<I: Items, X: Copy> Copy for Located<I, X> {}
 
-/// Where it stands, as `LINE:COLUMN`.
+/// Writes the place as `LINE:COLUMN`.
 impl<I: Items, X> fmt::Display for Located<I, X> {
     ghost output = { λ x. Some (decimal x.line ++ codes ":" ++ decimal x.column) };
 
@@ -181,7 +185,7 @@ impl<I: ByteItems + CountItems, X: Copy> CountItems for Located<I, X> {
     }
 }
 
-/// Line and column after bytes, from those before them.
+/// Returns the line and the column after `bytes`, from those before them.
 // Each byte is read once, and where none of them ends a line there is one search.
 #[inline]
 fn line_after(bytes: &[u8], offset: usize, line: usize, column: usize) -> (usize, usize)
@@ -199,7 +203,7 @@ fn line_after(bytes: &[u8], offset: usize, line: usize, column: usize) -> (usize
     (line, column + (bytes.len() - at))
 }
 
-/// The first place from `start` on where a line ends.
+/// Returns the first place from `start` on at which a line ends.
 #[inline(always)]
 pub(crate) fn next_end(bytes: &[u8], start: usize) -> Option<usize>
     requires { start ≤ length bytes.now }
@@ -212,7 +216,7 @@ pub(crate) fn next_end(bytes: &[u8], start: usize) -> Option<usize>
 }
 
 impl<I: ByteItems> Located<I> {
-    /// An input at its start: offset 0, line 1, column 1. It has no label: that is `()`.
+    /// Returns an input at its start: offset 0, line 1, column 1. The label is `()`.
     #[inline(always)]
     pub fn new(fragment: I) -> Located<I>
         ensures { (result.fragment ≡ fragment) × (result.offset ≡ 0) × (result.line ≡ 1) × (result.column ≡ 1) }
@@ -222,7 +226,7 @@ impl<I: ByteItems> Located<I> {
 }
 
 impl<I: ByteItems, X: Copy> Located<I, X> {
-    /// An input at its start, with a label: offset 0, line 1, column 1.
+    /// Returns an input at its start, with a label: offset 0, line 1, column 1.
     #[inline(always)]
     pub fn new_extra(fragment: I, extra: X) -> Located<I, X>
         ensures { (result.fragment ≡ fragment) × (result.offset ≡ 0) × (result.line ≡ 1) × (result.column ≡ 1) × (result.extra ≡ extra) }
@@ -238,7 +242,7 @@ impl<I: ByteItems, X: Copy> Located<I, X> {
         }
     }
 
-    /// Its label.
+    /// Returns the label.
     #[inline(always)]
     pub fn extra(&self) -> X
         ensures { result ≡ self.now.extra }
@@ -246,7 +250,7 @@ impl<I: ByteItems, X: Copy> Located<I, X> {
         self.extra
     }
 
-    /// The same input at the same place, with what a function makes of its label.
+    /// Maps the label with `f`. The input and its place stay the same.
     #[inline(always)]
     pub fn map_extra<Y: Copy, F: FnOnce(X) -> Y>(self, f: F) -> Located<I, Y>
         requires { F.pre f self.extra }
@@ -263,7 +267,7 @@ impl<I: ByteItems, X: Copy> Located<I, X> {
         }
     }
 
-    /// What is left of the input.
+    /// Returns the input that is left.
     #[inline(always)]
     pub fn fragment(&self) -> I
         ensures { result ≡ self.now.fragment }
@@ -271,7 +275,9 @@ impl<I: ByteItems, X: Copy> Located<I, X> {
         self.fragment
     }
 
-    /// How many bytes stand before it in the whole. `offset`, of `Offset`, gives how many stand between it and a rest of it.
+    /// Returns the number of bytes before this input in the whole.
+    ///
+    /// `offset`, of `Offset`, returns the number of bytes between this input and a rest of it.
     #[inline(always)]
     pub fn location_offset(&self) -> usize
         ensures { result ≡ self.now.offset }
@@ -279,7 +285,7 @@ impl<I: ByteItems, X: Copy> Located<I, X> {
         self.offset
     }
 
-    /// Its line; the first is 1.
+    /// Returns the line. The first line is 1.
     #[inline(always)]
     pub fn line(&self) -> usize
         ensures { result ≡ self.now.line }
@@ -287,7 +293,7 @@ impl<I: ByteItems, X: Copy> Located<I, X> {
         self.line
     }
 
-    /// Its place in its line, in bytes; the first is 1.
+    /// Returns the column, in bytes. The first column is 1.
     #[inline(always)]
     pub fn column(&self) -> usize
         ensures { result ≡ self.now.column }
@@ -295,7 +301,8 @@ impl<I: ByteItems, X: Copy> Located<I, X> {
         self.column
     }
 
-    /// Its place in its line, in characters of UTF-8; the first is 1. `source` has the bytes of the whole, from the first on.
+    /// Returns the column, in characters of UTF-8. The first column is 1. `source` holds the bytes of the
+    /// whole, from the first one on.
     pub fn utf8_column(&self, source: &[u8]) -> usize
         requires { self.now.offset ≤ length source.now }
         ensures { IsUtf8Column source.now self.now.offset result }
@@ -404,7 +411,7 @@ impl<A: Allocator + Copy, I: ByteItems + ExtendInto<A>, X: Copy> ExtendInto<A> f
     ghost views = { λ x y h. I.ExtendInto.views x.fragment y.fragment (ap (λ p. p.1) h) };
 }
 
-/// An input at its start, as `new` makes it.
+/// Converts an input at its start, like `new`.
 impl<I: ByteItems> From<I> for Located<I> {
     ghost from_gives = { λ fragment at. (at.fragment ≡ fragment) × (place at.offset at.line at.column ≡ place 0 1 1) };
 
@@ -414,7 +421,7 @@ impl<I: ByteItems> From<I> for Located<I> {
     }
 }
 
-/// The tokens are those of the fragment.
+/// Searches the tokens of the fragment.
 impl<T: Value, I: ByteItems + FindToken<T>, X: Copy> FindToken<T> for Located<I, X> {
     ghost finds = { λ x t. I.finds x.fragment t };
 
@@ -429,7 +436,9 @@ impl<T: Value, I: ByteItems + FindToken<T>, X: Copy> FindToken<T> for Located<I,
     }
 }
 
-/// The fragment is dumped, with offsets from 0 on; by `to_hex_from` with its `location_offset` they are those of the whole.
+/// Dumps the fragment, with offsets from 0 on.
+///
+/// `to_hex_from` with the `location_offset` shows the offsets of the whole.
 impl<I: ByteItems + HexDisplay, X: Copy> HexDisplay for Located<I, X> {
     ghost bytes = { λ x. I.HexDisplay.bytes x.fragment };
 

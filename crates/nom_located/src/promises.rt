@@ -1,4 +1,4 @@
-//! What the place of an input promises. These functions do nothing: their contracts are the promises.
+//! Promises about the places of inputs. These functions do nothing: their contracts are the promises.
 ghost use Rattle.std.specs.Prelude.{◌≡◌, chars, count_by, length, take};
 ghost use Rattle.nom_traits.specs.Input.{IsPrefixOf, IsSuffixOf};
 ghost use Rattle.nom_located.specs.Lines.{begins_character};
@@ -8,9 +8,11 @@ use crate::located::Located;
 use nom_search::bytes::ByteItems;
 use nom_traits::input::{Input, Items};
 
-/// A rest stands after the bytes before it: their number is added to the offset, and to the line the number of
-/// them that are 10. Its column is 1 and the number of bytes after the last such; where there is none, it is the
-/// column before and the number of all.
+/// The place of a rest follows from the place of the input and the bytes before the rest.
+///
+/// Their number is added to the offset, and the number of those that are 10 is added to the line. The column
+/// is 1 plus the number of bytes after the last 10. If there is no such byte, the number of all bytes is
+/// added to the column.
 pub fn stands_after<I: Input + ByteItems, X: Copy>(
     input: Located<I, X>,
     _length: usize,
@@ -22,7 +24,7 @@ pub fn stands_after<I: Input + ByteItems, X: Copy>(
     input.prove_known();
 }
 
-/// A front stands where the whole does.
+/// A prefix has the place of the input.
 pub fn stands_there<I: Input + ByteItems, X: Copy>(
     _input: Located<I, X>,
     _length: usize,
@@ -32,7 +34,7 @@ pub fn stands_there<I: Input + ByteItems, X: Copy>(
     ensures { place _front.offset _front.line _front.column ≡ place _input.offset _input.line _input.column }
 {}
 
-/// A rest has the label of the whole.
+/// A rest has the label of the input.
 pub fn rest_keeps_extra<I: Input + ByteItems, X: Copy>(
     input: Located<I, X>,
     _length: usize,
@@ -44,7 +46,7 @@ pub fn rest_keeps_extra<I: Input + ByteItems, X: Copy>(
     input.prove_known();
 }
 
-/// A front has the label of the whole.
+/// A prefix has the label of the input.
 pub fn front_keeps_extra<I: Input + ByteItems, X: Copy>(
     _input: Located<I, X>,
     _length: usize,
@@ -54,7 +56,7 @@ pub fn front_keeps_extra<I: Input + ByteItems, X: Copy>(
     ensures { _front.extra ≡ _input.extra }
 {}
 
-/// In a text the bytes that begin a character are as many as its characters, so that `utf8_column` counts these.
+/// A text has as many bytes that begin a character as characters. `utf8_column` therefore counts characters.
 pub fn counts_characters(_text: &str)
     ensures { count_by begins_character _text.now ≡ length (chars _text.now) }
 {}

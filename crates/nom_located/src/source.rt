@@ -1,4 +1,4 @@
-//! Lines of a source, to be shown beside what stands in them.
+//! Lines of a source, to be shown around a place.
 ghost use Rattle.std.specs.Prelude.{◌≡◌, ◌+◌, ◌≤◌, count_by, length, slice_range};
 ghost use Rattle.nom_located.specs.Lines.{IsLineStart, IsLineStop, IsUtf8Column, begins_character};
 
@@ -8,14 +8,15 @@ use memchr::memrchr;
 /// A line of a source.
 #[derive(Clone, Copy, Debug, PartialEq, Eq)]
 pub struct Line<'a> {
-    /// How many bytes stand before it.
+    /// The number of bytes before the line.
     pub start: usize,
-    /// Its bytes, without the byte 10 that ends it.
+    /// The bytes of the line, without the byte 10 that ends it.
     pub text: &'a [u8],
 }
 
-/// The line of `source` in which the byte at `at` stands, or its last line where `at` is its length. A byte 10 stands in
-/// the line that it ends.
+/// Returns the line of `source` that contains the byte at `at`.
+///
+/// If `at` is the length of `source`, it returns the last line. A byte 10 belongs to the line that it ends.
 pub fn line_of(source: &[u8], at: usize) -> Line<'_>
     requires { at ≤ length source.now }
     ensures start { IsLineStart source.now at result.start }
@@ -30,7 +31,8 @@ pub fn line_of(source: &[u8], at: usize) -> Line<'_>
     }
 }
 
-/// The column of the byte at `at`, in characters of UTF-8: 1, and how many characters begin before it in its line.
+/// Returns the column of the byte at `at`, in characters of UTF-8. It is 1 plus the number of characters that
+/// begin before it in its line.
 pub(crate) fn column_in_characters(source: &[u8], at: usize) -> usize
     requires { at ≤ length source.now }
     ensures { IsUtf8Column source.now at result }
