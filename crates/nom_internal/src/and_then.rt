@@ -1,4 +1,4 @@
-//! One parser on what another one gives.
+//! A parser on the output of another one.
 ghost use Rattle.std.specs.Prelude.{true};
 ghost use Rattle.nom_error.specs.Modes.{with_outputs};
 ghost use Rattle.nom_internal.specs.Bounded.{and_then_of};
@@ -12,8 +12,10 @@ use nom_error::mode::{Emit, OutputM, OutputMode};
 use nom_traits::input::Items;
 use nom_traits::view::Viewed;
 
-/// A parser, and another one on its output alone, whose rest is dropped. The second may be any parser: it
-/// sees all of its input, whatever follows.
+/// The parser that `and_then` returns. It runs the second parser on the output of the first alone.
+///
+/// The rest of the second is dropped. The second may be any parser. It sees all of its input, whatever
+/// follows.
 #[derive(Drop)]
 pub struct AndThen<F, G> {
     pub first: F,

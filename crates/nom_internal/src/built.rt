@@ -1,11 +1,11 @@
-//! Values that are built only where a mode asks for them.
+//! Values that are built only if a mode requires them.
 ghost use Rattle.std.specs.Prelude.{◌≡◌, true, IsSome, MatchResult, Some};
 ghost use Rattle.nom_error.specs.Modes.{Built};
 
 use nom_error::answer::OutOfMemory;
 use nom_error::mode::Mode;
 
-/// A value, where values are built.
+/// Returns the value if values are built.
 #[inline(always)]
 pub fn built<M: Mode, T: Drop>(value: T) -> Option<T>
     ensures { Built M.BUILDS (λ x. x ≡ value) result }
@@ -13,7 +13,7 @@ pub fn built<M: Mode, T: Drop>(value: T) -> Option<T>
     if M::BUILDS { Some(value) } else { None }
 }
 
-/// A clone of a value, where values are built.
+/// Returns a clone of the value if values are built.
 #[inline(always)]
 pub fn cloned<M: Mode, T: Clone>(value: &T) -> Result<Option<T>, OutOfMemory>
     ensures { MatchResult result (Built M.BUILDS (T.is_clone value.now)) (λ _. (M.BUILDS ≡ true) × ¬ (T.is_infallible value.now)) }
@@ -28,7 +28,7 @@ pub fn cloned<M: Mode, T: Clone>(value: &T) -> Result<Option<T>, OutOfMemory>
     }
 }
 
-/// A value that was built.
+/// Returns a value that was built.
 #[inline(always)]
 pub fn emitted<T>(value: Option<T>) -> T
     requires { IsSome value }

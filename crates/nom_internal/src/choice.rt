@@ -1,4 +1,4 @@
-//! Choices, and the errors that are joined and closed in them.
+//! Choices, and how they join and close errors.
 ghost use Rattle.std.specs.Prelude.{◌≡◌};
 ghost use Rattle.nom_error.specs.Modes.{modes};
 ghost use Rattle.nom_internal.specs.Choice.{OnError, JoinsErrors, ClosesError, JoinsResult, ClosesResult, ShowsNext};
@@ -11,7 +11,7 @@ use nom_error::mode::OutputMode;
 use nom_error::value::ParseError;
 use nom_traits::input::Items;
 
-/// Two errors, joined where they are built.
+/// Joins two errors if they are built, and returns the refusal.
 #[inline(always)]
 pub fn join_errors<I, E: ParseError<I>>(first: Option<E>, second: Option<E>) -> Err<E, Option<E>>
     ensures { JoinsErrors E.errors.joined E.errors.grows first second result }
@@ -28,7 +28,7 @@ pub fn join_errors<I, E: ParseError<I>>(first: Option<E>, second: Option<E>) -> 
     }
 }
 
-/// A result, where a refusal's error is joined to one before it.
+/// Joins the error of a refusal to an error before it. Any other answer is passed on.
 #[inline(always)]
 pub fn join<I, T, E: ParseError<I>>(
     first: Option<E>,
@@ -45,7 +45,7 @@ pub fn join<I, T, E: ParseError<I>>(
     }
 }
 
-/// What a branch answers after a refusal with an error.
+/// Runs a branch after a refusal with an error.
 #[inline(always)]
 pub fn after_refusal<I: Items, P: Parser<I>, OM: OutputMode>(
     error: Option<P::Error>,
@@ -61,7 +61,7 @@ pub fn after_refusal<I: Items, P: Parser<I>, OM: OutputMode>(
     join(error, next.process::<OM>(input))
 }
 
-/// What a branch answers after those before it: it is tried only where they refuse.
+/// Runs a branch after those before it. It is tried only if they refuse.
 #[inline(always)]
 pub fn next_branch<I: Items, P: Parser<I>, OM: OutputMode>(
     before: PResult<I, P::Output, P::Error>,
@@ -85,7 +85,7 @@ pub fn next_branch<I: Items, P: Parser<I>, OM: OutputMode>(
     }
 }
 
-/// An error, closed at an input where it is built.
+/// Closes an error at an input if it is built, and returns the refusal.
 #[inline(always)]
 pub fn close_error<I: Drop, E: ParseError<I>>(
     error: Option<E>,
@@ -103,7 +103,7 @@ pub fn close_error<I: Drop, E: ParseError<I>>(
     }
 }
 
-/// A result, where a refusal's error is closed at an input.
+/// Closes the error of a refusal at an input. Any other answer is passed on.
 #[inline(always)]
 pub fn close<I: Drop, T, E: ParseError<I>>(
     answer: Result<T, Err<E, Option<E>>>,

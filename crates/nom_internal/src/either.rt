@@ -9,7 +9,9 @@ use nom_error::answer::PResult;
 use nom_error::mode::OutputMode;
 use nom_traits::input::Items;
 
-/// A parser, and where it refuses another one; where both refuse, their errors joined by `or`.
+/// The parser that `or` returns. It runs the second parser if the first refuses.
+///
+/// If both refuse, their errors are joined by `or`.
 #[derive(Drop)]
 pub struct Or<F, G> {
     pub first: F,

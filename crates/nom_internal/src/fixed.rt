@@ -9,7 +9,7 @@ use nom_error::mode::{IsStreaming, OutputM, OutputMode, Streaming};
 use nom_traits::input::Items;
 use std::marker::PhantomData;
 
-/// A parser that runs in the mode `S`, whatever mode is asked for.
+/// A parser that always runs in the mode `S`, whatever mode is requested.
 #[derive(Drop)]
 pub struct Fixed<P, S> {
     pub parser: P,

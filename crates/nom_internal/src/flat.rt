@@ -1,4 +1,4 @@
-//! Outputs that are gathered in nested pairs, and their tuple.
+//! Outputs gathered in nested pairs, and their conversion to a tuple.
 ghost use Rattle.std.specs.Prelude.{◌≡◌, Option, Some, None, refl};
 
 /// The first output.
@@ -7,7 +7,7 @@ pub struct One<A> {
     pub member: A,
 }
 
-/// Nested pairs of outputs, which a tuple of 1 to 8 is made of.
+/// Nested pairs of outputs, from which a tuple of 1 to 8 is made.
 pub trait Flat: Sized {
     type Tuple: Drop;
 
@@ -22,7 +22,7 @@ pub trait Flat: Sized {
     ghost same: { (v : Self) → pairs (flatten v) ≡ v };
 }
 
-/// Outputs that are built, made flat.
+/// Flattens outputs that are built.
 #[inline(always)]
 pub fn made_flat<N: Flat>(nested: Option<N>) -> Option<N::Tuple>
     ensures some { (v : N) → nested ≡ Some v → result ≡ Some (N.flatten v) }

@@ -1,4 +1,4 @@
-//! Parsers that closures give.
+//! Parsers that closures return.
 ghost use Rattle.std.specs.Prelude.{true};
 ghost use Rattle.nom_error.specs.Modes.{with_outputs};
 ghost use Rattle.nom_internal.specs.FlatMap.{maker, OfEachGiven, flat_map_by};
@@ -10,7 +10,7 @@ use nom_error::answer::PResult;
 use nom_error::mode::{Emit, OutputM, OutputMode};
 use nom_traits::input::Items;
 
-/// A parser, and on the rest the one that a closure gives for its output.
+/// The parser that `flat_map` returns. On the rest it runs the parser that a closure returns for the output.
 #[derive(Drop)]
 pub struct FlatMap<F, G> {
     pub first: F,

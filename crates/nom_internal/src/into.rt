@@ -11,15 +11,16 @@ use nom_traits::input::Items;
 use nom_traits::view::Viewed;
 use std::marker::PhantomData;
 
-/// A parser whose outputs are converted to `O`, and whose errors to `E`, each by `From`; made by `into`.
-/// An output is converted only where outputs are built, and a refusal's error only where errors are.
+/// The parser that `into` returns. It converts outputs to `O` and errors to `E`, each by `From`.
+///
+/// An output is converted only if outputs are built, and the error of a refusal only if errors are built.
 #[derive(Drop)]
 pub struct Into<F, O, E> {
     pub parser: F,
     pub of: PhantomData<(O, E)>,
 }
 
-/// A value, converted where it is there.
+/// Converts a value if it is built.
 #[inline(always)]
 fn converted<T: Drop, U: From<T>>(value: Option<T>) -> Option<U>
     ensures { ConvertsSome U.from_gives value result }
@@ -30,7 +31,7 @@ fn converted<T: Drop, U: From<T>>(value: Option<T>) -> Option<U>
     }
 }
 
-/// An answer, with its output and its error converted.
+/// Converts the output and the error of an answer.
 #[inline(always)]
 fn converted_answer<I, T: Drop, U: From<T>, E: Drop, F: From<E>>(
     answer: PResult<I, T, E>,

@@ -1,4 +1,4 @@
-//! Parsers whose acceptances a closure judges by what it makes of the output.
+//! Parsers whose acceptances a closure judges by its result for the output.
 ghost use Rattle.std.specs.Prelude.{true, Some, Ok};
 ghost use Rattle.nom_error.specs.Answers.{Refuses};
 ghost use Rattle.nom_error.specs.Modes.{with_outputs};
@@ -18,8 +18,9 @@ use nom_error::value::refusal;
 use nom_traits::input::Items;
 use nom_traits::view::Viewed;
 
-/// A parser whose outputs a closure maps, or refuses; made by `map_opt`. The parser's outputs are always
-/// built, since the closure judges them.
+/// The parser that `map_opt` returns. A closure maps its outputs, or refuses them.
+///
+/// The outputs of the inner parser are always built, because the closure judges them.
 #[derive(Drop)]
 pub struct MapOpt<F, G> {
     pub parser: F,
@@ -73,7 +74,7 @@ impl<
     ghost steady = { λ s k. judged_steady k.1 (F.steady s.0 k.0) };
 }
 
-/// A refusal with an error that is made of another, where errors are built.
+/// Returns a refusal with an error that is made of another, if errors are built.
 #[inline(always)]
 fn outside_refusal<M: Mode, I: Drop, X: Drop, E: FromExternalError<I, X> + Drop>(
     input: I,
@@ -92,8 +93,9 @@ fn outside_refusal<M: Mode, I: Drop, X: Drop, E: FromExternalError<I, X> + Drop>
     }
 }
 
-/// A parser whose outputs a closure maps, or refuses with an error; made by `map_res`. The parser's
-/// outputs are always built, since the closure judges them.
+/// The parser that `map_res` returns. A closure maps its outputs, or refuses them with an error.
+///
+/// The outputs of the inner parser are always built, because the closure judges them.
 #[derive(Drop)]
 pub struct MapRes<F, G> {
     pub parser: F,

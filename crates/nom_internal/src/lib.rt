@@ -1,6 +1,7 @@
-//! Parsers: what they mean, their laws and promises, slices of their inputs, sequences of two, tuples,
-//! choices, closures on their outputs, parsers on what another one gives, parsers that closures give, and
-//! parsers in one mode.
+//! Parsers: their meaning, their laws and their promises.
+//!
+//! The other modules cover slices of inputs, sequences of two, tuples, choices, and closures on outputs. They
+//! also cover parsers on the output of another one, parsers that closures return, and parsers in one mode.
 #![tactic(auto)]
 
 pub mod and_then;

@@ -9,8 +9,7 @@ use nom_error::mode::OutputMode;
 use nom_traits::input::Items;
 use nom_traits::view::Viewed;
 
-/// A parser whose outputs a closure maps; made by `map`. The closure is called only where outputs are
-/// built.
+/// The parser that `map` returns. A closure maps its outputs, and is called only if outputs are built.
 #[derive(Drop)]
 pub struct Map<F, G> {
     pub parser: F,

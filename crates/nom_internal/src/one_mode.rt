@@ -4,7 +4,7 @@ ghost use Rattle.std.specs.Prelude.{◌≡◌};
 use crate::fixed::Fixed;
 use std::marker::PhantomData;
 
-/// The parser in the mode `S`, whatever mode is asked for.
+/// Returns the parser in the mode `S`, whatever mode is requested.
 #[inline(always)]
 pub fn fixed<P, S>(parser: P) -> Fixed<P, S>
     ensures { result.parser ≡ parser }

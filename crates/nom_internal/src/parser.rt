@@ -21,32 +21,35 @@ use nom_traits::input::Items;
 use nom_traits::view::Viewed;
 use std::marker::PhantomData;
 
-/// A parser over inputs of type `I`: it means one fixed function from a mode, streaming or complete,
-/// and an input to an outcome, and `process` shows that outcome.
+/// A parser over inputs of type `I`.
+///
+/// Its meaning is one fixed function from a mode, streaming or complete, and an input to an outcome.
+/// `process` shows that outcome.
 pub trait Parser<I: Items>: Sized {
-    /// What an acceptance gives.
+    /// The output of an acceptance.
     type Output: Drop;
 
-    /// What a refusal or a failure gives.
+    /// The error of a refusal or a failure.
     type Error: ParseError<I>;
 
-    /// What of the parser its meaning depends on.
+    /// The part of the parser on which its meaning depends.
     ghost State: { Type 0 };
 
     ghost state: { Self → State };
 
-    /// The parse trees of what is accepted.
+    /// The parse trees of accepted input.
     ghost Tree: { Type 0 };
 
-    /// Its grammar: what it means, and which outputs a tree stands for.
+    /// The grammar of the parser: its meaning, and the outputs that a tree represents.
     ghost grammar: { State → Grammar I Tree Self.Output Self.Error };
 
-    /// What a call owes besides its outcome, by the mode, the parser before and after, the input, and the
-    /// rest that is accepted.
+    /// What a call must prove in addition to its outcome. It depends on the mode, the parser before and
+    /// after, the input, and the accepted rest.
     ghost Besides: { Modes → Self → Self → I → Option I → Type 0 } = { λ _ _ _ _ _. Unit {0} };
 
-    /// Runs the parser in the mode `OM`: builds the output and the error only where it asks for them,
-    /// and answers as it says whether more input may come.
+    /// Runs the parser in the mode `OM`.
+    ///
+    /// The mode determines whether the output and the error are built, and whether more input may come.
     fn process<OM: OutputMode>(&mut self, input: I) -> PResult<I, Self::Output, Self::Error>
         requires runs { (grammar (state self.old)).meaning.Runs }
         ensures shown { Shows I.model (grammar (state self.old)) (modes OM.Output.BUILDS OM.Error.BUILDS OM.Incomplete.STREAMING) input result }
@@ -54,12 +57,16 @@ pub trait Parser<I: Items>: Sized {
         ensures kept { state self.new ≡ state self.old }
         ensures besides { Besides (modes OM.Output.BUILDS OM.Error.BUILDS OM.Incomplete.STREAMING) self.old self.new input (rest_of result) };
 
-    /// Of a sound parser: one outcome for each mode and input, fronts alone accepted, memory that never runs out
-    /// where it is frugal, where it settles, decided streaming outcomes that are the complete ones, and no
-    /// failure where it never fails.
+    /// The laws of a sound parser.
+    ///
+    /// - Each mode and input has one outcome.
+    /// - Only prefixes of the input are accepted.
+    /// - If the parser is frugal, memory never runs out.
+    /// - If the parser settles, decided streaming outcomes are the complete ones.
+    /// - If the parser never fails, there is no failure.
     ghost lawful: { (s : State) → (grammar s).meaning.IsSound → IsLawful I.model (grammar s).meaning };
 
-    /// Parses an input of which more may come.
+    /// Parses an input in streaming mode: more input may come.
     #[inline(always)]
     final fn parse(&mut self, input: I) -> IResult<I, Self::Output, Self::Error>
         requires runs { (grammar (state self.old)).meaning.Runs }
@@ -72,7 +79,7 @@ pub trait Parser<I: Items>: Sized {
         full(self.process::<OutputM<Emit, Emit, Streaming>>(input))
     }
 
-    /// Parses an input that is complete.
+    /// Parses an input in complete mode: no more input comes.
     #[inline(always)]
     final fn parse_complete(&mut self, input: I) -> IResult<I, Self::Output, Self::Error>
         requires runs { (grammar (state self.old)).meaning.Runs }
@@ -84,7 +91,7 @@ pub trait Parser<I: Items>: Sized {
         full(self.process::<OutputM<Emit, Emit, Complete>>(input))
     }
 
-    /// This parser, and then another, with both outputs.
+    /// Runs this parser and then another, and returns both outputs.
     final fn and<G: Parser<I, Error = Self::Error>>(self, second: G) -> And<Self, G>
         ensures first { result.first ≡ self }
         ensures second { result.second ≡ second }
@@ -95,7 +102,7 @@ pub trait Parser<I: Items>: Sized {
         }
     }
 
-    /// This parser, and on the rest the one that a closure gives for its output.
+    /// Runs this parser, and then on the rest the parser that a closure returns for its output.
     #[inline(always)]
     final fn flat_map<H: Parser<I, Error = Self::Error>, G: Fn(Self::Output) -> H>(
         self,
@@ -107,7 +114,7 @@ pub trait Parser<I: Items>: Sized {
         FlatMap { first: self, make }
     }
 
-    /// This parser, and where it refuses another one.
+    /// Runs this parser, and another one if it refuses.
     #[inline(always)]
     final fn or<G: Parser<I, Output = Self::Output, Error = Self::Error>>(
         self,
@@ -122,7 +129,8 @@ pub trait Parser<I: Items>: Sized {
         }
     }
 
-    /// This parser, and another on its output alone: the other's output, and this one's rest.
+    /// Runs this parser, and another one on its output alone. It returns the output of the other, and the
+    /// rest of this one.
     #[inline(always)]
     final fn and_then<G: Parser<Self::Output, Error = Self::Error>>(
         self,
@@ -140,8 +148,7 @@ pub trait Parser<I: Items>: Sized {
         }
     }
 
-    /// This parser, with what a closure gives for its output. The closure is called only where outputs are
-    /// built.
+    /// Maps the output of this parser with a closure. The closure is called only if outputs are built.
     #[inline(always)]
     final fn map<O: Drop, G: Fn(Self::Output) -> O>(self, map: G) -> Map<Self, G>
         ensures parser { result.parser ≡ self }
@@ -150,8 +157,9 @@ pub trait Parser<I: Items>: Sized {
         Map { parser: self, map }
     }
 
-    /// This parser, with what a closure gives for its output. Where that is `None`, the input is refused at
-    /// its start, with `MapOpt`.
+    /// Maps the output of this parser with a closure.
+    ///
+    /// If the closure returns `None`, the input is refused at its start with `MapOpt`.
     #[inline(always)]
     final fn map_opt<O: Drop, G: Fn(Self::Output) -> Option<O>>(self, map: G) -> MapOpt<Self, G>
         ensures parser { result.parser ≡ self }
@@ -160,8 +168,10 @@ pub trait Parser<I: Items>: Sized {
         MapOpt { parser: self, map }
     }
 
-    /// This parser, with what a closure gives for its output. Where that is an error, the input is refused
-    /// at its start, with the error that `from_external_error` makes of it with `MapRes`.
+    /// Maps the output of this parser with a closure.
+    ///
+    /// If the closure returns an error, the input is refused at its start. `from_external_error` makes the
+    /// error of the refusal from it, with `MapRes`.
     #[inline(always)]
     final fn map_res<O: Drop, X: Drop, G: Fn(Self::Output) -> Result<O, X>>(
         self,
@@ -175,7 +185,7 @@ pub trait Parser<I: Items>: Sized {
         MapRes { parser: self, map }
     }
 
-    /// This parser, with its output and its error converted by `From`.
+    /// Converts the output and the error of this parser by `From`.
     #[inline(always)]
     final fn into<O: From<Self::Output>, E: From<Self::Error>>(self) -> Into<Self, O, E>
         ensures { result.parser ≡ self }
@@ -187,26 +197,26 @@ pub trait Parser<I: Items>: Sized {
     }
 }
 
-/// A parser whose decided streaming outcomes stay on every longer input, and whose outputs are compared
-/// by a view.
+/// A parser whose decided streaming outcomes hold on every longer input. Its outputs are compared by a view.
 pub trait StreamParser<I: Items>: Parser<I, Output: Viewed> {
-    /// Where the outputs that a tree stands for are equal as viewed: closures answer arguments that are equal
-    /// as viewed by results that are.
+    /// The condition under which the outputs that a tree represents have equal views.
+    ///
+    /// It is that closures return results with equal views for arguments with equal views.
     ghost Pins: { Self → Type 0 };
 
-    /// Does nothing: a parser is called by `Parser`.
+    /// Does nothing. A parser is called through `Parser`.
     #[inline(always)]
     fn streams(&self) {}
 
-    /// Where it pins, two outputs of one tree are equal as viewed.
+    /// If the parser pins, two outputs of one tree have equal views.
     ghost pinned: { (p : Self) → (Self.grammar (Self.state p)).meaning.IsSound → Self.StreamParser.Pins p →
         IsPinned Self.Output.view (Self.grammar (Self.state p)).IsOutput };
 
-    /// A decided streaming outcome stays on every longer input.
+    /// A decided streaming outcome holds on every longer input.
     ghost steady: { (s : Self.State) → (Self.grammar s).meaning.IsSound → IsSteady I.model (Self.grammar s).meaning };
 }
 
-/// A result in which outputs and errors are built, without their options.
+/// Removes the options from a result in which outputs and errors are built.
 #[inline(always)]
 pub fn full<I: Drop, O: Drop, E: Drop>(answer: PResult<I, O, E>) -> IResult<I, O, E>
     requires { IsFull answer }

@@ -8,7 +8,7 @@ use nom_error::answer::PResult;
 use nom_error::mode::OutputMode;
 use nom_traits::input::Items;
 
-/// Two values that are built together, as a pair.
+/// Combines two values that are built together into a pair.
 #[inline(always)]
 pub fn combine<A: Drop, B: Drop>(first: Option<A>, second: Option<B>) -> Option<(A, B)>
     ensures both { (a : A) (b : B) → first ≡ Some a → second ≡ Some b → result ≡ Some (a, b) }
@@ -20,7 +20,7 @@ pub fn combine<A: Drop, B: Drop>(first: Option<A>, second: Option<B>) -> Option<
     }
 }
 
-/// One parser after another, with both outputs.
+/// The parser that `and` returns. It runs one parser after another, and returns both outputs.
 #[derive(Drop)]
 pub struct And<F, G> {
     pub first: F,

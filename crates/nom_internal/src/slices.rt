@@ -7,7 +7,7 @@ ghost use Rattle.nom_traits.specs.Slices.{Slice, IsFirst, IsModelledBy};
 use nom_error::mode::Mode;
 use nom_traits::input::Input;
 
-/// The first items of an input, of length `n`, where outputs are built.
+/// Returns the first items of an input, of total length `n`, if outputs are built.
 #[inline(always)]
 pub fn front<M: Mode, I: Input>(input: I, n: usize) -> Option<I>
     requires { IsBoundary I.model input n }
@@ -16,7 +16,7 @@ pub fn front<M: Mode, I: Input>(input: I, n: usize) -> Option<I>
     if M::BUILDS { Some(input.take(n)) } else { None }
 }
 
-/// The items of an input before a rest of it, where outputs are built.
+/// Returns the items of an input before a rest of it, if outputs are built.
 #[inline(always)]
 pub fn before<M: Mode, I: Input>(input: I, rest: I) -> Option<I>
     requires { (n : ℕ) × IsSuffixOf I.model input n rest }

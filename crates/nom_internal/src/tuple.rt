@@ -1,5 +1,7 @@
-//! Tuples of up to four parsers, and the step by which a member of a tuple of any width is run. The members run in
-//! sequence. As in nom a member builds its output in every mode, and the tuple drops what isn't asked for.
+//! Tuples of up to four parsers, and the step that runs a member of a tuple of any width.
+//!
+//! The members run in sequence. As in nom, a member builds its output in every mode. The tuple drops the
+//! outputs that aren't required.
 ghost use Rattle.std.specs.Prelude.{◌≡◌, true};
 ghost use Rattle.std.proofs.Common.{refl};
 ghost use Rattle.nom_error.specs.Modes.{modes, with_outputs};
@@ -16,7 +18,7 @@ use nom_error::answer::{Err, PResult};
 use nom_error::mode::{Emit, OutputM, OutputMode};
 use nom_traits::input::Items;
 
-/// What a member answers. Its output is built in every mode.
+/// Runs a member. Its output is built in every mode.
 #[inline(always)]
 pub fn member<I: Items, P: Parser<I>, OM: OutputMode>(
     part: &mut P,
