@@ -11,7 +11,7 @@ pub fn stays_on_longer<I: Items, P: StreamParser<I>>(_parser: &P)
     ensures { StaysOnLonger I.model (P.grammar (P.state _parser.now)).meaning }
 {}
 
-/// The answer of `parse` on an input determines its answer on every input that extends it.
+/// The answers of `parse` on an input and on an input that extends it agree.
 ///
 /// - An acceptance stays an acceptance of the same length. If the parser pins, the outputs have equal views.
 /// - A refusal stays a refusal.
