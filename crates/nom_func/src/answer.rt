@@ -1,4 +1,4 @@
-//! The answers of parsers, with what makes a function of them a parser again.
+//! The answers of parsers, with contracts that make a function of them a parser again.
 ghost use Rattle.std.specs.Prelude.{◌≡◌, true, false};
 ghost use Rattle.nom_internal.specs.Prelude.{modes, NeverTooLarge, rest_of};
 ghost use Rattle.nom_func.specs.Func.{AnswersBy, StreamsBy};
@@ -7,7 +7,9 @@ use nom_error::answer::IResult;
 use nom_internal::parser::{Parser, StreamParser};
 use nom_traits::input::Items;
 
-/// What a parser answers of a complete input, as `parse_complete`; a function that ensures this is sound in `func`.
+/// Runs a parser on a complete input, like `parse_complete`.
+///
+/// A function that ensures this answer is sound in `func`.
 #[inline(always)]
 pub fn answer<I: Items, P: StreamParser<I>>(
     parser: &mut P,
@@ -23,8 +25,9 @@ pub fn answer<I: Items, P: StreamParser<I>>(
     parser.parse_complete(input)
 }
 
-/// What a parser answers of an input of which more may come, as `parse`; a function that ensures this is sound in
-/// `stream_func`, and in `func`.
+/// Runs a parser on an input of which more may come, like `parse`.
+///
+/// A function that ensures this answer is sound in `stream_func`, and in `func`.
 #[inline(always)]
 pub fn stream_answer<I: Items, P: StreamParser<I>>(
     parser: &mut P,

@@ -12,14 +12,14 @@ use nom_traits::rests::CutRest;
 use nom_traits::view::Viewed;
 use std::marker::PhantomData;
 
-/// A function as a parser; made by `func`.
+/// The parser that `func` returns.
 #[derive(Drop)]
 pub struct Func<F, I, O, E> {
     pub f: F,
     pub of: PhantomData<(I, O, E)>,
 }
 
-/// The failure of a function that left what is as long as no rest.
+/// Returns the failure of a function whose rest has a length that no rest of the input has.
 #[cold]
 fn no_rest<I: Drop, E: ParseError<I>>(input: I) -> Err<E, Option<E>>
     ensures { IsNoRestAt E.errors input result }
@@ -30,7 +30,7 @@ fn no_rest<I: Drop, E: ParseError<I>>(input: I) -> Err<E, Option<E>>
     }
 }
 
-/// What is answered for an acceptance that left an input: the rest is cut anew.
+/// Returns the answer for an acceptance that left an input. The rest is cut from the input again.
 #[inline(always)]
 fn accepted<M: Mode, I: CutRest, O: Drop, E: ParseError<I>>(
     input: I,
@@ -74,7 +74,7 @@ impl<I: CutRest, O: Viewed + Drop, E: ParseError<I>, F: Fn(I) -> IResult<I, O, E
     ghost lawful = { λ f. func_lawful I.model O.view (F.post f) E.errors (F.pre f) };
 }
 
-/// A function as a stream parser; made by `stream_func`.
+/// The stream parser that `stream_func` returns.
 #[derive(Drop)]
 pub struct StreamFunc<F, I, O, E> {
     pub func: Func<F, I, O, E>,

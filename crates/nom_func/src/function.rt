@@ -5,14 +5,17 @@ use crate::func::{Func, StreamFunc};
 use nom_error::answer::IResult;
 use std::marker::PhantomData;
 
-/// A function or closure as a parser, alike in both modes: its answer, with what isn't asked for dropped.
+/// Converts a function or closure to a parser.
 ///
-/// It asks that the function may be called with every input, and nothing else. What an acceptance leaves tells a length
-/// alone: the rest is cut from the input where that much follows. An acceptance that leaves what is as long as no rest of the
-/// input is a failure of the kind `Fail`.
+/// The parser answers as the function does, the same in both modes. It drops values that the mode doesn't
+/// require.
 ///
-/// Its laws ask more: that the function answers inputs that are equal as models by one outcome, as outputs are compared. So do
-/// all functions of this library.
+/// The function must be callable with every input. Nothing else is required. Only the length of the rest that
+/// the function leaves is used. The parser cuts a rest of that length from the input. If the input has no
+/// rest of that length, the parser fails with `Fail`.
+///
+/// The laws of the parser require more. The function must answer inputs that are equal as models with one
+/// outcome, as outputs are compared. All functions of this library do so.
 #[inline(always)]
 pub fn func<I, O, E, F: Fn(I) -> IResult<I, O, E>>(f: F) -> Func<F, I, O, E>
     ensures { result.f ≡ f }
@@ -20,8 +23,10 @@ pub fn func<I, O, E, F: Fn(I) -> IResult<I, O, E>>(f: F) -> Func<F, I, O, E>
     Func { f, of: PhantomData }
 }
 
-/// A function or closure as a stream parser, as `func`. It asks as little; its laws ask moreover that what the function
-/// decides on an input, it decides on every longer one.
+/// Converts a function or closure to a stream parser, like `func`.
+///
+/// It requires no more than `func`. Its laws also require that every decision of the function on an input
+/// holds on every longer input.
 #[inline(always)]
 pub fn stream_func<I, O, E, F: Fn(I) -> IResult<I, O, E>>(f: F) -> StreamFunc<F, I, O, E>
     ensures { result.func.f ≡ f }
