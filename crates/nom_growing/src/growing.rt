@@ -8,16 +8,16 @@ use nom_error::answer::{Err, IResult};
 use nom_internal::parser::StreamParser;
 use nom_traits::input::Input;
 
-/// What a parser answers on an input that grows, and where.
+/// The answer of a parser on an input that grows, and the cut at which it was decided.
 #[derive(Drop)]
 pub struct Grown<I, O, E> {
-    /// The index of the cut whose beginning was decided; the number of cuts stands for the whole.
+    /// The index of the cut whose beginning was decided. The number of cuts represents the whole input.
     pub index: usize,
-    /// The answer there, an acceptance with the rest of the whole input.
+    /// The answer at that cut. An acceptance has the rest of the whole input.
     pub result: IResult<I, O, E>,
 }
 
-/// Whether an answer asks for more input.
+/// Returns whether an answer needs more input.
 #[inline(always)]
 fn waits<I, O, E>(answer: &IResult<I, O, E>) -> bool
     ensures { MatchBool result (AsksForMore answer.now) (AsksForMore answer.now → ⊥) }
@@ -28,7 +28,7 @@ fn waits<I, O, E>(answer: &IResult<I, O, E>) -> bool
     }
 }
 
-/// The answer on a beginning, with the rest of the whole.
+/// Returns the answer on a beginning, with the rest of the whole.
 #[inline(always)]
 fn in_whole<I: Input, O: Drop, E: Drop>(
     beginning: I,
@@ -44,8 +44,9 @@ fn in_whole<I: Input, O: Drop, E: Drop>(
     Ok((whole.take_from(n), output))
 }
 
-/// Parses the beginnings of `whole` at `cuts` in turn, until the answer on one isn't that more is
-/// needed, and then the whole. The cuts are places of `whole`; no cuts at all are fine.
+/// Parses the beginnings of `whole` at `cuts` in turn, until an answer doesn't need more input.
+///
+/// If every beginning needs more, it parses the whole. The cuts are places of `whole`. There may be no cuts.
 pub fn parse_growing<I: Input, P: StreamParser<I> + Drop>(
     mut parser: P,
     whole: I,
