@@ -1,4 +1,4 @@
-//! What is accumulated of items.
+//! Accumulators of items.
 ghost use Rattle.std.specs.Prelude.{◌≡◌, ◌+◌, ◌%◌, ◌^◌, ◌≤◌, ◌++◌, ◌∷◌, [], OnOk, OnErr, vec_len, vec_capacity};
 ghost use Rattle.nom_internal.specs.Prelude.{Built};
 ghost use Rattle.nom_repeat.specs.Accumulated.{PushesBoth, LacksRoom};
@@ -8,26 +8,29 @@ use nom_error::mode::Mode;
 use std::alloc::Allocator;
 use std::mem::size_of_val;
 
-/// How many bytes of room a list gets with its first item. So a short list of small items is allocated once, where a
-/// list that doubles from 4 items is allocated again and again.
+/// The number of bytes for which a list gets room with its first item.
+///
+/// A short list of small items is then allocated once. A list that doubles from 4 items is allocated again
+/// and again.
 const FIRST_ROOM: usize = 64;
 
-/// How many items a list gets room for at its first push anyway.
+/// The number of items for which a list gets room at its first push in any case.
 const LEAST_ROOM: usize = 4;
 
-/// How many items a list of a number that is known gets room for ahead, at most. The number may be one that the input
-/// claims, and no item of it has been read.
+/// The maximum number of items for which a list of known length gets room in advance.
+///
+/// The length may be one that the input claims, while none of its items has been read.
 const MOST_AHEAD: usize = 1024;
 
-/// An accumulator of items of type `T`: a list, a number, the value of a fold.
+/// An accumulator of items of type `T`: a list, a number, or the value of a fold.
 pub trait Accumulator<T> {
-    /// What one more item makes of it.
+    /// The accumulator after one more item.
     ghost Pushes: { Self → T → Self → Type 0 };
 
-    /// The premise: what is called to push an item may be called.
+    /// The premise of a push: everything that is called to push an item may be called.
     ghost CanPush: { Self → Type 0 };
 
-    /// There is no room for an item but by more memory.
+    /// There is no room for an item without more memory.
     ghost IsFull: { Self → Type 0 };
 
     /// Accumulating items may take memory.
@@ -35,7 +38,7 @@ pub trait Accumulator<T> {
 
     ghost fills: { (k : Self) → IsFull k → Grows };
 
-    /// Pushes an item. Memory may run out only where there is no room.
+    /// Pushes an item. Memory may run out only if there is no room.
     fn push(&mut self, item: T) -> Result<(), OutOfMemory>
         requires { CanPush self.old }
         ensures kept { OnOk result (Pushes self.old item self.new) }
@@ -43,7 +46,7 @@ pub trait Accumulator<T> {
         ensures full { OnErr result (IsFull self.old) };
 }
 
-/// A list of the items, in their order.
+/// Collects the items in a list, in their order.
 impl<T: Drop, A: Allocator> Accumulator<T> for Vec<T, A> {
     ghost Pushes = { λ old x new. new.items ≡ old.items ++ x ∷ [] };
 
@@ -66,8 +69,10 @@ impl<T: Drop, A: Allocator> Accumulator<T> for Vec<T, A> {
     }
 }
 
-/// The number of the items, modulo 2^64. One that saturates would wait for each sum before the next, and no input has
-/// that many items that consume something.
+/// Counts the items, modulo 2^64.
+///
+/// A saturating count would wait for each sum before the next one. No input has that many items that consume
+/// something.
 impl<T: Drop> Accumulator<T> for usize {
     ghost Pushes = { λ old _ new. new ≡ (old + 1) % 2 ^ 64 };
 
@@ -86,7 +91,7 @@ impl<T: Drop> Accumulator<T> for usize {
     }
 }
 
-/// How many items `FIRST_ROOM` bytes hold; 0 where an item takes none.
+/// Returns the number of items that `FIRST_ROOM` bytes hold, or 0 if an item takes no bytes.
 // The size is a constant of the item's type, so this is one too once it is compiled, and a list of large items isn't
 // tested for it at each push.
 #[inline(always)]
@@ -98,8 +103,9 @@ fn first_room(item_size: usize) -> usize {
     }
 }
 
-/// Makes room for `room` items in a list that is empty. Without the memory for it nothing changes, and the push asks
-/// for less.
+/// Makes room for `room` items in an empty list.
+///
+/// If there is no memory for it, nothing changes, and the push requests less.
 // Apart and cold, so that the test alone stands where items are pushed.
 #[cold]
 #[inline(never)]
@@ -111,7 +117,7 @@ fn make_room<T, A: Allocator>(list: &mut Vec<T, A>, room: usize)
     }
 }
 
-/// Pushes an item, where outputs are built.
+/// Pushes an item if outputs are built.
 #[inline(always)]
 pub fn push_item<M: Mode, T: Drop, K: Accumulator<T>>(
     kept: &mut Option<K>,
@@ -131,7 +137,7 @@ pub fn push_item<M: Mode, T: Drop, K: Accumulator<T>>(
     }
 }
 
-/// A list of no items, where a list is built; it takes no memory.
+/// Returns an empty list if outputs are built. It takes no memory.
 #[inline(always)]
 pub fn none_yet<M: Mode, T, A: Allocator>(alloc: A) -> Option<Vec<T, A>>
     ensures empty { Built M.BUILDS (λ list. list.items ≡ []) result }
@@ -144,8 +150,9 @@ pub fn none_yet<M: Mode, T, A: Allocator>(alloc: A) -> Option<Vec<T, A>>
     }
 }
 
-/// A list of no items, where a list is built, with room for `count` items, or for `MOST_AHEAD` of more. Without the
-/// memory for it the list grows by its items.
+/// Returns an empty list if outputs are built, with room for `count` items, but at most for `MOST_AHEAD`.
+///
+/// If there is no memory for this room, the list grows with its items.
 #[inline(always)]
 pub fn with_room<M: Mode, T: Drop, A: Allocator>(alloc: A, count: usize) -> Option<Vec<T, A>>
     ensures empty { Built M.BUILDS (λ list. list.items ≡ []) result }

@@ -1,4 +1,4 @@
-//! Repetitions within the bounds that most parsers ask for.
+//! Repetitions within the bounds that most parsers require.
 ghost use Rattle.std.specs.Prelude.{◌≡◌};
 ghost use Rattle.nom_internal.specs.Prelude.{Built, modes, ShowsMeaning};
 ghost use Rattle.nom_repeat.specs.Accumulated.{Accumulated};
@@ -13,7 +13,8 @@ use nom_error::mode::{Check, Mode, OutputMode};
 use nom_internal::parser::Parser;
 use nom_traits::input::Input;
 
-/// Any number of items, kept after what was kept before. One that consumes nothing is refused with the kind.
+/// Parses any number of items, and adds them to `before`. It refuses with `kind` at an item that consumes
+/// nothing.
 #[inline(always)]
 pub fn any_items<OM: OutputMode, I: Input, F: Parser<I>, K: Accumulator<F::Output> + Drop>(
     parser: &mut F,
@@ -38,7 +39,7 @@ pub fn any_items<OM: OutputMode, I: Input, F: Parser<I>, K: Accumulator<F::Outpu
     items::<OM, Check, I, F, K>(parser, input, before, limits)
 }
 
-/// One item, which may be empty. `EM` says whether the item's error is built.
+/// Parses one item, which may be empty. `EM` determines whether the error of the item is built.
 #[inline(always)]
 pub fn one_item<OM: OutputMode, EM: Mode, I: Input, F: Parser<I>, K: Accumulator<F::Output> + Drop>(
     parser: &mut F,
@@ -66,7 +67,7 @@ pub fn one_item<OM: OutputMode, EM: Mode, I: Input, F: Parser<I>, K: Accumulator
     items::<OM, EM, I, F, K>(parser, input, before, limits)
 }
 
-/// Items within two bounds, none of them empty: the kind is that of each refusal.
+/// Parses at least `least` and at most `most` items, none of them empty. Each refusal has the kind `kind`.
 #[inline(always)]
 pub fn bounded_items<OM: OutputMode, I: Input, F: Parser<I>, K: Accumulator<F::Output> + Drop>(
     parser: &mut F,

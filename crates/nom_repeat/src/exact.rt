@@ -1,4 +1,4 @@
-//! The loop of exactly n items.
+//! The loop that parses exactly n items.
 ghost use Rattle.std.specs.Prelude.{◌≡◌};
 ghost use Rattle.nom_internal.specs.Prelude.{Built, modes, ShowsMeaning};
 ghost use Rattle.nom_repeat.specs.Bounds.{exact_limits};
@@ -14,8 +14,9 @@ use nom_internal::choice::close_error;
 use nom_internal::parser::Parser;
 use nom_traits::input::Items;
 
-/// Exactly `count` items of a parser, one after another, of any length each: what was kept before, and what is
-/// kept of each. Where an item is refused, so is all, with its error, to which `Count` is added at the start.
+/// Parses exactly `count` items, one after another, and adds them to `before`. Each item may have any length.
+///
+/// If an item is refused, the whole is refused with the item's error, to which `Count` is added at the start.
 #[inline(always)]
 pub fn items_exactly<OM: OutputMode, I: Items, F: Parser<I>, K: Accumulator<F::Output> + Drop>(
     parser: &mut F,

@@ -5,7 +5,7 @@ use nom_error::answer::Err;
 use nom_error::kind::ErrorKind;
 use nom_error::value::ParseError;
 
-/// A failure of a kind at an input, with its error.
+/// Returns a failure of a kind at an input, with its error.
 #[inline(always)]
 pub fn failure<I, E: ParseError<I>>(input: I, kind: ErrorKind) -> Err<E, Option<E>>
     ensures { GivesFailure (E.errors.of_kind input kind) E.errors.grows result }

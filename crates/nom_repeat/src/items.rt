@@ -1,4 +1,4 @@
-//! The loop of all repetitions of one part.
+//! The loop of all repetitions of one parser.
 ghost use Rattle.std.specs.Prelude.{◌≡◌, if◌then◌else◌, IsTrue, false};
 ghost use Rattle.nom_internal.specs.Prelude.{Built, modes, ShowsMeaning};
 ghost use Rattle.nom_repeat.specs.Items.{items_meaning, item_errors, AreLimits, GivesFew, IsNever, IsOneMore, IsStuck};
@@ -14,37 +14,37 @@ use nom_internal::choice::close_error;
 use nom_internal::parser::Parser;
 use nom_traits::input::{Input, Items};
 
-/// The error of too few items.
+/// The error for too few items.
 #[derive(Clone, Copy)]
 pub enum TooFew {
-    /// There are never too few.
+    /// There are never too few items.
     Never,
-    /// The item's error.
+    /// The error of the item.
     Passed,
-    /// The item's error, to which a kind is added.
+    /// The error of the item, to which a kind is added.
     Added(ErrorKind),
     /// A new error of a kind.
     Fresh(ErrorKind),
 }
 
-/// How many items are taken, and what ends them with an error.
+/// The number of items that are taken, and the errors that end them.
 #[derive(Clone, Copy)]
 pub struct Limits {
-    /// A refusal before that many items is a refusal of all.
+    /// The minimum number of items. If an item is refused earlier, the whole is refused.
     pub least: usize,
-    /// After that many items none is tried.
+    /// The maximum number of items. After that many, no item is tried.
     pub most: Option<usize>,
-    /// The error of that refusal.
+    /// The error of the refusal of too few items.
     pub too_few: TooFew,
-    /// Its place is the start, and not the item.
+    /// Whether the place of that error is the start, and not the item.
     pub at_start: bool,
-    /// The kind of the refusal at an item that consumes nothing; where there is none, such an item is
-    /// taken.
+    /// The kind of the refusal at an item that consumes nothing. If it is `None`, such an item is accepted.
     pub empty: Option<ErrorKind>,
 }
 
-/// Items of a parser, one after another, within the limits: what was kept before, and what is kept of
-/// each. `EM` says whether the items' errors are built.
+/// Parses items one after another within the limits, and adds them to `before`.
+///
+/// `EM` determines whether the errors of the items are built.
 #[inline(always)]
 pub fn items<OM: OutputMode, EM: Mode, I: Input, F: Parser<I>, K: Accumulator<F::Output> + Drop>(
     parser: &mut F,
@@ -92,7 +92,7 @@ pub fn items<OM: OutputMode, EM: Mode, I: Input, F: Parser<I>, K: Accumulator<F:
     }
 }
 
-/// Whether there are as many items as there may be.
+/// Returns whether the maximum number of items is reached.
 #[inline(always)]
 fn is_full(most: Option<usize>, count: usize) -> bool
     ensures full { IsTrue result → IsBelow most count → ⊥ }
@@ -104,7 +104,7 @@ fn is_full(most: Option<usize>, count: usize) -> bool
     }
 }
 
-/// The kind of a refusal where an item consumed nothing, by the lengths before and after it.
+/// Returns the kind of the refusal if an item consumed nothing, from the lengths before and after it.
 #[inline(always)]
 fn stuck(empty: Option<ErrorKind>, before: usize, after: usize) -> Option<ErrorKind>
     ensures { IsStuck empty before after result }
@@ -115,7 +115,7 @@ fn stuck(empty: Option<ErrorKind>, before: usize, after: usize) -> Option<ErrorK
     }
 }
 
-/// The error of too few items, at a place, by the item's.
+/// Returns the error for too few items at a place, from the error of the item.
 #[inline(always)]
 fn few<M: Mode, I: Drop, E: ParseError<I>>(
     too_few: TooFew,
@@ -133,7 +133,7 @@ fn few<M: Mode, I: Drop, E: ParseError<I>>(
     }
 }
 
-/// Where the error of too few items is.
+/// Returns the place of the error for too few items.
 #[inline(always)]
 fn place<I: Drop>(limits: Limits, input: I, rest: I) -> I
     ensures { result ≡ (if limits.at_start then input else rest) }
@@ -141,7 +141,7 @@ fn place<I: Drop>(limits: Limits, input: I, rest: I) -> I
     if limits.at_start { input } else { rest }
 }
 
-/// One item more, where there is a bound; else none is counted.
+/// Counts one more item if there is a maximum. Otherwise none is counted.
 #[inline(always)]
 fn one_more(most: Option<usize>, count: usize) -> usize
     requires { IsBelow most count }

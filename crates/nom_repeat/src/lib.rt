@@ -1,5 +1,7 @@
-//! Repetition: items in turn, and what ends them. The definitions, laws and lemmas of all parsers that
-//! run a part again and again, and the loop of those that keep what one part gives.
+//! Repetition: items in turn, and the conditions that end them.
+//!
+//! This crate holds the definitions, laws and lemmas of all parsers that run a part repeatedly. It also holds
+//! the loop of those parsers that keep the outputs of one part.
 #![tactic(auto)]
 
 pub mod accumulator;
