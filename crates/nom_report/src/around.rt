@@ -5,7 +5,7 @@ ghost use Rattle.nom_report.specs.Around.{IsEnclosed, around};
 
 use crate::enclosing::{Contexts, Enclosing, MOST_ENCLOSING};
 
-/// The contexts around a place, the innermost first, as many as fit, and whether there were more.
+/// The contexts around a place, innermost first, as many as fit, and whether there were more.
 #[derive(Clone, Copy, Debug, PartialEq, Eq)]
 pub struct Around {
     contexts: Option<Contexts>,

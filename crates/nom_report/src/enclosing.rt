@@ -1,21 +1,23 @@
-//! What encloses a place.
+//! Contexts that enclose a place.
 ghost use Rattle.std.specs.Prelude.{◌≡◌, ◌<◌, ◌≤◌, ◌++◌, ◌∷◌, [], length, map, take};
 ghost use Rattle.nom_report.specs.declared.enclosing.TheConstants.{MOST_ENCLOSING};
 
 use std::alloc::AllocError;
 use std::fmt;
 
-/// What a parser under `context` had begun to read: the context's name, and the place where it began, as `Placed` tells it.
+/// A context in which a parser had begun to read: its name, and the place where it began, as `Placed` returns
+/// it.
 #[derive(Clone, Copy, Debug, PartialEq, Eq)]
 pub struct Enclosing {
     pub label: &'static str,
     pub place: usize,
 }
 
-/// How many contexts a report keeps.
+/// The maximum number of contexts that a report keeps.
 pub const MOST_ENCLOSING: usize = 4;
 
-/// The first `len` of the items. The others are the first one, so that equal lists are equal.
+/// A list of the first `len` items. The other items are the first one, which makes equal lists equal as
+/// values.
 #[derive(PartialEq, Eq)]
 pub struct Contexts {
     pub items: [Enclosing; MOST_ENCLOSING],
@@ -32,7 +34,7 @@ impl Clone for Contexts {
     }
 }
 
-/// The list.
+/// Writes the list.
 impl fmt::Debug for Contexts {
     fn fmt<W: fmt::Write>(&self, f: &mut fmt::Formatter<W>) -> fmt::Result {
         write!(f, "{:?}", &self.items[..self.len])

@@ -1,4 +1,4 @@
-//! What would have been accepted.
+//! Expectations: input that would have been accepted.
 ghost use Rattle.std.specs.Prelude.{◌≡◌, ◌↔◌, IsTrue, MatchBool, map};
 ghost use Rattle.std.specs.List.{IsAmong};
 ghost use Rattle.nom_report.specs.Wanted.{WantedChar, WantedKind, WantedLabel, seen};
@@ -6,14 +6,14 @@ ghost use Rattle.nom_report.specs.Wanted.{WantedChar, WantedKind, WantedLabel, s
 use nom_error::kind::ErrorKind;
 use nom_error::laws::kinds_are_equal;
 
-/// What would have been accepted at a place.
+/// An expectation: input that would have been accepted at a place.
 #[derive(Clone, Copy, Debug, PartialEq, Eq)]
 pub enum Expected {
     /// The character.
     Char(char),
-    /// What a parser takes that refuses with the kind.
+    /// The input of a parser that refuses with the kind.
     Kind(ErrorKind),
-    /// What `context` names so.
+    /// The input to which `context` gives this name.
     Label(&'static str),
 }
 
@@ -50,7 +50,7 @@ fn is_label(it: &Expected, wanted: &str) -> bool
     }
 }
 
-/// Whether the two are one.
+/// Returns whether the two expectations are the same.
 #[inline(always)]
 pub fn is_same(it: &Expected, other: &Expected) -> bool
     ensures { IsTrue result ↔ (seen it.now ≡ seen other.now) }
@@ -62,7 +62,7 @@ pub fn is_same(it: &Expected, other: &Expected) -> bool
     }
 }
 
-/// Whether it is one of the items.
+/// Returns whether an expectation is one of the items.
 #[inline(always)]
 pub fn is_in(items: &[Expected], it: &Expected) -> bool
     ensures { MatchBool result (IsAmong (map seen items.now) (seen it.now)) (IsAmong (map seen items.now) (seen it.now) → ⊥) }

@@ -1,5 +1,7 @@
-//! An error type for people: where the input stopped being what any alternative takes, what would have been taken
-//! there, and in what it stands.
+//! An error type for people.
+//!
+//! It shows where the input stopped matching every alternative, what would have been accepted there, and the
+//! contexts around that place.
 #![tactic(auto)]
 
 mod around;

@@ -7,15 +7,15 @@ use crate::expectation::{Expected, is_in};
 use crate::several::{MOST_EXPECTED, Several};
 use std::slice;
 
-/// The first of some expectations, which are at least one. One is kept as it is, so that an error that is made and dropped
-/// costs little.
+/// The first of at least one expectation. A single one is stored as it is, which makes an error that is made
+/// and dropped cheap.
 #[derive(Clone, Copy, Debug, PartialEq, Eq)]
 pub enum First<M> {
     One(Expected),
     Many(M),
 }
 
-/// Expectations, as many as fit, and whether there were more.
+/// The expectations that fit, and whether there were more.
 #[derive(Clone, Copy, Debug, PartialEq, Eq)]
 pub struct Expectations {
     first: First<Several>,

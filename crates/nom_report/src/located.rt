@@ -5,7 +5,8 @@ use crate::place::Placed;
 use nom_located::Located;
 use nom_search::bytes::ByteItems;
 
-/// Its offset, which is that of the whole also in a piece that was cut out of it.
+/// Uses the offset as the place. In a piece that was cut out of the whole, it is still the offset in the
+/// whole.
 impl<I: ByteItems, X: Copy> Placed for Located<I, X> {
     ghost place = { λ x. x.offset };
 

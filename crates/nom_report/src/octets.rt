@@ -15,10 +15,10 @@ use nom_error::answer::OutOfMemory;
 use std::alloc::Allocator;
 use std::fmt::Write;
 
-/// How many bytes are quoted at most.
+/// The maximum number of bytes that are quoted.
 pub const QUOTED: usize = 16;
 
-/// How many of them stand before the place, at most.
+/// The maximum number of quoted bytes before the place.
 pub const AHEAD: usize = 8;
 
 // Adds a byte as two digits in base 16, after a space.
@@ -145,11 +145,15 @@ fn add_octets_contexts<A: Allocator + Copy>(
     Ok(())
 }
 
-/// Adds the text of a report on bytes, of which `source` is the whole.
+/// Adds the text of a report on bytes. `source` is the whole input.
 ///
-/// The first line tells what was expected, the second where: ` --> packet.bin:31`, by the offset. Then come up to sixteen
-/// bytes around it in base 16, eight of them before it, after the offset of the first; below them a caret; and a line for
-/// each context.
+/// The text consists of:
+///
+/// - the expectations, on the first line;
+/// - the place, by its offset, on the second line: ` --> packet.bin:31`;
+/// - up to sixteen bytes around the place in base 16, eight of them before it, after the offset of the first;
+/// - a caret below these bytes;
+/// - one line for each context.
 pub fn render_bytes<A: Allocator + Copy>(
     name: &str,
     source: &[u8],

@@ -1,4 +1,4 @@
-//! Inputs whose places can be told.
+//! Inputs whose places can be compared.
 ghost use Rattle.std.specs.Prelude.{◌≡◌, ℕ, ◌+◌};
 ghost use Rattle.nom_traits.specs.Input.{IsSuffixOf};
 ghost use Rattle.nom_report.specs.Left.{slice_place};
@@ -6,20 +6,23 @@ ghost use Rattle.nom_report.specs.laws.Places.{bytes_rests, text_rests};
 
 use nom_traits::input::Items;
 
-/// An input that tells how far it lies. Only differences of places mean something: a rest lies as much further than the
-/// input as is long what stands before it.
+/// An input that knows its place.
 ///
-/// The place of bytes and of a text is told by how much is left, so of two rests of one input the shorter one lies further.
-/// A piece that is cut out of an input, as by `and_then` or `length_value`, ends before it, so what lies in the piece seems
-/// to lie further than it does. A `Located` knows its true place.
+/// Only differences between places are meaningful. The place of a rest is greater than that of the input by
+/// the length of the items before the rest.
+///
+/// The place of bytes and of a text follows from the length that is left. Of two rests of one input, the
+/// shorter one is therefore further. A piece that is cut out of an input, for example by `and_then` or
+/// `length_value`, ends before it. Places in such a piece seem further than they are. A `Located` knows its
+/// true place.
 pub trait Placed: Items {
     ghost place: { Self → ℕ };
 
-    /// Its place. The greater one is the further one.
+    /// Returns the place of the input. A greater place is a further one.
     fn place(&self) -> usize
         ensures { result ≡ place self.now };
 
-    /// A rest lies further by the length of what stands before it.
+    /// A rest is further by the length of the items before it.
     ghost rests: { (i j : Self) (n : ℕ) → Self.model.IsKnown i → IsSuffixOf Self.model i n j → place j ≡ place i + n };
 }
 

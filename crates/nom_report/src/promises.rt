@@ -1,4 +1,4 @@
-//! What a report promises of choices. These functions do nothing: their contracts are the promises.
+//! Promises of reports about choices. These functions do nothing: their contracts are the promises.
 ghost use Rattle.std.specs.Prelude.{◌∷◌, [], map};
 ghost use Rattle.nom_branch.specs.Alternatives.{alt_of, or_of};
 ghost use Rattle.nom_branch.specs.Lists.{Each};
@@ -11,14 +11,16 @@ use crate::value::Report;
 use nom_branch::Choice;
 use nom_internal::parser::Parser;
 
-/// A report that is made at a rest of an input lies neither before the input's start nor behind its end; and what is made of
-/// reports that lie in an input, by a choice or under a context, lies in it too.
+/// A report that is made at a rest of an input is neither before the start of the input nor after its end.
+///
+/// A choice or a context makes reports of reports. If these are in an input, the new report is in it too.
 pub fn stays_within<I: Placed>(_input: I)
     ensures { StaysWithin I.model I.place }
 {}
 
-/// Where a choice of two refuses, its report stands at the furthest place that any branch's does; all that was expected
-/// there by a branch is expected, unless it is told that there was more.
+/// If a choice of two refuses, its report is at the furthest place of the reports of its branches.
+///
+/// It has every expectation of a branch at that place, unless it reports that there were more.
 pub fn furthest_of_two<
     I: Placed,
     A: Parser<I, Error = Report<I>>,
@@ -34,8 +36,9 @@ pub fn furthest_of_two<
         (B.grammar (B.state _choice.now.parsers.1)))).meaning s }
 {}
 
-/// Where a choice of three refuses, its report stands at the furthest place that any branch's does; all that was expected
-/// there by a branch is expected, unless it is told that there was more.
+/// If a choice of three refuses, its report is at the furthest place of the reports of its branches.
+///
+/// It has every expectation of a branch at that place, unless it reports that there were more.
 pub fn furthest_of_three<
     I: Placed,
     A: Parser<I, Error = Report<I>>,
@@ -55,8 +58,9 @@ pub fn furthest_of_three<
         (C.grammar (C.state _choice.now.parsers.2)))).meaning s }
 {}
 
-/// Where a choice of four refuses, its report stands at the furthest place that any branch's does; all that was expected
-/// there by a branch is expected, unless it is told that there was more.
+/// If a choice of four refuses, its report is at the furthest place of the reports of its branches.
+///
+/// It has every expectation of a branch at that place, unless it reports that there were more.
 pub fn furthest_of_four<
     I: Placed,
     A: Parser<I, Error = Report<I>>,
@@ -80,8 +84,9 @@ pub fn furthest_of_four<
         (D.grammar (D.state _choice.now.parsers.3)))).meaning s }
 {}
 
-/// Where a choice of five refuses, its report stands at the furthest place that any branch's does; all that was expected
-/// there by a branch is expected, unless it is told that there was more.
+/// If a choice of five refuses, its report is at the furthest place of the reports of its branches.
+///
+/// It has every expectation of a branch at that place, unless it reports that there were more.
 pub fn furthest_of_five<
     I: Placed,
     A: Parser<I, Error = Report<I>>,
@@ -110,8 +115,9 @@ pub fn furthest_of_five<
         (E.grammar (E.state _choice.now.parsers.4)))).meaning s }
 {}
 
-/// Where a choice of six refuses, its report stands at the furthest place that any branch's does; all that was expected
-/// there by a branch is expected, unless it is told that there was more.
+/// If a choice of six refuses, its report is at the furthest place of the reports of its branches.
+///
+/// It has every expectation of a branch at that place, unless it reports that there were more.
 pub fn furthest_of_six<
     I: Placed,
     A: Parser<I, Error = Report<I>>,
@@ -144,8 +150,9 @@ pub fn furthest_of_six<
         (F.grammar (F.state _choice.now.parsers.5)))).meaning s }
 {}
 
-/// Where a choice of seven refuses, its report stands at the furthest place that any branch's does; all that was expected
-/// there by a branch is expected, unless it is told that there was more.
+/// If a choice of seven refuses, its report is at the furthest place of the reports of its branches.
+///
+/// It has every expectation of a branch at that place, unless it reports that there were more.
 pub fn furthest_of_seven<
     I: Placed,
     A: Parser<I, Error = Report<I>>,
@@ -182,8 +189,9 @@ pub fn furthest_of_seven<
         (G.grammar (G.state _choice.now.parsers.6)))).meaning s }
 {}
 
-/// Where a choice of eight refuses, its report stands at the furthest place that any branch's does; all that was expected
-/// there by a branch is expected, unless it is told that there was more.
+/// If a choice of eight refuses, its report is at the furthest place of the reports of its branches.
+///
+/// It has every expectation of a branch at that place, unless it reports that there were more.
 pub fn furthest_of_eight<
     I: Placed,
     A: Parser<I, Error = Report<I>>,
@@ -224,7 +232,7 @@ pub fn furthest_of_eight<
         (H.grammar (H.state _choice.now.parsers.7)))).meaning s }
 {}
 
-/// The same of a choice among the parsers of a list, of which there is one at least.
+/// Promises the same for a choice among the parsers of a list, which has at least one.
 pub fn furthest_of_each<I: Placed, A: Parser<I, Error = Report<I>>>(_branches: &[A])
     requires { Each (λ s. (A.grammar s).meaning.IsSound) (map A.state _branches.now) }
     ensures { (s : _) → TellsOfEach I.place I.model (λ t. (A.grammar t).meaning) (map A.state _branches.now) s }

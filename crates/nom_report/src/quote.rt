@@ -8,13 +8,15 @@ use nom_error::answer::OutOfMemory;
 use std::alloc::Allocator;
 use std::fmt::Write;
 
-/// How many characters of a line are quoted at most.
+/// The maximum number of characters that are quoted of a line.
 pub const WIDEST: usize = 76;
 
-/// How many of them stand before the place, at most, where the line is cut.
+/// The maximum number of quoted characters before the place, if the line is cut.
 pub const BEFORE: usize = 38;
 
-/// A source before a place and after it. A place where no character begins is none of this source: its end stands for it.
+/// Splits a source at a place.
+///
+/// If no character begins at the place, it is no place of this source, and the source is split at its end.
 #[inline]
 pub fn cut(source: &str, offset: usize) -> (&str, &str)
     ensures { IsCut source.now offset result.0.now result.1.now }
@@ -25,7 +27,7 @@ pub fn cut(source: &str, offset: usize) -> (&str, &str)
     }
 }
 
-/// What stands in the last line of a text.
+/// Returns the last line of a text.
 #[inline]
 pub fn last_line(text: &str) -> &str
     ensures { IsLastLine text.now result.now }
@@ -47,7 +49,7 @@ fn without_return(text: &str) -> &str
     }
 }
 
-/// What stands in the first line of a text, without its end.
+/// Returns the first line of a text, without its end.
 #[inline]
 pub fn first_line(text: &str) -> &str
     ensures { IsFirstLine text.now result.now }
@@ -58,7 +60,7 @@ pub fn first_line(text: &str) -> &str
     }
 }
 
-/// The number of the line that a text ends in: the first is 1.
+/// Returns the number of the line in which a text ends. The first line is 1.
 #[inline]
 pub fn line_number(text: &str) -> usize
     ensures { result ≡ line_of text.now }
@@ -66,7 +68,7 @@ pub fn line_number(text: &str) -> usize
     1 + text.as_bytes().iter().filter(|b| **b == b'\n').count()
 }
 
-/// How many characters a text has.
+/// Returns the number of characters in a text.
 #[inline]
 fn width(text: &str) -> usize
     ensures value { result ≡ columns text.now }
@@ -132,7 +134,7 @@ fn taken_after(before: usize, after: usize) -> usize
     after.min(WIDEST.saturating_sub(before - left_before(before, after)))
 }
 
-/// Adds a number, and tells how many digits it has.
+/// Adds a number, and returns the number of its digits.
 pub fn add_number<A: Allocator + Copy>(
     out: &mut String<A>,
     number: usize,
@@ -237,7 +239,7 @@ pub fn add_quote<A: Allocator + Copy>(
     Ok(())
 }
 
-/// Adds a place, as `3:7`: its line, and its column in characters; the first of each is 1.
+/// Adds a place as `3:7`: its line, and its column in characters. The first line and the first column are 1.
 pub fn add_place<A: Allocator + Copy>(out: &mut String<A>, before: &str) -> Result<(), OutOfMemory>
     ensures { IfOk result (λ _. (t : _) × IsPlaceText before.now t × (string_bytes out.new ≡ string_bytes out.old ++ t)) }
 {

@@ -1,4 +1,4 @@
-//! Two expectations and more.
+//! Lists of two or more expectations.
 ghost use Rattle.std.specs.Prelude.{◌≡◌, ◌<◌, ◌≤◌, ◌++◌, ◌∷◌, [], length, map, take};
 ghost use Rattle.nom_report.specs.Wanted.{seen};
 ghost use Rattle.nom_report.specs.declared.several.TheConstants.{MOST_EXPECTED};
@@ -7,10 +7,11 @@ use crate::expectation::Expected;
 use std::alloc::AllocError;
 use std::fmt;
 
-/// How many expectations a report keeps.
+/// The maximum number of expectations that a report keeps.
 pub const MOST_EXPECTED: usize = 8;
 
-/// The first `len` of the items. The others are the first one, so that equal lists are equal.
+/// A list of the first `len` items. The other items are the first one, which makes equal lists equal as
+/// values.
 #[derive(PartialEq, Eq)]
 pub struct Several {
     pub items: [Expected; MOST_EXPECTED],
@@ -27,7 +28,7 @@ impl Clone for Several {
     }
 }
 
-/// The list.
+/// Writes the list.
 impl fmt::Debug for Several {
     fn fmt<W: fmt::Write>(&self, f: &mut fmt::Formatter<W>) -> fmt::Result {
         write!(f, "{:?}", &self.items[..self.len])

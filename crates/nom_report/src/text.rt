@@ -61,7 +61,7 @@ pub fn add_end<A: Allocator + Copy>(out: &mut String<A>) -> Result<(), OutOfMemo
     Ok(())
 }
 
-/// Adds that there are more contexts.
+/// Adds a mark if there are more contexts.
 pub fn add_more<A: Allocator + Copy>(out: &mut String<A>, more: bool) -> Result<(), OutOfMemory>
     ensures { IfOk result (λ _. string_bytes out.new ≡ string_bytes out.old ++ more_text more) }
 {
@@ -71,13 +71,21 @@ pub fn add_more<A: Allocator + Copy>(out: &mut String<A>, more: bool) -> Result<
     Ok(())
 }
 
-/// Adds the text of a report on a text: `source` is the whole text, and `start` the place of the input that was parsed, as
-/// `Placed` tells it: of a `Located` that is 0.
+/// Adds the text of a report on a text.
 ///
-/// The first line tells what was expected, the second where: ` --> settings.ini:3:7`, by the line and the column, in
-/// characters. Then comes the line itself, after its number, and below it a caret; and a line for each context. Of a line of
-/// more than 76 characters those around the caret are quoted, with `..` for the others. A tab is kept, and U+FFFD is shown
-/// for another control character.
+/// `source` is the whole text. `start` is the place of the input that was parsed, as `Placed` returns it. For
+/// a `Located` it is 0.
+///
+/// The text consists of:
+///
+/// - the expectations, on the first line;
+/// - the place, by its line and its column in characters, on the second line: ` --> settings.ini:3:7`;
+/// - the line itself, after its number;
+/// - a caret below that line;
+/// - one line for each context.
+///
+/// If the line has more than 76 characters, only those around the caret are quoted, with `..` for the others.
+/// A tab is kept. Any other control character is shown as U+FFFD.
 pub fn render_from<I: Placed, A: Allocator + Copy>(
     name: &str,
     source: &str,
@@ -99,7 +107,7 @@ pub fn render_from<I: Placed, A: Allocator + Copy>(
     Ok(())
 }
 
-/// Adds the text of a report on a text, of which `source` is the whole, as `render_from` does.
+/// Adds the text of a report on a text, like `render_from`. `source` is the whole text.
 pub fn render<A: Allocator + Copy>(
     name: &str,
     source: &str,

@@ -1,4 +1,4 @@
-//! Parsing for which good input costs no errors.
+//! Parsing in which valid input builds no errors.
 ghost use Rattle.std.specs.Prelude.{◌≡◌, true, false};
 ghost use Rattle.nom_internal.specs.Prelude.{Parses};
 
@@ -7,10 +7,13 @@ use nom_error::mode::{Check, Complete, Emit, OutputM, Streaming};
 use nom_internal::parser::Parser;
 use nom_traits::input::Items;
 
-/// What `parse_complete` answers. The input is parsed without errors first, and again, for the error, only where it is refused
-/// or memory ran out: so what is accepted costs less than with the smallest error type, and what is refused costs twice.
+/// Answers like `parse_complete`, at less cost for accepted input.
 ///
-/// That holds for what combinators are made of. A function that is wrapped by `func` builds its errors whenever it refuses.
+/// The input is first parsed without errors. If it is refused or memory runs out, it is parsed again to build
+/// the error. Accepted input costs less than with the smallest error type. Refused input costs twice as much.
+///
+/// This holds for parsers that are made of combinators. A function that is wrapped by `func` builds its
+/// errors whenever it refuses.
 #[inline(always)]
 pub fn parse_complete_twice<I: Items, P: Parser<I>>(
     parser: &mut P,
@@ -35,7 +38,7 @@ pub fn parse_complete_twice<I: Items, P: Parser<I>>(
     }
 }
 
-/// What `parse` answers, as `parse_complete_twice` does.
+/// Answers like `parse`, at the costs of `parse_complete_twice`.
 #[inline(always)]
 pub fn parse_twice<I: Items, P: Parser<I>>(
     parser: &mut P,

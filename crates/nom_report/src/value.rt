@@ -16,11 +16,13 @@ use nom_error::kind::ErrorKind;
 use nom_error::outside::{ContextError, FromExternalError};
 use nom_error::value::ParseError;
 
-/// An error for people. It tells the furthest place that any alternative reached, what would have been accepted there, and
-/// what encloses it. It takes no memory: of what doesn't fit it tells that there was more.
+/// An error for people.
 ///
-/// Under `context` what was expected goes by the context's name where nothing was consumed, as "a number" in place of
-/// `Digit`; and else the context is one that encloses the place.
+/// It shows the furthest place that any alternative reached, the expectations there, and the contexts that
+/// enclose it. It takes no memory. If something doesn't fit, it reports that there was more.
+///
+/// If nothing was consumed under `context`, the context's name replaces the expectations, for example "a
+/// number" in place of `Digit`. Otherwise the context is one that encloses the place.
 #[derive(Clone, Copy, Debug, PartialEq, Eq)]
 pub struct Report<I> {
     at: I,
@@ -41,28 +43,28 @@ impl<I> Report<I> {
         }
     }
 
-    /// What would have been accepted: each once, in the order in which it was tried. There is one at least.
+    /// Returns the expectations, each once, in the order in which they were tried. There is at least one.
     pub fn expected(&self) -> &[Expected]
         ensures { map seen result.now ≡ (kept self.now.expected).wanted }
     {
         self.expected.as_slice()
     }
 
-    /// Whether more would have been accepted than `expected` tells.
+    /// Returns whether more would have been accepted than `expected` returns.
     pub fn has_more_expected(&self) -> bool
         ensures { result ≡ self.now.expected.more }
     {
         self.expected.has_more()
     }
 
-    /// The contexts around the place, the innermost first.
+    /// Returns the contexts around the place, innermost first.
     pub fn inside(&self) -> &[Enclosing]
         ensures { map named result.now ≡ around self.now.inside }
     {
         self.inside.as_slice()
     }
 
-    /// Whether there are contexts around those that `inside` tells.
+    /// Returns whether there are contexts around those that `inside` returns.
     pub fn has_more_inside(&self) -> bool
         ensures { result ≡ self.now.inside.more }
     {
@@ -71,7 +73,7 @@ impl<I> Report<I> {
 }
 
 impl<I: Copy> Report<I> {
-    /// The furthest place that an alternative reached: the input there.
+    /// Returns the input at the furthest place that an alternative reached.
     pub fn at(&self) -> I
         ensures { result ≡ self.now.at }
     {
@@ -131,7 +133,7 @@ impl<I: Placed> ContextError<I> for Report<I> {
     }
 }
 
-/// The other error isn't kept.
+/// Drops the other error.
 impl<I: Placed, X: Drop> FromExternalError<I, X> for Report<I> {
     ghost externals = { report_externals };
 

@@ -1,4 +1,4 @@
-//! What is expected, in words.
+//! Expectations in words.
 ghost use Rattle.std.specs.Prelude.{◌≡◌, ◌<◌, ◌++◌, IfOk, map, string_bytes};
 ghost use Rattle.nom_report.specs.Words.{all_expected_text, between_text, char_text, expected_text, kind_text, shown_char};
 ghost use Rattle.nom_report.specs.Wanted.{seen};
@@ -9,7 +9,9 @@ use nom_error::kind::ErrorKind;
 use std::alloc::Allocator;
 use std::fmt::Write;
 
-/// What a parser takes that refuses with the kind: a word where there is one, and else the kind's description.
+/// Returns the name of the input that is expected by a parser that refuses with the kind.
+///
+/// It is a word if there is one, and otherwise the description of the kind.
 pub fn kind_name(kind: &ErrorKind) -> &'static str
     ensures { result.now ≡ kind_text kind.now }
 {
@@ -74,8 +76,10 @@ pub fn kind_name(kind: &ErrorKind) -> &'static str
     }
 }
 
-/// A character as it is shown: tabs are kept, and of the other control characters U+FFFD is shown, so that no source moves the
-/// cursor of a terminal.
+/// Returns the character that is shown for `c`.
+///
+/// A tab is kept. Any other control character is shown as U+FFFD. No source can therefore move the cursor of
+/// a terminal.
 #[inline]
 pub fn shown(c: char) -> char
     ensures { result ≡ shown_char c }
@@ -102,7 +106,7 @@ fn add_char<A: Allocator + Copy>(out: &mut String<A>, c: char) -> Result<(), Out
     Ok(())
 }
 
-/// Adds what is expected: a character between backquotes, a kind's name, or a label between quotes.
+/// Adds an expectation: a character between backquotes, the name of a kind, or a label between quotes.
 pub fn add_expected<A: Allocator + Copy>(
     out: &mut String<A>,
     it: &Expected,
@@ -139,7 +143,7 @@ fn add_between<A: Allocator + Copy>(
     Ok(())
 }
 
-/// Adds all that is expected, and whether there is more: as ``expected `]`, digit or "a name"``.
+/// Adds all expectations, and whether there are more. An example is ``expected `]`, digit or "a name"``.
 pub fn add_all_expected<A: Allocator + Copy>(
     out: &mut String<A>,
     items: &[Expected],
