@@ -203,7 +203,7 @@ impl fmt::Debug for ErrorKind {
     }
 }
 
-/// Returns the number of the kind.
+/// Returns the number of the kind. `error_to_u32(&ErrorKind::Tag)` returns 1.
 pub fn error_to_u32(e: &ErrorKind) -> u32
     ensures { result ≡ kind_number e.now }
 {
