@@ -14,6 +14,8 @@ pub trait ParseTo<R> {
     /// Blanks aren't skipped. A whole number is an optional `+`, for signed types also `-`, and at least one
     /// decimal digit, within the range of the type. A `bool` is `true` or `false`. A `char` is one character.
     /// Bytes that aren't UTF-8 are read as `None`.
+    ///
+    /// As a `u8`, `"42"` is read as `Some(42)`, and `"256"` as `None`.
     fn parse_to(&self) -> Option<R>
         ensures { parses self.now result };
 }
