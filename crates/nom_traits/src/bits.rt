@@ -65,8 +65,7 @@ pub fn bits_grow_by_bytes<I: Items<Item = u8>>()
     ensures { GrowsByBytes I.model }
 {}
 
-/// The rest of `(x, o)` after `n` bits is the rest of `x` after `(n + o) / 8` bytes, from bit `(n + o) % 8`
-/// on.
+/// The rest of `(x, o)` after `n` bits begins in `x` after `(n + o) / 8` bytes, at bit `(n + o) % 8`.
 pub fn bits_pass<I: Items<Item = u8>>()
     ensures { PassesBits I.model }
 {}

@@ -221,7 +221,7 @@ pub trait Input: Items + Viewed {
         }
     }
 
-    /// Splits the input like `split_at_position`, where no more input may come.
+    /// Splits the input like `split_at_position`, but in complete mode: no more input may come.
     ///
     /// If the predicate returns true for no item, the whole input is taken.
     #[inline(always)]

@@ -4,7 +4,7 @@ ghost use Rattle.nom_traits.specs.Input.{IsSuffixOf};
 
 use crate::input::Items;
 
-/// An input that can find the start of its rests.
+/// An input that shows where a rest of it begins.
 pub trait Offset: Items {
     /// Returns the length of the items before `second`, which is a rest of this input.
     fn offset(&self, second: &Self) -> usize
