@@ -17,6 +17,8 @@ use std::alloc::Allocator;
 /// - the bytes as characters, with a dot for each control character, and a line end.
 ///
 /// The dump is then converted to a text, with U+FFFD for everything that isn't UTF-8.
+///
+/// With a `chunk_size` of 4, the dump of `"abc"` is `"00000000\t61 62 63    \tabc\n"`.
 pub trait HexDisplay {
     /// The bytes.
     ghost bytes: { Self → List ℕ };
