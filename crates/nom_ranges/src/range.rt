@@ -12,6 +12,8 @@ use nom_traits::convert::ToUsize;
 use std::ops::{Bound, Range, RangeFrom, RangeFull, RangeInclusive, RangeTo, RangeToInclusive};
 
 /// The number of items that is wanted: a range of counts, or one count.
+///
+/// `1..4` allows 1 to 3 items, and `3` allows exactly 3.
 pub trait NomRange<Idx: ToUsize> {
     /// An iterator that counts up to the maximum, or without end if there is no upper bound.
     type Saturating: Iterator<Item = Idx>;
