@@ -35,6 +35,8 @@ use std::fmt;
 ///
 /// All of them carry a label of the user, `extra`, for example the name of a file. Two inputs are equal if
 /// the other four parts are equal, whatever their labels.
+///
+/// The rest of `Located::new("a\nbc")` after 3 bytes has offset 3, line 2 and column 2.
 #[derive(Debug)]
 #[derive_where(PartialEq, Eq, Hash; I)]
 pub struct Located<I: Items, X = ()> {
@@ -411,7 +413,7 @@ impl<A: Allocator + Copy, I: ByteItems + ExtendInto<A>, X: Copy> ExtendInto<A> f
     ghost views = { λ x y h. I.ExtendInto.views x.fragment y.fragment (ap (λ p. p.1) h) };
 }
 
-/// Converts an input at its start, like `new`.
+/// Converts an input to a `Located` at its start, like `new`.
 impl<I: ByteItems> From<I> for Located<I> {
     ghost from_gives = { λ fragment at. (at.fragment ≡ fragment) × (place at.offset at.line at.column ≡ place 0 1 1) };
 
