@@ -43,8 +43,9 @@ pub trait Parser<I: Items>: Sized {
     /// The grammar of the parser: its meaning, and the outputs that a tree represents.
     ghost grammar: { State → Grammar I Tree Self.Output Self.Error };
 
-    /// What a call must prove in addition to its outcome. It depends on the mode, the parser before and
-    /// after, the input, and the accepted rest.
+    /// The condition that a call must prove in addition to its outcome.
+    ///
+    /// It depends on the mode, the parser before and after, the input, and the accepted rest.
     ghost Besides: { Modes → Self → Self → I → Option I → Type 0 } = { λ _ _ _ _ _. Unit {0} };
 
     /// Runs the parser in the mode `OM`.
@@ -92,6 +93,8 @@ pub trait Parser<I: Items>: Sized {
     }
 
     /// Runs this parser and then another, and returns both outputs.
+    ///
+    /// `tag("a").and(tag("b"))` on `"abc"` returns `("a", "b")` and leaves `"c"`.
     final fn and<G: Parser<I, Error = Self::Error>>(self, second: G) -> And<Self, G>
         ensures first { result.first ≡ self }
         ensures second { result.second ≡ second }
@@ -115,6 +118,8 @@ pub trait Parser<I: Items>: Sized {
     }
 
     /// Runs this parser, and another one if it refuses.
+    ///
+    /// `tag("a").or(tag("b"))` on `"bc"` returns `"b"` and leaves `"c"`.
     #[inline(always)]
     final fn or<G: Parser<I, Output = Self::Output, Error = Self::Error>>(
         self,

@@ -64,8 +64,9 @@ pub fn never_runs_out<I: Items, P: Parser<I>>(_parser: &P)
     ensures { NeverRunsOut I.model (P.grammar (P.state _parser.now)).meaning }
 {}
 
-/// If the parser never fails, it has no such outcome. This covers failures of its own and those of an amount
-/// lacking that is too large.
+/// If the parser never fails for a cause, it has no failure of that cause.
+///
+/// The causes are the parser itself, and an amount lacking that is too large.
 pub fn has_no_failure<I: Items, P: Parser<I>>(_parser: &P)
     requires { (P.grammar (P.state _parser.now)).meaning.IsSound }
     ensures { HasNoFailure I.model (P.grammar (P.state _parser.now)).meaning }
