@@ -10,12 +10,12 @@ use std::marker::PhantomData;
 /// The parser answers as the function does, the same in both modes. It drops values that the mode doesn't
 /// require.
 ///
-/// The function must be callable with every input. Nothing else is required. Only the length of the rest that
+/// The only requirement is that the function may be called with every input. Only the length of the rest that
 /// the function leaves is used. The parser cuts a rest of that length from the input. If the input has no
 /// rest of that length, the parser fails with `Fail`.
 ///
 /// The laws of the parser require more. The function must answer inputs that are equal as models with one
-/// outcome, as outputs are compared. All functions of this library do so.
+/// outcome. Outputs are compared by their views. All functions of this library meet this.
 #[inline(always)]
 pub fn func<I, O, E, F: Fn(I) -> IResult<I, O, E>>(f: F) -> Func<F, I, O, E>
     ensures { result.f ≡ f }
