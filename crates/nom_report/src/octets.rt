@@ -151,7 +151,8 @@ fn add_octets_contexts<A: Allocator + Copy>(
 ///
 /// - the expectations, on the first line;
 /// - the place, by its offset, on the second line: ` --> packet.bin:31`;
-/// - up to sixteen bytes around the place in base 16, eight of them before it, after the offset of the first;
+/// - up to sixteen bytes around the place in base 16, up to eight of them before it, after the offset of the
+///   first;
 /// - a caret below these bytes;
 /// - one line for each context.
 pub fn render_bytes<A: Allocator + Copy>(

@@ -1,4 +1,4 @@
-//! Parsing in which valid input builds no errors.
+//! Parsing in which accepted input builds no errors.
 ghost use Rattle.std.specs.Prelude.{◌≡◌, true, false};
 ghost use Rattle.nom_internal.specs.Prelude.{Parses};
 
