@@ -1,4 +1,4 @@
-//! Parsers of items in one mode: the input is complete, whatever mode is asked for.
+//! Parsers of items that always run in complete mode, whatever mode is requested.
 ghost use Rattle.std.specs.Prelude.{◌≡◌};
 
 use crate::predicate::{Outside, Unless, Where, Within};

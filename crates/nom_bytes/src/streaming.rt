@@ -1,4 +1,4 @@
-//! Parsers of items in one mode: more input may come, whatever mode is asked for.
+//! Parsers of items that always run in streaming mode, whatever mode is requested.
 ghost use Rattle.std.specs.Prelude.{◌≡◌};
 
 use crate::predicate::{Outside, Unless, Where, Within};
