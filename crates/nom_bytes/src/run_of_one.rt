@@ -127,11 +127,11 @@ pub fn take_till1<F, I, E>(test: F) -> SplitPosition1<Unless<F>, I, E>
 
 /// Accepts the longest run of items that are in the set, at least one.
 ///
-/// The set is a list of bytes (`&[u8]` or `[u8; N]`), a list of characters (`&[char]` or `&str`), or any
+/// The set is a list of bytes (`&[u8]` or `[u8; N]`) or of characters (`&[char]` or `&str`). It may be any
 /// other type in which `FindToken` finds items. If the first item isn't in the set, the parser refuses with
 /// `IsA`.
 ///
-/// If all items are in the set, streaming needs 1 more, and complete accepts the whole input. Of an empty
+/// If all items are in the set, streaming needs 1 more, and complete accepts the whole input. On an empty
 /// input, streaming needs 1 item, and complete refuses with `IsA`.
 #[inline(always)]
 pub fn is_a<T, I, E>(list: T) -> SplitPosition1<Within<T>, I, E>
