@@ -1,4 +1,4 @@
-//! Texts with escapes in one mode: the input is complete, whatever mode is asked for.
+//! Parsers of texts with escapes that always run in complete mode, whatever mode is requested.
 ghost use Rattle.std.specs.Prelude.{◌≡◌};
 
 use crate::{Escaped, EscapedTransform};

@@ -1,4 +1,4 @@
-//! Texts with escapes in one mode: more input may come, whatever mode is asked for.
+//! Parsers of texts with escapes that always run in streaming mode, whatever mode is requested.
 ghost use Rattle.std.specs.Prelude.{◌≡◌};
 
 use crate::{Escaped, EscapedTransform};
