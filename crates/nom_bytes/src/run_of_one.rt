@@ -127,9 +127,9 @@ pub fn take_till1<F, I, E>(test: F) -> SplitPosition1<Unless<F>, I, E>
 
 /// Accepts the longest run of items that are in the set, at least one.
 ///
-/// The set is a list of bytes (`&[u8]` or `[u8; N]`) or of characters (`&[char]` or `&str`). It may be any
-/// other type in which `FindToken` finds items. If the first item isn't in the set, the parser refuses with
-/// `IsA`.
+/// The set is a list of bytes (`&[u8]` or `[u8; N]`) or of characters (`&[char]` or `&str`). It may also be
+/// any other type in which `FindToken` finds items. If the first item isn't in the set, the parser refuses
+/// with `IsA`.
 ///
 /// If all items are in the set, streaming needs 1 more, and complete accepts the whole input. On an empty
 /// input, streaming needs 1 item, and complete refuses with `IsA`.
