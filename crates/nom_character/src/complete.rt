@@ -20,7 +20,7 @@ use nom_traits::character::{AsChar, AsciiClass};
 use nom_traits::input::Input;
 use std::marker::PhantomData;
 
-/// `character::char` in the complete mode.
+/// Works like `character::char`, always in complete mode.
 #[inline(always)]
 pub fn char<I, E>(c: char) -> Fixed<Char<I, E>, Complete>
     ensures { result.parser.wanted ≡ c }
@@ -28,7 +28,7 @@ pub fn char<I, E>(c: char) -> Fixed<Char<I, E>, Complete>
     fixed(crate::char(c))
 }
 
-/// `character::satisfy` in the complete mode.
+/// Works like `character::satisfy`, always in complete mode.
 #[inline(always)]
 pub fn satisfy<F, I, E>(predicate: F) -> Fixed<Satisfy<CharWhere<F>, I, E>, Complete>
     ensures predicate { result.parser.predicate.test ≡ predicate }
@@ -37,7 +37,7 @@ pub fn satisfy<F, I, E>(predicate: F) -> Fixed<Satisfy<CharWhere<F>, I, E>, Comp
     fixed(crate::satisfy(predicate))
 }
 
-/// `character::one_of` in the complete mode.
+/// Works like `character::one_of`, always in complete mode.
 #[inline(always)]
 pub fn one_of<I, T, E>(list: T) -> Fixed<Satisfy<CharWithin<T>, I, E>, Complete>
     ensures predicate { result.parser.predicate.list ≡ list }
@@ -46,7 +46,7 @@ pub fn one_of<I, T, E>(list: T) -> Fixed<Satisfy<CharWithin<T>, I, E>, Complete>
     fixed(crate::one_of(list))
 }
 
-/// `character::none_of` in the complete mode.
+/// Works like `character::none_of`, always in complete mode.
 #[inline(always)]
 pub fn none_of<I, T, E>(list: T) -> Fixed<Satisfy<CharOutside<T>, I, E>, Complete>
     ensures predicate { result.parser.predicate.list ≡ list }

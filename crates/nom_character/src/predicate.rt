@@ -82,7 +82,7 @@ impl<T: AsChar, L: FindToken<char>> Predicate<T> for CharOutside<L> {
     ghost fixed = { λ list h x v meets fails. one_answer fails meets };
 }
 
-/// The test that an item meets if it is the wanted character.
+/// The test that an item meets if it is the expected character.
 #[derive(Drop)]
 pub struct Is {
     pub wanted: char,
