@@ -35,8 +35,8 @@ pub fn recognize_float<T, E>() -> RecognizeFloat<T, E> {
 /// Matches the shape of a decimal fraction, or `nan`, `infinity` or `inf`, in this order, in any case of the
 /// letters.
 ///
-/// The words are refused with `Float` at the start. All refusals are joined as by `alt`. If the input ends inside
-/// a word, streaming needs the missing letters.
+/// The words are refused with `Float` at the start. All refusals are joined as by `alt`. If the input ends
+/// inside a word, streaming needs the missing letters.
 #[inline(always)]
 pub fn recognize_float_or_exceptions<T, E>() -> OrExceptions<RecognizeFloat<T, E>> {
     OrExceptions {

@@ -41,7 +41,7 @@ fn power_of(power: Option<i32>) -> i32
     }
 }
 
-/// Returns the length of the leading zeros, without the last item.
+/// Returns the length of the leading zeros, never counting the last item.
 #[inline(always)]
 fn zeros_len<I: Input>(digits: I) -> usize
 where
