@@ -1,4 +1,4 @@
-//! Parsers of bits among parsers of bytes, and of bytes among parsers of bits.
+//! Parsers of bits among parsers of bytes, and the reverse.
 ghost use Rattle.std.specs.Prelude.{◌≡◌, true};
 ghost use Rattle.nom_internal.specs.Prelude.{size_of, bits_model, with_streaming, IsSuffixOf, ConvertsSome};
 ghost use Rattle.nom_bits.specs.BitRests.{bits_ahead};
@@ -15,7 +15,7 @@ use nom_internal::parser::{Parser, StreamParser};
 use nom_traits::input::Input;
 use std::marker::PhantomData;
 
-/// The bytes from the next whole byte on, or the end where there is none.
+/// Returns the bytes from the next whole byte on, or the end if there is none.
 #[inline(always)]
 fn whole_byte<I: Input<Item = u8>>(input: (I, usize)) -> I
     ensures { IsSuffixOf (bits_model I.model) input (bits_ahead I.model input) (result, 0) }
@@ -28,7 +28,7 @@ fn whole_byte<I: Input<Item = u8>>(input: (I, usize)) -> I
     }
 }
 
-/// A number of bits that is needed, in bytes.
+/// Converts a needed number of bits to a number of bytes.
 #[inline(always)]
 fn needed_bytes(needed: Needed) -> Needed
     ensures { size_of result ≡ bytes_needed (size_of needed) }
@@ -39,7 +39,7 @@ fn needed_bytes(needed: Needed) -> Needed
     }
 }
 
-/// A number of bytes that is needed, in bits; none where that doesn't fit.
+/// Converts a needed number of bytes to a number of bits. Returns `None` if that doesn't fit.
 #[inline(always)]
 fn needed_bits(needed: Needed) -> Option<Needed>
     ensures { IsNeed needed result }
@@ -53,7 +53,7 @@ fn needed_bits(needed: Needed) -> Option<Needed>
     }
 }
 
-/// An error, converted where it is there.
+/// Converts the error, if there is one.
 #[inline(always)]
 fn converted<F, E: ErrorConvert<F> + Drop>(error: Option<E>) -> Option<F>
     ensures { ConvertsSome E.converts error result }
@@ -64,7 +64,7 @@ fn converted<F, E: ErrorConvert<F> + Drop>(error: Option<E>) -> Option<F>
     }
 }
 
-/// What a parser of bits answers in place of an acceptance, among parsers of bytes.
+/// Converts an answer of a parser of bits that isn't an acceptance to an answer of a parser of bytes.
 #[inline(always)]
 fn in_bytes<F, E: ErrorConvert<F> + Drop>(answer: Err<E, Option<E>>) -> Err<F, Option<F>>
     ensures { InBytes E.converts answer result }
@@ -77,7 +77,7 @@ fn in_bytes<F, E: ErrorConvert<F> + Drop>(answer: Err<E, Option<E>>) -> Err<F, O
     }
 }
 
-/// A failure, since what a parser of bytes needs is too many bits.
+/// Returns the failure for a parser of bytes that needs too many bits.
 #[inline(always)]
 fn too_large<I: Drop, F: ParseError<I>>(input: I) -> Err<F, Option<F>>
     ensures { IsTooLargeAt F.errors input result }
@@ -88,7 +88,7 @@ fn too_large<I: Drop, F: ParseError<I>>(input: I) -> Err<F, Option<F>>
     }
 }
 
-/// What a parser of bytes answers in place of an acceptance, among parsers of bits.
+/// Converts an answer of a parser of bytes that isn't an acceptance to an answer of a parser of bits.
 #[inline(always)]
 fn in_bits<I: Drop, F: ParseError<I>, E: ErrorConvert<F> + Drop>(
     input: I,
@@ -107,7 +107,7 @@ fn in_bits<I: Drop, F: ParseError<I>, E: ErrorConvert<F> + Drop>(
     }
 }
 
-/// A parser of bits among parsers of bytes; made by `bits`. `E` is the type of its errors.
+/// The parser that `bits` returns: a parser of bits among parsers of bytes. `E` is the type of its errors.
 #[derive(Drop)]
 pub struct Bits<P, E> {
     pub parser: P,
@@ -162,7 +162,7 @@ where
     ghost steady = { λ s k. bits_of_steady I.lawful P.Error.converts (P.steady s k) };
 }
 
-/// A parser of bytes among parsers of bits; made by `bytes`. `E` is the type of its errors.
+/// The parser that `bytes` returns: a parser of bytes among parsers of bits. `E` is the type of its errors.
 #[derive(Drop)]
 pub struct Bytes<P, E> {
     pub parser: P,
@@ -184,7 +184,7 @@ where
 
     ghost Tree = { P.Tree };
 
-    /// It rests at a whole byte.
+    /// The rest begins at a whole byte.
     ghost Besides = { λ mode old new. BytesBesides I.model (P.Besides (with_streaming true mode) old.parser new.parser) };
 
     ghost grammar = { λ s. bytes_of I.model E.errors P.Error.converts (P.grammar s) };

@@ -1,6 +1,6 @@
-//! Bit fields, where no more input may come.
+//! Bit fields, in complete mode.
 //!
-//! Where there are fewer bits, each refuses with `Eof`, at the start.
+//! If there are fewer bits, each parser refuses with `Eof` at the start.
 ghost use Rattle.std.specs.Prelude.{◌≡◌, ◌≤◌, false};
 ghost use Rattle.std.specs.Result.{IfOk};
 ghost use Rattle.nom_internal.specs.Prelude.{bits_model, itself};
@@ -20,7 +20,7 @@ use nom_traits::convert::ToUsize;
 use nom_traits::input::Input;
 use std::marker::PhantomData;
 
-/// The number that the next `count` bits spell; `count` is at most the width of `O`.
+/// Returns the number in the next `count` bits. `count` is at most the width of `O`.
 #[inline(always)]
 pub fn take<I, O: BitUint, C: ToUsize + Drop, E>(count: C) -> Fixed<Take<I, O, E>, Complete>
     requires { C.size count ≤ O.WIDTH }
@@ -29,8 +29,9 @@ pub fn take<I, O: BitUint, C: ToUsize + Drop, E>(count: C) -> Fixed<Take<I, O, E
     fixed(crate::take(count))
 }
 
-/// The number `pattern`, spelled by the next `count` bits; `count` is at most the width of `O`. Another
-/// number is refused with `TagBits`, at the start.
+/// Matches the number `pattern` in the next `count` bits. `count` is at most the width of `O`.
+///
+/// Another number is refused with `TagBits` at the start.
 #[inline(always)]
 pub fn tag<I, O: BitUint, C: ToUsize + Drop, E>(
     pattern: O,
@@ -43,7 +44,7 @@ pub fn tag<I, O: BitUint, C: ToUsize + Drop, E>(
     fixed(crate::tag(pattern, count))
 }
 
-/// The next bit: whether it is 1.
+/// Returns whether the next bit is 1.
 #[inline(always)]
 pub fn bool<I: Input<Item = u8>, E: ParseError<(I, usize)>>(
     input: (I, usize),

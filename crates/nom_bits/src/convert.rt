@@ -1,16 +1,18 @@
-//! Errors of parsers of bits as errors of parsers of bytes, and the other way round.
+//! Conversions of errors between parsers of bits and parsers of bytes.
 ghost use Rattle.std.specs.Prelude.{◌≡◌};
 
 use nom_error::kind::ErrorKind;
 use nom_error::value::Error;
 
-/// An error that is converted to an `E`: its input of bits to the input of bytes that the bits are of, and
-/// an input of bytes to its bits, from the first on.
+/// An error that can be converted to an `E`.
+///
+/// An input of bits becomes the input of bytes that contains the bits. An input of bytes becomes its bits,
+/// from the first one on.
 pub trait ErrorConvert<E> {
-    /// What an error is converted to.
+    /// The errors to which an error is converted.
     ghost converts: { Self → E → Type 0 };
 
-    /// The converted error.
+    /// Returns the converted error.
     fn convert(self) -> E
         ensures { converts self result };
 }

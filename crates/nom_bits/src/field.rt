@@ -6,7 +6,7 @@ ghost use Rattle.nom_bits.specs.BitRests.{Skips, StandsAfter, SplitsAt};
 
 use nom_traits::input::Input;
 
-/// The input without its first `count` bytes, where there are that many.
+/// Returns the input without its first `count` bytes, if there are that many.
 #[inline(always)]
 pub fn skipped<I: Input<Item = u8>>(input: I, count: usize) -> Option<I>
     ensures { MatchOption result (length (I.model.elements input) < count) (Skips I.model input count) }
@@ -17,7 +17,7 @@ pub fn skipped<I: Input<Item = u8>>(input: I, count: usize) -> Option<I>
     }
 }
 
-/// What follows `count` bits that begin in the first byte, where there are that many.
+/// Returns the rest after `count` bits that begin in the first byte, if there are that many.
 #[inline(always)]
 fn following<I: Input<Item = u8>>(start: (I, usize), count: usize) -> Option<(I, usize)>
     requires offset { start.1 < 8 }
@@ -41,14 +41,14 @@ fn following<I: Input<Item = u8>>(start: (I, usize), count: usize) -> Option<(I,
     }
 }
 
-/// Where a bit field stands: it starts in the first byte of `start`, and before `rest`.
+/// The place of a bit field: it starts in the first byte of `start`, and ends before `rest`.
 #[derive(Clone, Copy)]
 pub struct Field<I> {
     pub start: (I, usize),
     pub rest: (I, usize),
 }
 
-/// Where the next `count` bits stand, where there are that many.
+/// Returns the place of the next `count` bits, if there are that many.
 #[inline(always)]
 pub fn next_field<I: Input<Item = u8>>(input: (I, usize), count: usize) -> Option<Field<I>>
     requires { count ≤ 128 }
@@ -75,7 +75,7 @@ pub fn next_field<I: Input<Item = u8>>(input: (I, usize), count: usize) -> Optio
     }
 }
 
-/// `value`, and after it `width` bits of a byte without its first `passed`.
+/// Appends to `value` the next `width` bits of a byte, after its first `passed` bits.
 #[inline(always)]
 fn extended(value: u128, byte: u8, passed: usize, width: usize) -> u128
     requires within { passed + width ≤ 8 }
@@ -86,7 +86,7 @@ fn extended(value: u128, byte: u8, passed: usize, width: usize) -> u128
     (value << width) + piece as u128
 }
 
-/// The number that the next `count` bits spell.
+/// Returns the number in the next `count` bits.
 #[inline(always)]
 pub fn spelling<I: Input<Item = u8>>(start: (I, usize), count: usize) -> u128
     requires count { count ≤ 128 }

@@ -1,4 +1,4 @@
-//! The parsers of bit fields.
+//! Parsers of bit fields.
 ghost use Rattle.std.specs.Prelude.{◌≡◌, ℕ, Bool};
 ghost use Rattle.std.specs.Result.{IfOk};
 ghost use Rattle.std.proofs.Common.{sym, ◌∙◌, ap};
@@ -18,7 +18,7 @@ use nom_internal::parser::{Parser, StreamParser};
 use nom_traits::input::Input;
 use std::marker::PhantomData;
 
-/// The number that the next `count` bits spell; made by `take`.
+/// The parser that `take` returns: the number in the next `count` bits.
 #[derive(Drop)]
 pub struct Take<I, O, E> {
     pub count: usize,
@@ -76,10 +76,10 @@ impl<I: Input<Item = u8>, O: BitUint, E: ParseError<(I, usize)>> StreamParser<(I
     ghost steady = { λ count k. take_steady I.model E.errors O.WIDTH count };
 }
 
-/// A number that is wanted, spelled by the next `count` bits; made by `tag`.
+/// The parser that `tag` returns: an expected number in the next `count` bits.
 #[derive(Drop)]
 pub struct Tag<I, O, E> {
-    /// The number.
+    /// The expected number.
     pub pattern: u128,
     pub count: usize,
     pub types: PhantomData<(I, O, E)>,
@@ -140,7 +140,7 @@ impl<I: Input<Item = u8>, O: BitUint, E: ParseError<(I, usize)>> StreamParser<(I
     ghost steady = { λ s k. tag_steady I.model E.errors O.WIDTH s.0 s.1 };
 }
 
-/// The next bit; made by `bool`.
+/// The parser that `bool` returns: the next bit.
 #[derive(Drop)]
 pub struct Bool<I, E> {
     pub types: PhantomData<(I, E)>,

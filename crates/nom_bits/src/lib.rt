@@ -1,4 +1,4 @@
-//! Bit fields, and parsers of bits among parsers of bytes, and the other way round.
+//! Bit fields, and conversions between parsers of bits and parsers of bytes.
 #![tactic(auto)]
 
 ghost use Rattle.std.specs.Prelude.{◌≡◌, ◌≤◌};
@@ -20,9 +20,10 @@ pub use nom_internal::fixed::Fixed;
 use nom_traits::convert::ToUsize;
 use std::marker::PhantomData;
 
-/// The number that the next `count` bits spell, the highest first; `count` is at most the width of `O`.
+/// Returns the number in the next `count` bits, most significant bit first. `count` is at most the width of
+/// `O`.
 ///
-/// Where there are fewer bits, streaming asks for `count`, and complete refuses with `Eof`, at the start.
+/// If there are fewer bits, streaming needs `count`, and complete refuses with `Eof` at the start.
 #[inline(always)]
 pub fn take<I, O: BitUint, C: ToUsize + Drop, E>(count: C) -> Take<I, O, E>
     requires { C.size count ≤ O.WIDTH }
@@ -34,11 +35,10 @@ pub fn take<I, O: BitUint, C: ToUsize + Drop, E>(count: C) -> Take<I, O, E>
     }
 }
 
-/// The number `pattern`, spelled by the next `count` bits, the highest first; `count` is at most the width
-/// of `O`.
+/// Matches the number `pattern` in the next `count` bits, most significant bit first. `count` is at most the
+/// width of `O`.
 ///
-/// Another number is refused with `TagBits`, at the start. Where there are fewer bits, it answers as `take`
-/// does.
+/// Another number is refused with `TagBits` at the start. If there are fewer bits, it answers as `take` does.
 #[inline(always)]
 pub fn tag<I, O: BitUint, C: ToUsize + Drop, E>(pattern: O, count: C) -> Tag<I, O, E>
     requires { C.size count ≤ O.WIDTH }
@@ -52,18 +52,18 @@ pub fn tag<I, O: BitUint, C: ToUsize + Drop, E>(pattern: O, count: C) -> Tag<I, 
     }
 }
 
-/// The next bit: whether it is 1.
+/// Returns whether the next bit is 1.
 ///
-/// Where there is none, streaming asks for it, and complete refuses with `Eof`.
+/// If there is none, streaming needs it, and complete refuses with `Eof`.
 #[inline(always)]
 pub fn bool<I, E>() -> Bool<I, E> {
     Bool { types: PhantomData }
 }
 
-/// A parser of bits among parsers of bytes: it runs from the first bit of the input on.
+/// Runs a parser of bits among parsers of bytes, from the first bit of the input on.
 ///
-/// It runs as where more input may come, in either mode. A byte of which it consumed some bits is consumed.
-/// Where it needs `n` bits, `n / 8 + 1` bytes are needed. Its errors are converted.
+/// It runs in streaming mode, whatever mode is requested. A partly consumed byte counts as consumed. If
+/// `parser` needs `n` bits, `n / 8 + 1` bytes are needed. Its errors are converted.
 #[inline(always)]
 pub fn bits<P, E>(parser: P) -> Bits<P, E>
     ensures { result.parser ≡ parser }
@@ -74,11 +74,10 @@ pub fn bits<P, E>(parser: P) -> Bits<P, E>
     }
 }
 
-/// A parser of bytes among parsers of bits: it runs from the next whole byte on, or at the end where there
-/// is none.
+/// Runs a parser of bytes among parsers of bits, from the next whole byte on, or at the end if there is none.
 ///
-/// It runs as where more input may come, in either mode. Where it needs `n` bytes, `8 * n` bits are needed;
-/// where that doesn't fit a `usize`, it fails with `TooLarge`, at the start. Its errors are converted.
+/// It runs in streaming mode, whatever mode is requested. If `parser` needs `n` bytes, `8 * n` bits are
+/// needed. If that doesn't fit a `usize`, it fails with `TooLarge` at the start. Its errors are converted.
 #[inline(always)]
 pub fn bytes<P, E>(parser: P) -> Bytes<P, E>
     ensures { result.parser ≡ parser }

@@ -1,4 +1,4 @@
-//! Numbers that bits spell.
+//! Numbers that bits represent.
 ghost use Rattle.std.specs.Prelude.{◌≡◌, ◌<◌, ◌≤◌, ◌^◌, ℕ, refl};
 ghost use Rattle.std.proofs.Common.{arith};
 ghost use Rattle.nom_internal.specs.Prelude.{Built};
@@ -6,25 +6,25 @@ ghost use Rattle.nom_internal.specs.Prelude.{Built};
 use nom_error::mode::Mode;
 use nom_traits::view::Viewed;
 
-/// A whole number from 0, spelled by up to 128 bits.
+/// An unsigned integer of up to 128 bits.
 pub trait BitUint: Viewed + Drop + Sized {
     ghost WIDTH: { ℕ };
 
-    /// How many bits the number takes at most.
+    /// The number of bits that the integer takes at most.
     const WIDTH: usize;
 
     /// The value for a number.
     ghost of_bits: { ℕ → Self };
 
-    /// The number that a value stands for.
+    /// The number that a value represents.
     ghost bits: { Self → ℕ };
 
-    /// The value for a number.
+    /// Returns the value for a number.
     fn from_bits(number: u128) -> Self
         requires { number < 2 ^ WIDTH }
         ensures { result ≡ of_bits number };
 
-    /// The number that a value stands for.
+    /// Returns the number that the value represents.
     fn to_bits(self) -> u128
         ensures { result ≡ bits self };
 
@@ -178,7 +178,7 @@ impl BitUint for usize {
     ghost kept = { λ n h. refl };
 }
 
-/// The value for a number, where outputs are built.
+/// Returns the value for a number, if outputs are built.
 #[inline(always)]
 pub fn number_built<M: Mode, O: BitUint>(number: u128) -> Option<O>
     requires { number < 2 ^ O.WIDTH }

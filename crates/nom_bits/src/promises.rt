@@ -1,4 +1,4 @@
-//! What bit fields promise in a row.
+//! Promises of consecutive bit fields.
 ghost use Rattle.std.specs.Prelude.{◌≡◌};
 ghost use Rattle.nom_internal.specs.Prelude.{OfRest, rest_of};
 ghost use Rattle.nom_bits.specs.BitRests.{StandsAfter};
@@ -9,7 +9,7 @@ use nom_error::value::ParseError;
 use nom_internal::parser::Parser;
 use nom_traits::input::Input;
 
-/// Four bits and then eight, as a tuple: the pair that is left stands after twelve bits.
+/// Parses four bits and then eight, as a tuple. The remaining pair is the one after twelve bits.
 pub fn four_then_eight<I: Input<Item = u8>, E: ParseError<(I, usize)>>(
     input: (I, usize),
 ) -> IResult<(I, usize), (u8, u8), E>

@@ -1,4 +1,4 @@
-//! The parser of runs with a bound.
+//! Runs with a lower and an upper bound.
 ghost use Rattle.std.specs.Prelude.{◌≡◌, ◌-◌, ℕ, max, Some};
 ghost use Rattle.nom_error.specs.declared.kind.ErrorKind.TheVariants as Kind;
 ghost use Rattle.nom_internal.specs.Prelude.{Slice, slice_pinned, sliced, premised, premised_lawful, premised_steady};
@@ -15,8 +15,9 @@ use nom_internal::slices::front;
 use nom_traits::input::Input;
 use std::marker::PhantomData;
 
-/// The length of the run of an input, of `most` items at most, and how many items it has; no length
-/// where the run is all of the input.
+/// Returns the length of the run, of at most `most` items, and its number of items.
+///
+/// The length is `None` if the run is the whole input.
 #[inline(always)]
 fn bounded_run<I: Input, P: Predicate<I::Item>>(
     input: I,
@@ -38,7 +39,7 @@ fn bounded_run<I: Input, P: Predicate<I::Item>>(
     (None, count)
 }
 
-/// What a length lacks of another, and 1 at least.
+/// Returns how much `length` is short of `least`, and at least 1.
 #[inline(always)]
 fn lack(least: usize, length: usize) -> usize
     ensures { result ≡ max 1 (least - length) }
@@ -46,7 +47,7 @@ fn lack(least: usize, length: usize) -> usize
     if least > length { least - length } else { 1 }
 }
 
-/// A run of `m` items at least and `n` at most, made by `take_while_m_n`.
+/// The parser that `take_while_m_n` returns: a run of at least `m` and at most `n` items.
 #[derive(Drop)]
 pub struct TakeWhileMN<P, I, E> {
     pub m: usize,
@@ -103,12 +104,14 @@ impl<I: Input, P: Predicate<I::Item>, E: ParseError<I>> StreamParser<I> for Take
         (λ i. E.errors.of_kind i Kind.TakeWhileMN) E.errors.grows) };
 }
 
-/// The first items that meet the test, `m` at least and `n` at most.
+/// Accepts the longest run of items that meet the test, at least `m` and at most `n` of them.
 ///
-/// Where an item follows `n` that meet the test, these are accepted, whatever `m` is; where fewer than
-/// `m` are followed by one that doesn't meet it, it refuses with `TakeWhileMN`. Where the input ends
-/// before, streaming asks for more: for what the input's length lacks of `m`, or else for 1. Complete
-/// accepts all where there are `m` items at least, and else refuses so.
+/// If `n` items meet the test and another item follows them, the `n` items are accepted, whatever `m` is. If
+/// fewer than `m` items meet it and the next item doesn't, the parser refuses with `TakeWhileMN`.
+///
+/// If the input ends before that, streaming needs more: as much as the input's length is short of `m`, and at
+/// least 1. Complete accepts the whole input if it has at least `m` items, and otherwise refuses with
+/// `TakeWhileMN`.
 #[inline(always)]
 pub fn take_while_m_n<F, I, E>(m: usize, n: usize, predicate: F) -> TakeWhileMN<Where<F>, I, E>
     ensures least { result.m ≡ m }

@@ -1,4 +1,4 @@
-//! Parsers of items in one mode: the input is complete, whatever mode is asked for.
+//! Parsers of items that always run in complete mode, whatever mode is requested.
 ghost use Rattle.std.specs.Prelude.{◌≡◌};
 
 use crate::predicate::{Outside, Unless, Where, Within};
@@ -10,7 +10,7 @@ use nom_error::mode::Complete;
 use nom_internal::one_mode::fixed;
 use nom_traits::convert::ToUsize;
 
-/// `bytes::take` in the complete mode.
+/// Works like `bytes::take`, always in complete mode.
 #[inline(always)]
 pub fn take<C: ToUsize + Drop, I, E>(count: C) -> Fixed<Take<I, E>, Complete>
     ensures { result.parser.count ≡ C.size count }
@@ -18,7 +18,7 @@ pub fn take<C: ToUsize + Drop, I, E>(count: C) -> Fixed<Take<I, E>, Complete>
     fixed(crate::take(count))
 }
 
-/// `bytes::tag` in the complete mode.
+/// Works like `bytes::tag`, always in complete mode.
 #[inline(always)]
 pub fn tag<T: Copy, I, E>(tag: T) -> Fixed<Tag<T, I, E>, Complete>
     ensures { result.parser.tag ≡ tag }
@@ -26,7 +26,7 @@ pub fn tag<T: Copy, I, E>(tag: T) -> Fixed<Tag<T, I, E>, Complete>
     fixed(crate::tag(tag))
 }
 
-/// `bytes::tag_no_case` in the complete mode.
+/// Works like `bytes::tag_no_case`, always in complete mode.
 #[inline(always)]
 pub fn tag_no_case<T: Copy, I, E>(tag: T) -> Fixed<TagNoCase<T, I, E>, Complete>
     ensures { result.parser.tag ≡ tag }
@@ -34,7 +34,7 @@ pub fn tag_no_case<T: Copy, I, E>(tag: T) -> Fixed<TagNoCase<T, I, E>, Complete>
     fixed(crate::tag_no_case(tag))
 }
 
-/// `bytes::take_while` in the complete mode.
+/// Works like `bytes::take_while`, always in complete mode.
 #[inline(always)]
 pub fn take_while<F, I, E>(test: F) -> Fixed<SplitPosition<Where<F>, I, E>, Complete>
     ensures { result.parser.predicate.test ≡ test }
@@ -42,7 +42,7 @@ pub fn take_while<F, I, E>(test: F) -> Fixed<SplitPosition<Where<F>, I, E>, Comp
     fixed(crate::take_while(test))
 }
 
-/// `bytes::take_while1` in the complete mode.
+/// Works like `bytes::take_while1`, always in complete mode.
 #[inline(always)]
 pub fn take_while1<F, I, E>(test: F) -> Fixed<SplitPosition1<Where<F>, I, E>, Complete>
     ensures predicate { result.parser.predicate.test ≡ test }
@@ -51,7 +51,7 @@ pub fn take_while1<F, I, E>(test: F) -> Fixed<SplitPosition1<Where<F>, I, E>, Co
     fixed(crate::take_while1(test))
 }
 
-/// `bytes::take_till` in the complete mode.
+/// Works like `bytes::take_till`, always in complete mode.
 #[inline(always)]
 pub fn take_till<F, I, E>(test: F) -> Fixed<SplitPosition<Unless<F>, I, E>, Complete>
     ensures { result.parser.predicate.test ≡ test }
@@ -59,7 +59,7 @@ pub fn take_till<F, I, E>(test: F) -> Fixed<SplitPosition<Unless<F>, I, E>, Comp
     fixed(crate::take_till(test))
 }
 
-/// `bytes::take_till1` in the complete mode.
+/// Works like `bytes::take_till1`, always in complete mode.
 #[inline(always)]
 pub fn take_till1<F, I, E>(test: F) -> Fixed<SplitPosition1<Unless<F>, I, E>, Complete>
     ensures predicate { result.parser.predicate.test ≡ test }
@@ -68,7 +68,7 @@ pub fn take_till1<F, I, E>(test: F) -> Fixed<SplitPosition1<Unless<F>, I, E>, Co
     fixed(crate::take_till1(test))
 }
 
-/// `bytes::take_until` in the complete mode.
+/// Works like `bytes::take_until`, always in complete mode.
 #[inline(always)]
 pub fn take_until<T: Copy, I, E>(tag: T) -> Fixed<TakeUntil<T, I, E>, Complete>
     ensures { result.parser.tag ≡ tag }
@@ -76,7 +76,7 @@ pub fn take_until<T: Copy, I, E>(tag: T) -> Fixed<TakeUntil<T, I, E>, Complete>
     fixed(crate::take_until(tag))
 }
 
-/// `bytes::take_until1` in the complete mode.
+/// Works like `bytes::take_until1`, always in complete mode.
 #[inline(always)]
 pub fn take_until1<T: Copy, I, E>(tag: T) -> Fixed<TakeUntil1<T, I, E>, Complete>
     ensures { result.parser.tag ≡ tag }
@@ -84,7 +84,7 @@ pub fn take_until1<T: Copy, I, E>(tag: T) -> Fixed<TakeUntil1<T, I, E>, Complete
     fixed(crate::take_until1(tag))
 }
 
-/// `bytes::take_while_m_n` in the complete mode.
+/// Works like `bytes::take_while_m_n`, always in complete mode.
 #[inline(always)]
 pub fn take_while_m_n<F, I, E>(
     m: usize,
@@ -98,7 +98,7 @@ pub fn take_while_m_n<F, I, E>(
     fixed(crate::take_while_m_n(m, n, predicate))
 }
 
-/// `bytes::is_a` in the complete mode.
+/// Works like `bytes::is_a`, always in complete mode.
 #[inline(always)]
 pub fn is_a<T, I, E>(list: T) -> Fixed<SplitPosition1<Within<T>, I, E>, Complete>
     ensures predicate { result.parser.predicate.list ≡ list }
@@ -107,7 +107,7 @@ pub fn is_a<T, I, E>(list: T) -> Fixed<SplitPosition1<Within<T>, I, E>, Complete
     fixed(crate::is_a(list))
 }
 
-/// `bytes::is_not` in the complete mode.
+/// Works like `bytes::is_not`, always in complete mode.
 #[inline(always)]
 pub fn is_not<T, I, E>(list: T) -> Fixed<SplitPosition1<Outside<T>, I, E>, Complete>
     ensures predicate { result.parser.predicate.list ≡ list }

@@ -1,4 +1,4 @@
-//! The parsers of items.
+//! The parsers that `take` and `tag` return.
 ghost use Rattle.std.specs.Prelude.{ℕ};
 ghost use Rattle.nom_internal.specs.Prelude.{Slice, slice_pinned, sliced};
 ghost use Rattle.nom_bytes.specs.Takes.{take_meaning};
@@ -16,7 +16,7 @@ use nom_traits::compare::{Compare, CompareResult};
 use nom_traits::input::Input;
 use std::marker::PhantomData;
 
-/// A number of items, made by `take`.
+/// The parser that `take` returns: a fixed number of items.
 #[derive(Drop)]
 pub struct Take<I, E> {
     pub count: usize,
@@ -56,7 +56,7 @@ impl<I: Input, E: ParseError<I>> StreamParser<I> for Take<I, E> {
     ghost steady = { λ count k. take_steady I.model E.errors I.lack count };
 }
 
-/// A tag, made by `tag`.
+/// The parser that `tag` returns.
 #[derive(Drop)]
 pub struct Tag<T, I, E> {
     pub tag: T,

@@ -23,9 +23,9 @@ pub use nom_internal::fixed::Fixed;
 use nom_traits::convert::ToUsize;
 use std::marker::PhantomData;
 
-/// The first `count` items: bytes of a byte slice, characters of a text.
+/// Returns the first `count` items: bytes of a byte slice, characters of a text.
 ///
-/// Where there are fewer, streaming asks for the rest, and complete refuses with `Eof`.
+/// If the input has fewer items, streaming needs the missing ones, and complete refuses with `Eof`.
 #[inline(always)]
 pub fn take<C: ToUsize + Drop, I, E>(count: C) -> Take<I, E>
     ensures { result.count ≡ C.size count }
@@ -36,10 +36,12 @@ pub fn take<C: ToUsize + Drop, I, E>(count: C) -> Take<I, E>
     }
 }
 
-/// A tag that the input begins with; its output is that front of the input.
+/// Matches `tag` at the start of the input, and returns the matched part.
 ///
-/// Any other input is refused with `Tag`. Where the input is only a beginning of the tag, streaming
-/// asks for the rest of the tag, and complete refuses.
+/// Any other input is refused with `Tag`. If the input ends inside the tag, streaming needs the rest of the
+/// tag, and complete refuses with `Tag`.
+///
+/// `tag("ab")` on `"abc"` returns `"ab"` and leaves `"c"`.
 #[inline(always)]
 pub fn tag<T: Copy, I, E>(tag: T) -> Tag<T, I, E>
     ensures { result.tag ≡ tag }
@@ -50,10 +52,10 @@ pub fn tag<T: Copy, I, E>(tag: T) -> Tag<T, I, E>
     }
 }
 
-/// A tag that the input begins with, where the case of ASCII letters doesn't matter; its output is that
-/// front of the input.
+/// Matches `tag` at the start of the input regardless of the case of ASCII letters, and returns the matched
+/// part.
 ///
-/// It refuses and asks for more as `tag` does.
+/// It refuses and needs more as `tag` does.
 #[inline(always)]
 pub fn tag_no_case<T: Copy, I, E>(tag: T) -> TagNoCase<T, I, E>
     ensures { result.tag ≡ tag }
@@ -64,9 +66,9 @@ pub fn tag_no_case<T: Copy, I, E>(tag: T) -> TagNoCase<T, I, E>
     }
 }
 
-/// The items before the first place of a needle, which stays in the rest.
+/// Returns the items before the first occurrence of `tag`. The occurrence stays in the rest.
 ///
-/// Where the needle stands nowhere, streaming asks for more, and complete refuses with `TakeUntil`.
+/// If `tag` doesn't occur, streaming needs more, and complete refuses with `TakeUntil`.
 #[inline(always)]
 pub fn take_until<T: Copy, I, E>(tag: T) -> TakeUntil<T, I, E>
     ensures { result.tag ≡ tag }
@@ -77,7 +79,9 @@ pub fn take_until<T: Copy, I, E>(tag: T) -> TakeUntil<T, I, E>
     }
 }
 
-/// `take_until`, one item at least: a needle at the start is refused with `TakeUntil`.
+/// Returns the items before the first occurrence of `tag`, at least one.
+///
+/// It works as `take_until`, but an occurrence at the start of the input is refused with `TakeUntil`.
 #[inline(always)]
 pub fn take_until1<T: Copy, I, E>(tag: T) -> TakeUntil1<T, I, E>
     ensures { result.tag ≡ tag }

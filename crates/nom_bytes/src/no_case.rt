@@ -1,4 +1,4 @@
-//! Tags without the case of ASCII letters.
+//! Tags that ignore the case of ASCII letters.
 ghost use Rattle.nom_internal.specs.Prelude.{Slice, slice_pinned, sliced};
 ghost use Rattle.nom_bytes.specs.Tags.{tag_meaning};
 ghost use Rattle.nom_bytes.specs.laws.TagLaws.{tag_lawful, tag_steady};
@@ -13,7 +13,7 @@ use nom_traits::compare::{Compare, CompareResult};
 use nom_traits::input::Input;
 use std::marker::PhantomData;
 
-/// A tag without the case of ASCII letters, made by `tag_no_case`.
+/// The parser that `tag_no_case` returns.
 #[derive(Drop)]
 pub struct TagNoCase<T, I, E> {
     pub tag: T,

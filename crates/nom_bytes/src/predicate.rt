@@ -1,4 +1,4 @@
-//! Tests that the items of a run meet.
+//! Tests for the items of a run.
 ghost use Rattle.std.specs.Prelude.{◌↔◌, IsTrue, Bool, true, false, not};
 ghost use Rattle.nom_traits.specs.Runs.{IsPosition};
 ghost use Rattle.nom_bytes.specs.Predicates.{IsFixed, one_answer};
@@ -9,26 +9,26 @@ use nom_traits::input::{Input, Value};
 
 /// A test of items: a closure, or a set of items.
 pub trait Predicate<T: Value> {
-    /// What of the test its answers depend on.
+    /// The part of the test that determines its answers.
     ghost State: { Type 0 };
 
     ghost state: { Self → State };
 
-    /// What it answers at an item: true where the item meets it.
+    /// The test's answer at an item: true if the item meets it.
     ghost answers: { State → T → Bool → Type 0 };
 
-    /// The premise of a call: it may be called at each item.
+    /// The premise of a call: the test may be called at each item.
     ghost Runs: { State → Type 0 };
 
-    /// The premise of its laws: it answers no item in both ways.
+    /// The premise of the test's laws: it answers no item both true and false.
     ghost IsSound: { State → Type 0 };
 
-    /// Whether the item meets the test.
+    /// Returns whether the item meets the test.
     fn meets(&self, item: T) -> bool
         requires { Runs (state self.now) }
         ensures { answers (state self.now) item result };
 
-    /// The place of the first item that doesn't meet the test; `None` where all do.
+    /// Returns the place of the first item that doesn't meet the test, or `None` if all items meet it.
     #[inline(always)]
     fn end<I: Input<Item = T>>(&self, input: I) -> Option<usize>
         requires { Runs (state self.now) }
@@ -41,11 +41,11 @@ pub trait Predicate<T: Value> {
         input.position(fails)
     }
 
-    /// No item is answered in both ways.
+    /// No item is answered both true and false.
     ghost fixed: { (s : State) → IsSound s → IsFixed T.IsValue (answers s) };
 }
 
-/// The items at which the closure answers true.
+/// The test that an item meets if the closure returns true.
 #[derive(Drop)]
 pub struct Where<F> {
     pub test: F,
@@ -70,7 +70,7 @@ impl<T: Value, F: Fn(T) -> bool> Predicate<T> for Where<F> {
     ghost fixed = { λ f h. h };
 }
 
-/// The items at which the closure answers false.
+/// The test that an item meets if the closure returns false.
 #[derive(Drop)]
 pub struct Unless<F> {
     pub test: F,
@@ -95,7 +95,7 @@ impl<T: Value, F: Fn(T) -> bool> Predicate<T> for Unless<F> {
     ghost fixed = { λ f h x v p q. h x v q p };
 }
 
-/// The items of a set.
+/// The test that an item meets if it is in the set.
 #[derive(Drop)]
 pub struct Within<L> {
     pub list: L,
@@ -133,7 +133,7 @@ impl<T: Value, L: FindToken<T>> Predicate<T> for Within<L> {
     ghost fixed = { λ list h x v meets fails. one_answer meets fails };
 }
 
-/// The items that aren't in a set.
+/// The test that an item meets if it isn't in the set.
 #[derive(Drop)]
 pub struct Outside<L> {
     pub list: L,

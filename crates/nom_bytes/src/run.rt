@@ -1,4 +1,4 @@
-//! The parsers of runs that may be empty.
+//! Runs that may be empty.
 ghost use Rattle.std.specs.Prelude.{◌≡◌, None};
 ghost use Rattle.nom_internal.specs.Prelude.{Slice, slice_pinned, sliced, premised, premised_lawful, premised_steady};
 ghost use Rattle.nom_bytes.specs.ParsedRuns.{run_meaning};
@@ -12,7 +12,7 @@ use nom_internal::parser::{Parser, StreamParser};
 use nom_traits::input::Input;
 use std::marker::PhantomData;
 
-/// A run, made by `take_while` and `take_till`.
+/// The parser that `take_while` and `take_till` return.
 #[derive(Drop)]
 pub struct SplitPosition<P, I, E> {
     pub predicate: P,
@@ -49,9 +49,9 @@ impl<I: Input, P: Predicate<I::Item>, E: ParseError<I>> StreamParser<I> for Spli
     ghost steady = { λ s k. premised_steady (run_steady I.model I.Item.IsValue I.values (P.answers s) (P.fixed s k) None 0 {E = E} (λ _ _. ⊥) ⊥) };
 }
 
-/// The longest list of first items that meet the test; it may be empty.
+/// Accepts the longest run of items that meet the test. The run may be empty.
 ///
-/// Where each item meets it, streaming asks for 1 more, and complete accepts all.
+/// If all items meet the test, streaming needs 1 more, and complete accepts the whole input.
 #[inline(always)]
 pub fn take_while<F, I, E>(test: F) -> SplitPosition<Where<F>, I, E>
     ensures { result.predicate.test ≡ test }
@@ -62,9 +62,9 @@ pub fn take_while<F, I, E>(test: F) -> SplitPosition<Where<F>, I, E>
     }
 }
 
-/// The items before the first that meets the test; there may be none.
+/// Accepts the items before the first one that meets the test. There may be none.
 ///
-/// Where no item meets it, streaming asks for 1 more, and complete accepts all.
+/// If no item meets the test, streaming needs 1 more, and complete accepts the whole input.
 #[inline(always)]
 pub fn take_till<F, I, E>(test: F) -> SplitPosition<Unless<F>, I, E>
     ensures { result.predicate.test ≡ test }

@@ -1,4 +1,4 @@
-//! The parsers of runs of one item at least.
+//! Runs of at least one item.
 ghost use Rattle.std.specs.Prelude.{◌≡◌, None, true, false, MatchOption};
 ghost use Rattle.nom_internal.specs.Prelude.{ErrorKind, Refuses, Slice, slice_pinned, sliced, premised, premised_lawful, premised_steady};
 ghost use Rattle.nom_traits.specs.Splits.{FrontBuilt, IsRunLength, IsRunOpen, Splits};
@@ -15,7 +15,8 @@ use nom_traits::input::Input;
 use nom_traits::split::front_built;
 use std::marker::PhantomData;
 
-/// The length of the first items that meet the test; `None` where more may come and all do.
+/// Returns the length of the run of items that meet the test, or `None` if more items may come and all meet
+/// it.
 #[inline(always)]
 fn met_len<I: Input, S: IsStreaming, P: Predicate<I::Item>>(
     predicate: &P,
@@ -33,7 +34,7 @@ fn met_len<I: Input, S: IsStreaming, P: Predicate<I::Item>>(
     }
 }
 
-/// The first items that meet the test, one at least: where there is none, it refuses with the kind.
+/// Accepts the run of items that meet the test, and refuses with `kind` if it is empty.
 #[inline(always)]
 fn split1<OM: OutputMode, I: Input, P: Predicate<I::Item>, E: ParseError<I>>(
     predicate: &P,
@@ -52,7 +53,7 @@ fn split1<OM: OutputMode, I: Input, P: Predicate<I::Item>, E: ParseError<I>>(
     }
 }
 
-/// A run of one item at least, made by `take_while1`, `take_till1`, `is_a` and `is_not`.
+/// The parser that `take_while1`, `take_till1`, `is_a` and `is_not` return: a run of at least one item.
 #[derive(Drop)]
 pub struct SplitPosition1<P, I, E> {
     pub predicate: P,
@@ -92,8 +93,10 @@ impl<I: Input, P: Predicate<I::Item>, E: ParseError<I>> StreamParser<I>
         (λ i. E.errors.of_kind i s.1) E.errors.grows) };
 }
 
-/// `take_while`, one item at least: where the first doesn't meet the test, it refuses with
-/// `TakeWhile1`, and so it does in the complete mode where there is none.
+/// Accepts the longest run of items that meet the test, at least one.
+///
+/// It works as `take_while`, but refuses with `TakeWhile1` if the first item doesn't meet the test. In
+/// complete mode it refuses an empty input the same way.
 #[inline(always)]
 pub fn take_while1<F, I, E>(test: F) -> SplitPosition1<Where<F>, I, E>
     ensures predicate { result.predicate.test ≡ test }
@@ -106,8 +109,10 @@ pub fn take_while1<F, I, E>(test: F) -> SplitPosition1<Where<F>, I, E>
     }
 }
 
-/// `take_till`, one item at least: where the first meets the test, it refuses with `TakeTill1`, and so
-/// it does in the complete mode where there is none.
+/// Accepts the items before the first one that meets the test, at least one.
+///
+/// It works as `take_till`, but refuses with `TakeTill1` if the first item meets the test. In complete mode
+/// it refuses an empty input the same way.
 #[inline(always)]
 pub fn take_till1<F, I, E>(test: F) -> SplitPosition1<Unless<F>, I, E>
     ensures predicate { result.predicate.test ≡ test }
@@ -120,12 +125,14 @@ pub fn take_till1<F, I, E>(test: F) -> SplitPosition1<Unless<F>, I, E>
     }
 }
 
-/// The longest list of first items that are in the set, one at least.
+/// Accepts the longest run of items that are in the set, at least one.
 ///
-/// The set is a list of bytes, as `&[u8]` or `[u8; N]`, or of characters, as `&[char]` or `&str`, or
-/// any other in which items are found by `FindToken`. Where the first item isn't in it, it refuses with
-/// `IsA`. Where each item is, streaming asks for one more, and complete accepts all; where there is no
-/// item, streaming asks for one, and complete refuses so.
+/// The set is a list of bytes (`&[u8]` or `[u8; N]`) or of characters (`&[char]` or `&str`). It may also be
+/// any other type in which `FindToken` finds items. If the first item isn't in the set, the parser refuses
+/// with `IsA`.
+///
+/// If all items are in the set, streaming needs 1 more, and complete accepts the whole input. On an empty
+/// input, streaming needs 1 item, and complete refuses with `IsA`.
 #[inline(always)]
 pub fn is_a<T, I, E>(list: T) -> SplitPosition1<Within<T>, I, E>
     ensures predicate { result.predicate.list ≡ list }
@@ -138,11 +145,12 @@ pub fn is_a<T, I, E>(list: T) -> SplitPosition1<Within<T>, I, E>
     }
 }
 
-/// The items before the first that is in the set, one at least.
+/// Accepts the items before the first one that is in the set, at least one.
 ///
-/// The set is a list as `is_a` takes one. Where the first item is in it, it refuses with `IsNot`. Where
-/// no item is, streaming asks for one more, and complete accepts all; where there is no item, streaming
-/// asks for one, and complete refuses so.
+/// The set is a list, as for `is_a`. If the first item is in the set, the parser refuses with `IsNot`.
+///
+/// If no item is in the set, streaming needs 1 more, and complete accepts the whole input. On an empty input,
+/// streaming needs 1 item, and complete refuses with `IsNot`.
 #[inline(always)]
 pub fn is_not<T, I, E>(list: T) -> SplitPosition1<Outside<T>, I, E>
     ensures predicate { result.predicate.list ≡ list }

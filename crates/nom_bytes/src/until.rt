@@ -1,4 +1,4 @@
-//! Items up to a needle.
+//! Items before a needle.
 ghost use Rattle.std.specs.Prelude.{true, false};
 ghost use Rattle.nom_internal.specs.Prelude.{Slice, slice_pinned, sliced};
 ghost use Rattle.nom_bytes.specs.Untils.{until_meaning};
@@ -14,7 +14,7 @@ use nom_search::substring::FindSubstring;
 use nom_traits::input::Input;
 use std::marker::PhantomData;
 
-/// The items up to the first place of a needle, made by `take_until`.
+/// The parser that `take_until` returns: the items before the first occurrence of `tag`.
 #[derive(Drop)]
 pub struct TakeUntil<T, I, E> {
     pub tag: T,
@@ -57,7 +57,7 @@ impl<T: Copy, I: Input + FindSubstring<T>, E: ParseError<I>> StreamParser<I>
     ghost steady = { λ needle k. until_steady I.model I.lawful E.errors I.finds I.finding false needle };
 }
 
-/// The items up to the first place of a needle, at least one; made by `take_until1`.
+/// The parser that `take_until1` returns: the items before the first occurrence of `tag`, at least one.
 #[derive(Drop)]
 pub struct TakeUntil1<T, I, E> {
     pub tag: T,

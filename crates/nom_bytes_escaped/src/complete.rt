@@ -1,4 +1,4 @@
-//! Texts with escapes in one mode: the input is complete, whatever mode is asked for.
+//! Parsers of texts with escapes that always run in complete mode, whatever mode is requested.
 ghost use Rattle.std.specs.Prelude.{◌≡◌};
 
 use crate::{Escaped, EscapedTransform};
@@ -7,7 +7,7 @@ use nom_internal::fixed::Fixed;
 use nom_internal::one_mode::fixed;
 use std::alloc::Allocator;
 
-/// `bytes::escaped` in the complete mode.
+/// Works like `bytes::escaped`, always in complete mode.
 #[inline(always)]
 pub fn escaped<F, G>(normal: F, control_char: char, escapable: G) -> Fixed<Escaped<F, G>, Complete>
     ensures normal { result.parser.normal ≡ normal }
@@ -17,7 +17,7 @@ pub fn escaped<F, G>(normal: F, control_char: char, escapable: G) -> Fixed<Escap
     fixed(crate::escaped(normal, control_char, escapable))
 }
 
-/// `bytes::escaped_transform` in the complete mode.
+/// Works like `bytes::escaped_transform`, always in complete mode.
 #[inline(always)]
 pub fn escaped_transform<A: Allocator + Copy, F, G>(
     alloc: A,

@@ -13,14 +13,17 @@ pub use crate::raw::Escaped;
 pub use crate::transform::EscapedTransform;
 use std::alloc::Allocator;
 
-/// A text with escapes: normal pieces, and escapable pieces that each stand after the control
-/// character. Its output is the text as it stands, escapes included.
+/// Matches a text with escapes, and returns it as it appears in the input, escapes included.
 ///
-/// Where items are left, `normal` is tried first. Where it accepts nothing, the text ends. Where it
-/// refuses, the control character and `escapable` are tried: another item ends the text, or, as the
-/// first item, is refused with `Escaped` at the start, and what `escapable` refuses is passed on. The
-/// control character as the last item is refused so too; streaming asks for 1 there. Where no item is
-/// left, complete accepts all, and streaming asks for more, since more pieces may come.
+/// The text consists of normal pieces, and of escapable pieces that each follow the control character.
+///
+/// While items are left, `normal` is tried first. If it accepts without consuming input, the text ends. If it
+/// refuses, the control character and `escapable` are tried. Any other item ends the text. If it is the first
+/// item, the parser refuses with `Escaped` at the start instead. A refusal of `escapable` is passed on.
+///
+/// If the control character is the last item, streaming needs 1, and complete refuses with `Escaped` at the
+/// start. If no item is left, complete accepts the whole input. Streaming needs more, since more pieces may
+/// come.
 #[inline(always)]
 pub fn escaped<F, G>(normal: F, control_char: char, escapable: G) -> Escaped<F, G>
     ensures normal { result.normal ≡ normal }
@@ -34,13 +37,16 @@ pub fn escaped<F, G>(normal: F, control_char: char, escapable: G) -> Escaped<F, 
     }
 }
 
-/// A text with escapes, whose output is what the pieces' values make together: the control characters
-/// are left out, and each escapable piece gives what `transform` makes of it. The text takes its memory
-/// from `alloc`; it grows by the pieces, and where it can't, the answer is `OutOfMemory`.
+/// Matches a text with escapes, and returns the text that the values of its pieces make together.
 ///
-/// It accepts as `escaped` does; a last piece that consumes nothing adds its value too. It refuses with
-/// `EscapedTransform`: at the start where no piece begins there, and at the control character where that
-/// is the last item; streaming asks for more there, and can't tell how much.
+/// The control characters are left out. Each escapable piece is replaced by the value that `transform`
+/// returns for it. The output takes its memory from `alloc`. It grows with each piece, and the answer is
+/// `OutOfMemory` if it can't.
+///
+/// It accepts as `escaped` does. A last piece that consumes nothing adds its value too. If no piece begins at
+/// the start, the parser refuses with `EscapedTransform` there. If the control character is the last item,
+/// complete refuses with `EscapedTransform` at that character, and streaming needs more, of an unknown
+/// amount.
 #[inline(always)]
 pub fn escaped_transform<A: Allocator + Copy, F, G>(
     alloc: A,

@@ -14,34 +14,34 @@ use nom_traits::input::Input;
 pub enum Piece<O, P> {
     /// A normal piece.
     Normal(O),
-    /// The control character, and after it an escapable piece.
+    /// An escapable piece, after the control character.
     Escapable(P),
 }
 
-/// What comes next: a piece, or why there is none.
+/// The next piece, or the reason why there is none.
 #[derive(Drop)]
 pub enum NextPiece<T> {
     /// A piece.
     Found(T),
-    /// An item that begins no piece.
+    /// An item that doesn't begin a piece.
     Other,
     /// The control character as the last item.
     Dangling,
-    /// Nothing: no item is left.
+    /// The end: no item is left.
     Done,
 }
 
-/// Where the control character is sought at the start of an input.
+/// The result of a search for the control character at the start of an input.
 pub enum Control<I> {
-    /// Another item stands there.
+    /// Another item is there.
     None,
-    /// It is the last item.
+    /// The control character is the last item.
     Last,
-    /// It stands there, and items are after it.
+    /// The control character is there, and these items follow it.
     Before(I),
 }
 
-/// Whether the first item is the control character, and what is after it.
+/// Returns whether the first item is the control character, and the input after it.
 #[inline(always)]
 fn control_at<I: Input>(control_char: char, input: I) -> Control<I>
 where
@@ -66,7 +66,8 @@ where
     }
 }
 
-/// Where an input ends: more is needed, where more may come, and else what stands there is told.
+/// Returns the answer at the end of an input: it needs more if more may come, and otherwise returns
+/// `next_piece`.
 #[inline(always)]
 fn lacks<S: IsStreaming, I: Copy, T: Drop, E>(
     input: I,
@@ -82,8 +83,9 @@ fn lacks<S: IsStreaming, I: Copy, T: Drop, E>(
     }
 }
 
-/// What stands at the start of an input: a piece, or why there is none. The size that lacks after a
-/// last control character is `lack`.
+/// Returns the piece at the start of the input, or the reason why there is none.
+///
+/// `lack` is the size that is needed after a control character at the end.
 #[inline(always)]
 pub(crate) fn piece_at<OM: OutputMode, I: Input, F: Parser<I>, G: Parser<I, Error = F::Error>>(
     normal: &mut F,

@@ -1,4 +1,4 @@
-//! Texts with escapes, as they stand.
+//! Texts with escapes, returned as they appear in the input.
 ghost use Rattle.std.specs.Prelude.{◌≡◌, ℕ};
 ghost use Rattle.nom_internal.specs.Prelude.{Slice, sliced};
 ghost use Rattle.nom_bytes_escaped.specs.Escapes.{escaped_meaning};
@@ -14,7 +14,7 @@ use nom_internal::slices::before;
 use nom_traits::character::AsChar;
 use nom_traits::input::Input;
 
-/// A text with escapes, made by `escaped`.
+/// The parser that `escaped` returns.
 #[derive(Drop)]
 pub struct Escaped<F, G> {
     pub normal: F,

@@ -1,4 +1,4 @@
-//! Texts with escapes, as they are meant.
+//! Texts with escapes, returned with the escapes replaced.
 ghost use Rattle.std.specs.Prelude.{◌≡◌, ℕ, List, [], IsSome, OnOk, OnErr};
 ghost use Rattle.nom_internal.specs.Prelude.{Built};
 ghost use Rattle.nom_bytes_escaped.specs.declared.next_piece.Piece.{Piece};
@@ -17,7 +17,7 @@ use nom_traits::character::AsChar;
 use nom_traits::input::{Input, Value};
 use std::alloc::Allocator;
 
-/// A text with escapes whose pieces are put together, made by `escaped_transform`.
+/// The parser that `escaped_transform` returns: a text whose pieces' values are put together.
 #[derive(Drop)]
 pub struct EscapedTransform<A, F, G> {
     pub alloc: A,
@@ -26,7 +26,7 @@ pub struct EscapedTransform<A, F, G> {
     pub transform: G,
 }
 
-/// An empty text, where texts are built.
+/// Returns an empty text, if texts are built.
 #[inline(always)]
 fn no_text<M: Mode, A: Allocator + Copy, X: Builder + Drop, I: ExtendInto<A, Extender = X>>(
     input: &I,
@@ -41,7 +41,7 @@ fn no_text<M: Mode, A: Allocator + Copy, X: Builder + Drop, I: ExtendInto<A, Ext
     }
 }
 
-/// Appends a value, where texts are built.
+/// Appends a value, if texts are built.
 #[inline(always)]
 fn append<A: Allocator + Copy, X: Builder + Drop, O: ExtendInto<A, Extender = X> + Drop>(
     text: &mut Option<X>,

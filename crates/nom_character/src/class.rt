@@ -17,7 +17,7 @@ use nom_traits::input::Input;
 use nom_traits::split::front_built;
 use std::marker::PhantomData;
 
-/// The length of the first items that are of the class; `None` where more may come and all are.
+/// Returns the length of the run of items in the class, or `None` if more items may come and all are in it.
 #[inline(always)]
 fn class_len<I: Input, S: IsStreaming>(input: I, class: AsciiClass) -> Option<usize>
 where
@@ -33,7 +33,7 @@ where
     }
 }
 
-/// The first items that are of the class; there may be none.
+/// Accepts the run of items in the class, which may be empty.
 #[inline(always)]
 fn class_split<OM: OutputMode, I: Input, E: ParseError<I>>(
     input: I,
@@ -50,7 +50,7 @@ where
     }
 }
 
-/// The first items that are of the class, one at least: where there is none, it refuses with the kind.
+/// Accepts the run of items in the class, and refuses with `kind` if it is empty.
 #[inline(always)]
 fn class_split1<OM: OutputMode, I: Input, E: ParseError<I>>(
     input: I,
@@ -70,7 +70,8 @@ where
     }
 }
 
-/// The first items that are of the class: one at least, where a kind for its refusal is given.
+/// Accepts the run of items in the class: one or more if `wanted` has the kind for a refusal, and otherwise
+/// zero or more.
 #[inline(always)]
 pub(crate) fn class_run<OM: OutputMode, I: Input, E: ParseError<I>>(
     input: I,
@@ -88,7 +89,7 @@ where
     }
 }
 
-/// The first items of a class, one at least where a kind is given.
+/// A parser of the items of a class: one or more if `wanted` has a kind, and otherwise zero or more.
 #[derive(Drop)]
 pub struct ClassRun<I, E> {
     pub class: AsciiClass,
@@ -131,7 +132,7 @@ where
     ghost steady = { λ s k. class_steady I.model I.Item.IsValue I.values I.Item.code E.errors s.0 s.1 };
 }
 
-/// Decimal digits, one at least, made by `digit1`.
+/// The parser that `digit1` returns: one or more decimal digits.
 #[derive(Drop)]
 pub struct Digit1<I, E> {
     pub error: PhantomData<(I, E)>,
@@ -172,7 +173,7 @@ where
     ghost steady = { λ _ k. class_steady I.model I.Item.IsValue I.values I.Item.code E.errors Class.Digit (Some Kind.Digit) };
 }
 
-/// Spaces, tabs and ends of lines, made by `multispace0`.
+/// The parser that `multispace0` returns: spaces, tabs and ends of lines.
 #[derive(Drop)]
 pub struct MultiSpace0<I, E> {
     pub error: PhantomData<(I, E)>,

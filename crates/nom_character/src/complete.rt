@@ -1,4 +1,4 @@
-//! Parsers of characters in one mode: no more input may come, whatever mode is asked for.
+//! Parsers of characters that always run in complete mode, whatever mode is requested.
 ghost use Rattle.std.specs.Prelude.{◌≡◌, Some, None, false};
 ghost use Rattle.nom_internal.specs.Prelude.{IsModelledBy, itself};
 ghost use Rattle.nom_func.specs.Func.{AnswersBy};
@@ -20,7 +20,7 @@ use nom_traits::character::{AsChar, AsciiClass};
 use nom_traits::input::Input;
 use std::marker::PhantomData;
 
-/// `character::char` in the complete mode.
+/// Works like `character::char`, always in complete mode.
 #[inline(always)]
 pub fn char<I, E>(c: char) -> Fixed<Char<I, E>, Complete>
     ensures { result.parser.wanted ≡ c }
@@ -28,7 +28,7 @@ pub fn char<I, E>(c: char) -> Fixed<Char<I, E>, Complete>
     fixed(crate::char(c))
 }
 
-/// `character::satisfy` in the complete mode.
+/// Works like `character::satisfy`, always in complete mode.
 #[inline(always)]
 pub fn satisfy<F, I, E>(predicate: F) -> Fixed<Satisfy<CharWhere<F>, I, E>, Complete>
     ensures predicate { result.parser.predicate.test ≡ predicate }
@@ -37,7 +37,7 @@ pub fn satisfy<F, I, E>(predicate: F) -> Fixed<Satisfy<CharWhere<F>, I, E>, Comp
     fixed(crate::satisfy(predicate))
 }
 
-/// `character::one_of` in the complete mode.
+/// Works like `character::one_of`, always in complete mode.
 #[inline(always)]
 pub fn one_of<I, T, E>(list: T) -> Fixed<Satisfy<CharWithin<T>, I, E>, Complete>
     ensures predicate { result.parser.predicate.list ≡ list }
@@ -46,7 +46,7 @@ pub fn one_of<I, T, E>(list: T) -> Fixed<Satisfy<CharWithin<T>, I, E>, Complete>
     fixed(crate::one_of(list))
 }
 
-/// `character::none_of` in the complete mode.
+/// Works like `character::none_of`, always in complete mode.
 #[inline(always)]
 pub fn none_of<I, T, E>(list: T) -> Fixed<Satisfy<CharOutside<T>, I, E>, Complete>
     ensures predicate { result.parser.predicate.list ≡ list }
@@ -55,7 +55,9 @@ pub fn none_of<I, T, E>(list: T) -> Fixed<Satisfy<CharOutside<T>, I, E>, Complet
     fixed(crate::none_of(list))
 }
 
-/// The first items of a class, where no more may come: one at least, where a kind for its refusal is given.
+/// Accepts the run of items in the class, in complete mode.
+///
+/// It accepts one or more items if `wanted` has the kind for a refusal, and otherwise zero or more.
 #[inline(always)]
 fn of_class<T: Input, E: ParseError<T>>(
     input: T,
@@ -74,7 +76,7 @@ where
     answer(&mut run, input)
 }
 
-/// The first items that are letters, `A` to `Z` and `a` to `z`; there may be none.
+/// Matches zero or more letters, `A` to `Z` or `a` to `z`.
 #[inline(always)]
 pub fn alpha0<T: Input, E: ParseError<T>>(input: T) -> IResult<T, T, E>
 where
@@ -84,8 +86,9 @@ where
     of_class(input, AsciiClass::Alpha, None)
 }
 
-/// The first items that are letters, `A` to `Z` and `a` to `z`, one at least: where there is none, it
-/// refuses with `Alpha`.
+/// Matches one or more letters, `A` to `Z` or `a` to `z`.
+///
+/// If there is none, it refuses with `Alpha`.
 #[inline(always)]
 pub fn alpha1<T: Input, E: ParseError<T>>(input: T) -> IResult<T, T, E>
 where
@@ -96,7 +99,7 @@ where
     of_class(input, AsciiClass::Alpha, Some(ErrorKind::Alpha))
 }
 
-/// The first items that are decimal digits, `0` to `9`; there may be none.
+/// Matches zero or more decimal digits, `0` to `9`.
 #[inline(always)]
 pub fn digit0<T: Input, E: ParseError<T>>(input: T) -> IResult<T, T, E>
 where
@@ -106,8 +109,9 @@ where
     of_class(input, AsciiClass::Digit, None)
 }
 
-/// The first items that are decimal digits, `0` to `9`, one at least: where there is none, it
-/// refuses with `Digit`.
+/// Matches one or more decimal digits, `0` to `9`.
+///
+/// If there is none, it refuses with `Digit`.
 #[inline(always)]
 pub fn digit1<T: Input, E: ParseError<T>>(input: T) -> IResult<T, T, E>
 where
@@ -118,7 +122,7 @@ where
     of_class(input, AsciiClass::Digit, Some(ErrorKind::Digit))
 }
 
-/// The first items that are hexadecimal digits, `0` to `9`, `A` to `F` and `a` to `f`; there may be none.
+/// Matches zero or more hexadecimal digits, `0` to `9`, `A` to `F` or `a` to `f`.
 #[inline(always)]
 pub fn hex_digit0<T: Input, E: ParseError<T>>(input: T) -> IResult<T, T, E>
 where
@@ -128,8 +132,9 @@ where
     of_class(input, AsciiClass::HexDigit, None)
 }
 
-/// The first items that are hexadecimal digits, `0` to `9`, `A` to `F` and `a` to `f`, one at least: where there is none, it
-/// refuses with `HexDigit`.
+/// Matches one or more hexadecimal digits, `0` to `9`, `A` to `F` or `a` to `f`.
+///
+/// If there is none, it refuses with `HexDigit`.
 #[inline(always)]
 pub fn hex_digit1<T: Input, E: ParseError<T>>(input: T) -> IResult<T, T, E>
 where
@@ -140,7 +145,7 @@ where
     of_class(input, AsciiClass::HexDigit, Some(ErrorKind::HexDigit))
 }
 
-/// The first items that are octal digits, `0` to `7`; there may be none.
+/// Matches zero or more octal digits, `0` to `7`.
 #[inline(always)]
 pub fn oct_digit0<T: Input, E: ParseError<T>>(input: T) -> IResult<T, T, E>
 where
@@ -150,8 +155,9 @@ where
     of_class(input, AsciiClass::OctDigit, None)
 }
 
-/// The first items that are octal digits, `0` to `7`, one at least: where there is none, it
-/// refuses with `OctDigit`.
+/// Matches one or more octal digits, `0` to `7`.
+///
+/// If there is none, it refuses with `OctDigit`.
 #[inline(always)]
 pub fn oct_digit1<T: Input, E: ParseError<T>>(input: T) -> IResult<T, T, E>
 where
@@ -162,7 +168,7 @@ where
     of_class(input, AsciiClass::OctDigit, Some(ErrorKind::OctDigit))
 }
 
-/// The first items that are binary digits, `0` and `1`; there may be none.
+/// Matches zero or more binary digits, `0` or `1`.
 #[inline(always)]
 pub fn bin_digit0<T: Input, E: ParseError<T>>(input: T) -> IResult<T, T, E>
 where
@@ -172,8 +178,9 @@ where
     of_class(input, AsciiClass::BinDigit, None)
 }
 
-/// The first items that are binary digits, `0` and `1`, one at least: where there is none, it
-/// refuses with `BinDigit`.
+/// Matches one or more binary digits, `0` or `1`.
+///
+/// If there is none, it refuses with `BinDigit`.
 #[inline(always)]
 pub fn bin_digit1<T: Input, E: ParseError<T>>(input: T) -> IResult<T, T, E>
 where
@@ -184,7 +191,7 @@ where
     of_class(input, AsciiClass::BinDigit, Some(ErrorKind::BinDigit))
 }
 
-/// The first items that are letters, `A` to `Z` and `a` to `z`, and decimal digits; there may be none.
+/// Matches zero or more letters (`A` to `Z` or `a` to `z`) or decimal digits.
 #[inline(always)]
 pub fn alphanumeric0<T: Input, E: ParseError<T>>(input: T) -> IResult<T, T, E>
 where
@@ -194,8 +201,9 @@ where
     of_class(input, AsciiClass::Alphanumeric, None)
 }
 
-/// The first items that are letters, `A` to `Z` and `a` to `z`, and decimal digits, one at least: where there is none, it
-/// refuses with `AlphaNumeric`.
+/// Matches one or more letters (`A` to `Z` or `a` to `z`) or decimal digits.
+///
+/// If there is none, it refuses with `AlphaNumeric`.
 #[inline(always)]
 pub fn alphanumeric1<T: Input, E: ParseError<T>>(input: T) -> IResult<T, T, E>
 where
@@ -210,7 +218,7 @@ where
     )
 }
 
-/// The first items that are spaces and tabs; there may be none.
+/// Matches zero or more spaces or tabs.
 #[inline(always)]
 pub fn space0<T: Input, E: ParseError<T>>(input: T) -> IResult<T, T, E>
 where
@@ -220,8 +228,9 @@ where
     of_class(input, AsciiClass::Space, None)
 }
 
-/// The first items that are spaces and tabs, one at least: where there is none, it
-/// refuses with `Space`.
+/// Matches one or more spaces or tabs.
+///
+/// If there is none, it refuses with `Space`.
 #[inline(always)]
 pub fn space1<T: Input, E: ParseError<T>>(input: T) -> IResult<T, T, E>
 where
@@ -232,7 +241,7 @@ where
     of_class(input, AsciiClass::Space, Some(ErrorKind::Space))
 }
 
-/// The first items that are spaces, tabs, `\r` and `\n`; there may be none.
+/// Matches zero or more spaces, tabs, `\r` or `\n`.
 #[inline(always)]
 pub fn multispace0<T: Input, E: ParseError<T>>(input: T) -> IResult<T, T, E>
 where
@@ -242,8 +251,9 @@ where
     of_class(input, AsciiClass::MultiSpace, None)
 }
 
-/// The first items that are spaces, tabs, `\r` and `\n`, one at least: where there is none, it
-/// refuses with `MultiSpace`.
+/// Matches one or more spaces, tabs, `\r` or `\n`.
+///
+/// If there is none, it refuses with `MultiSpace`.
 #[inline(always)]
 pub fn multispace1<T: Input, E: ParseError<T>>(input: T) -> IResult<T, T, E>
 where
@@ -255,7 +265,9 @@ where
     of_class(input, AsciiClass::MultiSpace, Some(ErrorKind::MultiSpace))
 }
 
-/// The first item, as a character: an empty input is refused with `Eof`.
+/// Returns the first item as a character.
+///
+/// An empty input is refused with `Eof`.
 #[inline(always)]
 pub fn anychar<T: Input, E: ParseError<T>>(input: T) -> IResult<T, char, E>
 where
@@ -266,9 +278,9 @@ where
     answer(&mut parser, input)
 }
 
-/// The first item, if it is the end of a line, `\n`.
+/// Matches the end of a line, `\n`.
 ///
-/// Any other input is refused by the error type's `from_char`, an empty one too.
+/// Any other input is refused by the error type's `from_char`, even an empty one.
 #[inline(always)]
 pub fn newline<T: Input, E: ParseError<T>>(input: T) -> IResult<T, char, E>
 where
@@ -282,9 +294,9 @@ where
     answer(&mut parser, input)
 }
 
-/// The first item, if it is a tab.
+/// Matches a tab.
 ///
-/// Any other input is refused by the error type's `from_char`, an empty one too.
+/// Any other input is refused by the error type's `from_char`, even an empty one.
 #[inline(always)]
 pub fn tab<T: Input, E: ParseError<T>>(input: T) -> IResult<T, char, E>
 where
@@ -298,9 +310,9 @@ where
     answer(&mut parser, input)
 }
 
-/// `\r\n`.
+/// Matches `\r\n`.
 ///
-/// Any other input is refused with `CrLf`, also one that ends before.
+/// Any other input is refused with `CrLf`, even one that ends too early.
 #[inline(always)]
 pub fn crlf<T: Input, E: ParseError<T>>(input: T) -> IResult<T, T, E>
 where
@@ -311,9 +323,9 @@ where
     answer(&mut parser, input)
 }
 
-/// The end of a line, `\n` or `\r\n`.
+/// Matches the end of a line, `\n` or `\r\n`.
 ///
-/// Any other input is refused with `CrLf`, also one that ends before.
+/// Any other input is refused with `CrLf`, even one that ends too early.
 #[inline(always)]
 pub fn line_ending<T: Input, E: ParseError<T>>(input: T) -> IResult<T, T, E>
 where
@@ -324,10 +336,10 @@ where
     answer(&mut parser, input)
 }
 
-/// The items before the first `\n` or `\r\n`; there may be none.
+/// Accepts the items before the first `\n` or `\r\n`. There may be none.
 ///
-/// Where there is none, all items are accepted. An `\r` that comes first, with no `\n` after it, is
-/// refused with `Tag`.
+/// If the input has neither `\r` nor `\n`, all items are accepted. If the first of these is an `\r` without a
+/// `\n` after it, the parser refuses with `Tag`.
 #[inline(always)]
 pub fn not_line_ending<T: Input, E: ParseError<T>>(input: T) -> IResult<T, T, E>
 where

@@ -34,10 +34,13 @@ use nom_traits::character::AsChar;
 use nom_traits::input::Input;
 use std::marker::PhantomData;
 
-/// The first item, if it is the character; a byte is the character of the same number.
+/// Matches the character `c` as the first item.
 ///
-/// Any other input is refused by the error type's `from_char`, in the complete mode an empty one too.
-/// Of an empty one streaming asks for the length of the character in UTF-8.
+/// A byte is the character of the same number. Any other input is refused by the error type's `from_char`. On
+/// an empty input, streaming needs the length of the character in UTF-8, and complete refuses in the same
+/// way.
+///
+/// `char('a')` on `"abc"` returns `'a'` and leaves `"bc"`.
 #[inline(always)]
 pub fn char<I, E>(c: char) -> Char<I, E>
     ensures { result.wanted ≡ c }
@@ -48,10 +51,10 @@ pub fn char<I, E>(c: char) -> Char<I, E>
     }
 }
 
-/// The first item, if its character passes the test.
+/// Returns the first item as a character if it passes the test.
 ///
-/// Where it doesn't, it refuses with `Satisfy`. Of an empty input streaming asks for more, and can't tell
-/// how much; complete refuses it so.
+/// If it doesn't, the parser refuses with `Satisfy`. On an empty input, streaming needs more, of an unknown
+/// amount, and complete refuses with `Satisfy`.
 #[inline(always)]
 pub fn satisfy<F, I, E>(predicate: F) -> Satisfy<CharWhere<F>, I, E>
     ensures predicate { result.predicate.test ≡ predicate }
@@ -64,11 +67,13 @@ pub fn satisfy<F, I, E>(predicate: F) -> Satisfy<CharWhere<F>, I, E>
     }
 }
 
-/// The first item, if its character is in the set.
+/// Returns the first item as a character if it is in the set.
 ///
-/// The set is any list in which characters are found by `FindToken`, as `&str`, `&[char]`, or `&[u8]`, in
-/// which a byte is the character of the same number. Where it isn't in it, it refuses with `OneOf`. Of an
-/// empty input streaming asks for more, and can't tell how much; complete refuses it so.
+/// The set is any list in which `FindToken` finds characters, such as `&str`, `&[char]` or `&[u8]`. In
+/// `&[u8]`, a byte is the character of the same number.
+///
+/// If the character isn't in the set, the parser refuses with `OneOf`. On an empty input, streaming needs
+/// more, of an unknown amount, and complete refuses with `OneOf`.
 #[inline(always)]
 pub fn one_of<I, T, E>(list: T) -> Satisfy<CharWithin<T>, I, E>
     ensures predicate { result.predicate.list ≡ list }
@@ -81,10 +86,10 @@ pub fn one_of<I, T, E>(list: T) -> Satisfy<CharWithin<T>, I, E>
     }
 }
 
-/// The first item, if its character isn't in the set, which is a list as `one_of` takes one.
+/// Returns the first item as a character if it isn't in the set.
 ///
-/// Where it is in it, it refuses with `NoneOf`. Of an empty input streaming asks for more, and can't tell
-/// how much; complete refuses it so.
+/// The set is a list, as for `one_of`. If the character is in the set, the parser refuses with `NoneOf`. On
+/// an empty input, streaming needs more, of an unknown amount, and complete refuses with `NoneOf`.
 #[inline(always)]
 pub fn none_of<I, T, E>(list: T) -> Satisfy<CharOutside<T>, I, E>
     ensures predicate { result.predicate.list ≡ list }
@@ -97,24 +102,26 @@ pub fn none_of<I, T, E>(list: T) -> Satisfy<CharOutside<T>, I, E>
     }
 }
 
-/// Decimal digits, `0` to `9`, one at least.
+/// Matches one or more decimal digits, `0` to `9`.
 ///
-/// Where the first item is none, it refuses with `Digit`. Where all items are digits, also where there is
-/// no item, streaming asks for 1 more; complete accepts all, and refuses so where there is none.
+/// If the first item is another, it refuses with `Digit`. If all items are digits, or the input is empty,
+/// streaming needs 1 more. Complete accepts the whole input, but refuses an empty one with `Digit`.
 #[inline(always)]
 pub fn digit1<I, E>() -> Digit1<I, E> {
     Digit1 { error: PhantomData }
 }
 
-/// Spaces, tabs, `\r` and `\n`; there may be none.
+/// Matches zero or more spaces, tabs, `\r` or `\n`.
 ///
-/// Where all items are such, streaming asks for 1 more, and complete accepts all.
+/// If all items match, streaming needs 1 more, and complete accepts the whole input.
 #[inline(always)]
 pub fn multispace0<I, E>() -> MultiSpace0<I, E> {
     MultiSpace0 { error: PhantomData }
 }
 
-/// The first item, as a character: in both modes an empty input is refused with `Eof`.
+/// Returns the first item as a character.
+///
+/// In both modes an empty input is refused with `Eof`.
 #[inline(always)]
 pub fn anychar<T: Input, E: ParseError<T>>(input: T) -> IResult<T, char, E>
 where
@@ -125,7 +132,7 @@ where
     answer(&mut parser, input)
 }
 
-/// Whether the byte is an ASCII letter.
+/// Returns whether the byte is an ASCII letter.
 #[inline(always)]
 pub fn is_alphabetic(chr: u8) -> bool
     ensures { result ≡ is_alpha_code chr }
@@ -133,7 +140,7 @@ pub fn is_alphabetic(chr: u8) -> bool
     chr.is_alpha()
 }
 
-/// Whether the byte is a decimal digit, `0` to `9`.
+/// Returns whether the byte is a decimal digit, `0` to `9`.
 #[inline(always)]
 pub fn is_digit(chr: u8) -> bool
     ensures { result ≡ is_dec_digit_code chr }
@@ -141,7 +148,7 @@ pub fn is_digit(chr: u8) -> bool
     chr.is_dec_digit()
 }
 
-/// Whether the byte is a hexadecimal digit, `0` to `9`, `A` to `F` or `a` to `f`.
+/// Returns whether the byte is a hexadecimal digit, `0` to `9`, `A` to `F` or `a` to `f`.
 #[inline(always)]
 pub fn is_hex_digit(chr: u8) -> bool
     ensures { result ≡ is_hex_digit_code chr }
@@ -149,7 +156,7 @@ pub fn is_hex_digit(chr: u8) -> bool
     chr.is_hex_digit()
 }
 
-/// Whether the byte is an octal digit, `0` to `7`.
+/// Returns whether the byte is an octal digit, `0` to `7`.
 #[inline(always)]
 pub fn is_oct_digit(chr: u8) -> bool
     ensures { result ≡ is_oct_digit_code chr }
@@ -157,7 +164,7 @@ pub fn is_oct_digit(chr: u8) -> bool
     chr.is_oct_digit()
 }
 
-/// Whether the byte is a binary digit, `0` or `1`.
+/// Returns whether the byte is a binary digit, `0` or `1`.
 #[inline(always)]
 pub fn is_bin_digit(chr: u8) -> bool
     ensures { result ≡ is_bin_digit_code chr }
@@ -165,7 +172,7 @@ pub fn is_bin_digit(chr: u8) -> bool
     chr.is_bin_digit()
 }
 
-/// Whether the byte is an ASCII letter or a decimal digit.
+/// Returns whether the byte is an ASCII letter or a decimal digit.
 #[inline(always)]
 pub fn is_alphanumeric(chr: u8) -> bool
     ensures { result ≡ is_alphanum_code chr }
@@ -173,7 +180,7 @@ pub fn is_alphanumeric(chr: u8) -> bool
     chr.is_alphanum()
 }
 
-/// Whether the byte is a space or a tab.
+/// Returns whether the byte is a space or a tab.
 #[inline(always)]
 pub fn is_space(chr: u8) -> bool
     ensures { result ≡ is_space_code chr }
@@ -181,7 +188,7 @@ pub fn is_space(chr: u8) -> bool
     chr.is_space()
 }
 
-/// Whether the byte is the end of a line, `\n`.
+/// Returns whether the byte is the end of a line, `\n`.
 #[inline(always)]
 pub fn is_newline(chr: u8) -> bool
     ensures { result ≡ is_newline_code chr }

@@ -18,18 +18,18 @@ use nom_traits::character::AsChar;
 use nom_traits::input::Input;
 use std::marker::PhantomData;
 
-/// What was found at the start of an input.
+/// The result of a match at the start of an input.
 #[derive(Drop)]
 pub enum Matched<I> {
-    /// What is sought, with the rest after it.
+    /// A full match, with the rest after it.
     Full(I),
-    /// Something else.
+    /// No match.
     Absent,
-    /// A beginning of it, of which this lacks.
+    /// A partial match, with the size that it lacks.
     Partial(Needed),
 }
 
-/// The answer for what was found.
+/// Returns the answer for a match.
 #[inline(always)]
 fn answer<OM: OutputMode, I: Input, E: ParseError<I>>(
     input: I,
@@ -48,7 +48,7 @@ fn answer<OM: OutputMode, I: Input, E: ParseError<I>>(
     }
 }
 
-/// An `\n` that is wanted after an `\r`; where there is no item, what lacks is `lack`.
+/// Matches the `\n` that must follow an `\r`. If no item is left, `lack` is the size that is needed.
 #[inline(always)]
 fn newline_at<I: Input, S: IsStreaming>(input: I, lack: Needed) -> Matched<I>
 where
@@ -63,7 +63,7 @@ where
     }
 }
 
-/// `\r\n` at the start of an input.
+/// Matches `\r\n` at the start of the input.
 #[inline(always)]
 fn crlf_at<I: Input, S: IsStreaming>(input: I) -> Matched<I>
 where
@@ -80,7 +80,7 @@ where
     }
 }
 
-/// `\n` or `\r\n` at the start of an input.
+/// Matches `\n` or `\r\n` at the start of the input.
 #[inline(always)]
 fn line_ending_at<I: Input, S: IsStreaming>(input: I) -> Matched<I>
 where
@@ -98,8 +98,9 @@ where
     }
 }
 
-/// The end of a line at the start of an input whose first item is `\r` or `\n`: all of it is what
-/// stands after the line before.
+/// Matches the end of a line at the start of an input whose first item is `\r` or `\n`.
+///
+/// The end belongs to the rest: the whole input is the rest after the line before it.
 #[inline(always)]
 fn line_end_at<I: Input, S: IsStreaming>(input: I) -> Matched<I>
 where
@@ -118,7 +119,7 @@ where
     }
 }
 
-/// The items before the first end of a line.
+/// Matches the items before the first end of a line.
 #[inline(always)]
 fn line_at<I: Input, S: IsStreaming>(input: I) -> Matched<I>
 where
@@ -138,7 +139,7 @@ where
     }
 }
 
-/// `\r\n`, made by `crlf`.
+/// The parser that `crlf` returns: `\r\n`.
 #[derive(Drop)]
 pub struct Crlf<I, E> {
     pub error: PhantomData<(I, E)>,
@@ -180,7 +181,7 @@ where
     ghost steady = { λ _ k. match_steady I.model (crlf_in I.Item.code) (crlf_laws I.Item.code) E.errors Kind.CrLf };
 }
 
-/// `\n` or `\r\n`, made by `line_ending`.
+/// The parser that `line_ending` returns: `\n` or `\r\n`.
 #[derive(Drop)]
 pub struct LineEnding<I, E> {
     pub error: PhantomData<(I, E)>,
@@ -222,7 +223,7 @@ where
     ghost steady = { λ _ k. match_steady I.model (line_ending_in I.Item.code) (line_ending_laws I.Item.code) E.errors Kind.CrLf };
 }
 
-/// The items before the first end of a line, made by `not_line_ending`.
+/// The parser that `not_line_ending` returns: the items before the first end of a line.
 #[derive(Drop)]
 pub struct NotLineEnding<I, E> {
     pub error: PhantomData<(I, E)>,

@@ -1,4 +1,4 @@
-//! The parsers of one character.
+//! Parsers of one character.
 ghost use Rattle.std.specs.Prelude.{◌≡◌, ℕ, true, ◌==◌, Some, None};
 ghost use Rattle.std.specs.Char.{len_utf8};
 ghost use Rattle.nom_internal.specs.Prelude.{ErrorKind, value_pinned, valued, premised, premised_lawful, premised_steady};
@@ -19,7 +19,7 @@ use nom_traits::character::AsChar;
 use nom_traits::input::Input;
 use std::marker::PhantomData;
 
-/// A character, made by `char`.
+/// The parser that `char` returns.
 #[derive(Drop)]
 pub struct Char<I, E> {
     pub wanted: char,
@@ -67,7 +67,7 @@ where
         (test_is_fixed I.Item.IsValue (λ x. I.Item.code x == wanted)) (Some (len_utf8 wanted)) E.errors (OfChar wanted) };
 }
 
-/// A character that passes a test, made by `satisfy`, `one_of` and `none_of`.
+/// The parser that `satisfy`, `one_of` and `none_of` return: a character that passes a test.
 #[derive(Drop)]
 pub struct Satisfy<F, I, E> {
     pub predicate: F,
@@ -117,16 +117,16 @@ where
         (OfKind s.1)) };
 }
 
-/// Any one character.
+/// A parser of any single character.
 ///
-/// Where there is none, streaming asks for 1, and complete refuses with `Eof`.
+/// On an empty input, streaming needs 1, and complete refuses with `Eof`.
 #[derive(Drop)]
 pub struct AnyChar<I, E> {
     pub error: PhantomData<(I, E)>,
 }
 
 impl<I, E> AnyChar<I, E> {
-    /// The parser of any one character.
+    /// Returns the parser of any single character.
     #[inline(always)]
     pub fn new() -> AnyChar<I, E> {
         AnyChar { error: PhantomData }

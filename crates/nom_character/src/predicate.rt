@@ -1,4 +1,4 @@
-//! Tests of the characters of items.
+//! Tests for the characters of items.
 ghost use Rattle.std.specs.Prelude.{ℕ, ◌≡◌, ◌==◌, ◌↔◌, IsTrue, true, not};
 ghost use Rattle.nom_bytes.specs.Predicates.{IsFixed, one_answer};
 ghost use Rattle.nom_character_first.specs.laws.FirstItemLaws.{test_is_fixed};
@@ -7,7 +7,7 @@ use nom_bytes::predicate::Predicate;
 use nom_search::token::FindToken;
 use nom_traits::character::AsChar;
 
-/// The items at whose characters the closure answers true.
+/// The test that an item meets if the closure returns true at its character.
 #[derive(Drop)]
 pub struct CharWhere<F> {
     pub test: F,
@@ -32,7 +32,7 @@ impl<T: AsChar, F: Fn(char) -> bool> Predicate<T> for CharWhere<F> {
     ghost fixed = { λ f h. h };
 }
 
-/// The items whose characters are in a set.
+/// The test that an item meets if its character is in the set.
 #[derive(Drop)]
 pub struct CharWithin<L> {
     pub list: L,
@@ -57,7 +57,7 @@ impl<T: AsChar, L: FindToken<char>> Predicate<T> for CharWithin<L> {
     ghost fixed = { λ list h x v meets fails. one_answer meets fails };
 }
 
-/// The items whose characters aren't in a set.
+/// The test that an item meets if its character isn't in the set.
 #[derive(Drop)]
 pub struct CharOutside<L> {
     pub list: L,
@@ -82,7 +82,7 @@ impl<T: AsChar, L: FindToken<char>> Predicate<T> for CharOutside<L> {
     ghost fixed = { λ list h x v meets fails. one_answer fails meets };
 }
 
-/// The items that are a character.
+/// The test that an item meets if it is the expected character.
 #[derive(Drop)]
 pub struct Is {
     pub wanted: char,
@@ -107,7 +107,7 @@ impl<T: AsChar> Predicate<T> for Is {
     ghost fixed = { λ wanted h. test_is_fixed T.IsValue (λ x. T.code x == wanted) };
 }
 
-/// All items.
+/// The test that every item meets.
 #[derive(Drop)]
 pub struct Any;
 

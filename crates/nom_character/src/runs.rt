@@ -1,4 +1,5 @@
-//! Runs of the items of a class, as parsers: each runs in the mode that is asked for, and is a part as it is.
+//! Parsers of runs of the items of a class. Each runs in the requested mode, and works as a part of other
+//! parsers.
 ghost use Rattle.std.specs.Prelude.{◌≡◌, Some, None};
 
 use crate::class::ClassRun;
@@ -6,7 +7,8 @@ use nom_error::kind::ErrorKind;
 use nom_traits::character::AsciiClass;
 use std::marker::PhantomData;
 
-/// A run of a class: one item at least, where a kind for its refusal is given.
+/// Returns the parser of a run of a class: one or more items if `wanted` has a kind, and otherwise zero or
+/// more.
 #[inline(always)]
 fn run_of<I, E>(class: AsciiClass, wanted: Option<ErrorKind>) -> ClassRun<I, E>
     ensures class { result.class ≡ class }
@@ -19,9 +21,9 @@ fn run_of<I, E>(class: AsciiClass, wanted: Option<ErrorKind>) -> ClassRun<I, E>
     }
 }
 
-/// Letters, `A` to `Z` and `a` to `z`; there may be none.
+/// Matches zero or more letters, `A` to `Z` or `a` to `z`.
 ///
-/// Where all items are such, streaming asks for 1 more, and complete accepts all.
+/// If all items match, streaming needs 1 more, and complete accepts the whole input.
 #[inline(always)]
 pub fn alpha0<I, E>() -> ClassRun<I, E>
     ensures class { result.class ≡ AsciiClass.Alpha }
@@ -30,10 +32,10 @@ pub fn alpha0<I, E>() -> ClassRun<I, E>
     run_of(AsciiClass::Alpha, None)
 }
 
-/// Letters, `A` to `Z` and `a` to `z`, one at least.
+/// Matches one or more letters, `A` to `Z` or `a` to `z`.
 ///
-/// Where the first item is another, it refuses with `Alpha`. Where all are such, also where there is no item,
-/// streaming asks for 1 more; complete accepts all, and refuses so where there is none.
+/// If the first item is another, it refuses with `Alpha`. If all items match, or the input is empty,
+/// streaming needs 1 more. Complete accepts the whole input, but refuses an empty one with `Alpha`.
 #[inline(always)]
 pub fn alpha1<I, E>() -> ClassRun<I, E>
     ensures class { result.class ≡ AsciiClass.Alpha }
@@ -42,9 +44,9 @@ pub fn alpha1<I, E>() -> ClassRun<I, E>
     run_of(AsciiClass::Alpha, Some(ErrorKind::Alpha))
 }
 
-/// Decimal digits, `0` to `9`; there may be none.
+/// Matches zero or more decimal digits, `0` to `9`.
 ///
-/// Where all items are such, streaming asks for 1 more, and complete accepts all.
+/// If all items match, streaming needs 1 more, and complete accepts the whole input.
 #[inline(always)]
 pub fn digit0<I, E>() -> ClassRun<I, E>
     ensures class { result.class ≡ AsciiClass.Digit }
@@ -53,9 +55,9 @@ pub fn digit0<I, E>() -> ClassRun<I, E>
     run_of(AsciiClass::Digit, None)
 }
 
-/// Hexadecimal digits, `0` to `9`, `A` to `F` and `a` to `f`; there may be none.
+/// Matches zero or more hexadecimal digits, `0` to `9`, `A` to `F` or `a` to `f`.
 ///
-/// Where all items are such, streaming asks for 1 more, and complete accepts all.
+/// If all items match, streaming needs 1 more, and complete accepts the whole input.
 #[inline(always)]
 pub fn hex_digit0<I, E>() -> ClassRun<I, E>
     ensures class { result.class ≡ AsciiClass.HexDigit }
@@ -64,10 +66,10 @@ pub fn hex_digit0<I, E>() -> ClassRun<I, E>
     run_of(AsciiClass::HexDigit, None)
 }
 
-/// Hexadecimal digits, `0` to `9`, `A` to `F` and `a` to `f`, one at least.
+/// Matches one or more hexadecimal digits, `0` to `9`, `A` to `F` or `a` to `f`.
 ///
-/// Where the first item is another, it refuses with `HexDigit`. Where all are such, also where there is no item,
-/// streaming asks for 1 more; complete accepts all, and refuses so where there is none.
+/// If the first item is another, it refuses with `HexDigit`. If all items match, or the input is empty,
+/// streaming needs 1 more. Complete accepts the whole input, but refuses an empty one with `HexDigit`.
 #[inline(always)]
 pub fn hex_digit1<I, E>() -> ClassRun<I, E>
     ensures class { result.class ≡ AsciiClass.HexDigit }
@@ -76,9 +78,9 @@ pub fn hex_digit1<I, E>() -> ClassRun<I, E>
     run_of(AsciiClass::HexDigit, Some(ErrorKind::HexDigit))
 }
 
-/// Octal digits, `0` to `7`; there may be none.
+/// Matches zero or more octal digits, `0` to `7`.
 ///
-/// Where all items are such, streaming asks for 1 more, and complete accepts all.
+/// If all items match, streaming needs 1 more, and complete accepts the whole input.
 #[inline(always)]
 pub fn oct_digit0<I, E>() -> ClassRun<I, E>
     ensures class { result.class ≡ AsciiClass.OctDigit }
@@ -87,10 +89,10 @@ pub fn oct_digit0<I, E>() -> ClassRun<I, E>
     run_of(AsciiClass::OctDigit, None)
 }
 
-/// Octal digits, `0` to `7`, one at least.
+/// Matches one or more octal digits, `0` to `7`.
 ///
-/// Where the first item is another, it refuses with `OctDigit`. Where all are such, also where there is no item,
-/// streaming asks for 1 more; complete accepts all, and refuses so where there is none.
+/// If the first item is another, it refuses with `OctDigit`. If all items match, or the input is empty,
+/// streaming needs 1 more. Complete accepts the whole input, but refuses an empty one with `OctDigit`.
 #[inline(always)]
 pub fn oct_digit1<I, E>() -> ClassRun<I, E>
     ensures class { result.class ≡ AsciiClass.OctDigit }
@@ -99,9 +101,9 @@ pub fn oct_digit1<I, E>() -> ClassRun<I, E>
     run_of(AsciiClass::OctDigit, Some(ErrorKind::OctDigit))
 }
 
-/// Binary digits, `0` and `1`; there may be none.
+/// Matches zero or more binary digits, `0` or `1`.
 ///
-/// Where all items are such, streaming asks for 1 more, and complete accepts all.
+/// If all items match, streaming needs 1 more, and complete accepts the whole input.
 #[inline(always)]
 pub fn bin_digit0<I, E>() -> ClassRun<I, E>
     ensures class { result.class ≡ AsciiClass.BinDigit }
@@ -110,10 +112,10 @@ pub fn bin_digit0<I, E>() -> ClassRun<I, E>
     run_of(AsciiClass::BinDigit, None)
 }
 
-/// Binary digits, `0` and `1`, one at least.
+/// Matches one or more binary digits, `0` or `1`.
 ///
-/// Where the first item is another, it refuses with `BinDigit`. Where all are such, also where there is no item,
-/// streaming asks for 1 more; complete accepts all, and refuses so where there is none.
+/// If the first item is another, it refuses with `BinDigit`. If all items match, or the input is empty,
+/// streaming needs 1 more. Complete accepts the whole input, but refuses an empty one with `BinDigit`.
 #[inline(always)]
 pub fn bin_digit1<I, E>() -> ClassRun<I, E>
     ensures class { result.class ≡ AsciiClass.BinDigit }
@@ -122,9 +124,9 @@ pub fn bin_digit1<I, E>() -> ClassRun<I, E>
     run_of(AsciiClass::BinDigit, Some(ErrorKind::BinDigit))
 }
 
-/// Letters, `A` to `Z` and `a` to `z`, and decimal digits; there may be none.
+/// Matches zero or more letters (`A` to `Z` or `a` to `z`) or decimal digits.
 ///
-/// Where all items are such, streaming asks for 1 more, and complete accepts all.
+/// If all items match, streaming needs 1 more, and complete accepts the whole input.
 #[inline(always)]
 pub fn alphanumeric0<I, E>() -> ClassRun<I, E>
     ensures class { result.class ≡ AsciiClass.Alphanumeric }
@@ -133,10 +135,10 @@ pub fn alphanumeric0<I, E>() -> ClassRun<I, E>
     run_of(AsciiClass::Alphanumeric, None)
 }
 
-/// Letters, `A` to `Z` and `a` to `z`, and decimal digits, one at least.
+/// Matches one or more letters (`A` to `Z` or `a` to `z`) or decimal digits.
 ///
-/// Where the first item is another, it refuses with `AlphaNumeric`. Where all are such, also where there is no item,
-/// streaming asks for 1 more; complete accepts all, and refuses so where there is none.
+/// If the first item is another, it refuses with `AlphaNumeric`. If all items match, or the input is empty,
+/// streaming needs 1 more. Complete accepts the whole input, but refuses an empty one with `AlphaNumeric`.
 #[inline(always)]
 pub fn alphanumeric1<I, E>() -> ClassRun<I, E>
     ensures class { result.class ≡ AsciiClass.Alphanumeric }
@@ -145,9 +147,9 @@ pub fn alphanumeric1<I, E>() -> ClassRun<I, E>
     run_of(AsciiClass::Alphanumeric, Some(ErrorKind::AlphaNumeric))
 }
 
-/// Spaces and tabs; there may be none.
+/// Matches zero or more spaces or tabs.
 ///
-/// Where all items are such, streaming asks for 1 more, and complete accepts all.
+/// If all items match, streaming needs 1 more, and complete accepts the whole input.
 #[inline(always)]
 pub fn space0<I, E>() -> ClassRun<I, E>
     ensures class { result.class ≡ AsciiClass.Space }
@@ -156,10 +158,10 @@ pub fn space0<I, E>() -> ClassRun<I, E>
     run_of(AsciiClass::Space, None)
 }
 
-/// Spaces and tabs, one at least.
+/// Matches one or more spaces or tabs.
 ///
-/// Where the first item is another, it refuses with `Space`. Where all are such, also where there is no item,
-/// streaming asks for 1 more; complete accepts all, and refuses so where there is none.
+/// If the first item is another, it refuses with `Space`. If all items match, or the input is empty,
+/// streaming needs 1 more. Complete accepts the whole input, but refuses an empty one with `Space`.
 #[inline(always)]
 pub fn space1<I, E>() -> ClassRun<I, E>
     ensures class { result.class ≡ AsciiClass.Space }
@@ -168,10 +170,10 @@ pub fn space1<I, E>() -> ClassRun<I, E>
     run_of(AsciiClass::Space, Some(ErrorKind::Space))
 }
 
-/// Spaces, tabs, `\r` and `\n`, one at least.
+/// Matches one or more spaces, tabs, `\r` or `\n`.
 ///
-/// Where the first item is another, it refuses with `MultiSpace`. Where all are such, also where there is no item,
-/// streaming asks for 1 more; complete accepts all, and refuses so where there is none.
+/// If the first item is another, it refuses with `MultiSpace`. If all items match, or the input is empty,
+/// streaming needs 1 more. Complete accepts the whole input, but refuses an empty one with `MultiSpace`.
 #[inline(always)]
 pub fn multispace1<I, E>() -> ClassRun<I, E>
     ensures class { result.class ≡ AsciiClass.MultiSpace }

@@ -1,4 +1,4 @@
-//! Parsers of characters in one mode: more input may come, whatever mode is asked for.
+//! Parsers of characters that always run in streaming mode, whatever mode is requested.
 ghost use Rattle.std.specs.Prelude.{◌≡◌, Some, None, true};
 ghost use Rattle.nom_internal.specs.Prelude.{IsModelledBy, itself};
 ghost use Rattle.nom_func.specs.Func.{StreamsBy};
@@ -20,7 +20,7 @@ use nom_traits::character::{AsChar, AsciiClass};
 use nom_traits::input::Input;
 use std::marker::PhantomData;
 
-/// `character::char` in the streaming mode.
+/// Works like `character::char`, always in streaming mode.
 #[inline(always)]
 pub fn char<I, E>(c: char) -> Fixed<Char<I, E>, Streaming>
     ensures { result.parser.wanted ≡ c }
@@ -28,7 +28,7 @@ pub fn char<I, E>(c: char) -> Fixed<Char<I, E>, Streaming>
     fixed(crate::char(c))
 }
 
-/// `character::satisfy` in the streaming mode.
+/// Works like `character::satisfy`, always in streaming mode.
 #[inline(always)]
 pub fn satisfy<F, I, E>(predicate: F) -> Fixed<Satisfy<CharWhere<F>, I, E>, Streaming>
     ensures predicate { result.parser.predicate.test ≡ predicate }
@@ -37,7 +37,7 @@ pub fn satisfy<F, I, E>(predicate: F) -> Fixed<Satisfy<CharWhere<F>, I, E>, Stre
     fixed(crate::satisfy(predicate))
 }
 
-/// `character::one_of` in the streaming mode.
+/// Works like `character::one_of`, always in streaming mode.
 #[inline(always)]
 pub fn one_of<I, T, E>(list: T) -> Fixed<Satisfy<CharWithin<T>, I, E>, Streaming>
     ensures predicate { result.parser.predicate.list ≡ list }
@@ -46,7 +46,7 @@ pub fn one_of<I, T, E>(list: T) -> Fixed<Satisfy<CharWithin<T>, I, E>, Streaming
     fixed(crate::one_of(list))
 }
 
-/// `character::none_of` in the streaming mode.
+/// Works like `character::none_of`, always in streaming mode.
 #[inline(always)]
 pub fn none_of<I, T, E>(list: T) -> Fixed<Satisfy<CharOutside<T>, I, E>, Streaming>
     ensures predicate { result.parser.predicate.list ≡ list }
@@ -55,7 +55,9 @@ pub fn none_of<I, T, E>(list: T) -> Fixed<Satisfy<CharOutside<T>, I, E>, Streami
     fixed(crate::none_of(list))
 }
 
-/// The first items of a class, where more may come: one at least, where a kind for its refusal is given.
+/// Accepts the run of items in the class, in streaming mode.
+///
+/// It accepts one or more items if `wanted` has the kind for a refusal, and otherwise zero or more.
 #[inline(always)]
 fn of_class<T: Input, E: ParseError<T>>(
     input: T,
@@ -74,8 +76,9 @@ where
     stream_answer(&mut run, input)
 }
 
-/// The first items that are letters, `A` to `Z` and `a` to `z`; there may be none. Where all items are such,
-/// it asks for 1 more.
+/// Matches zero or more letters, `A` to `Z` or `a` to `z`.
+///
+/// If all items match, it needs 1 more.
 #[inline(always)]
 pub fn alpha0<T: Input, E: ParseError<T>>(input: T) -> IResult<T, T, E>
 where
@@ -85,8 +88,10 @@ where
     of_class(input, AsciiClass::Alpha, None)
 }
 
-/// The first items that are letters, `A` to `Z` and `a` to `z`, one at least: where the first item is
-/// another, it refuses with `Alpha`. Where all are such, or there is none, it asks for 1 more.
+/// Matches one or more letters, `A` to `Z` or `a` to `z`.
+///
+/// If the first item is another, it refuses with `Alpha`. If all items match, or the input is empty, it needs
+/// 1 more.
 #[inline(always)]
 pub fn alpha1<T: Input, E: ParseError<T>>(input: T) -> IResult<T, T, E>
 where
@@ -97,8 +102,9 @@ where
     of_class(input, AsciiClass::Alpha, Some(ErrorKind::Alpha))
 }
 
-/// The first items that are decimal digits, `0` to `9`; there may be none. Where all items are such,
-/// it asks for 1 more.
+/// Matches zero or more decimal digits, `0` to `9`.
+///
+/// If all items match, it needs 1 more.
 #[inline(always)]
 pub fn digit0<T: Input, E: ParseError<T>>(input: T) -> IResult<T, T, E>
 where
@@ -108,8 +114,10 @@ where
     of_class(input, AsciiClass::Digit, None)
 }
 
-/// The first items that are decimal digits, `0` to `9`, one at least: where the first item is
-/// another, it refuses with `Digit`. Where all are such, or there is none, it asks for 1 more.
+/// Matches one or more decimal digits, `0` to `9`.
+///
+/// If the first item is another, it refuses with `Digit`. If all items match, or the input is empty, it needs
+/// 1 more.
 #[inline(always)]
 pub fn digit1<T: Input, E: ParseError<T>>(input: T) -> IResult<T, T, E>
 where
@@ -120,8 +128,9 @@ where
     of_class(input, AsciiClass::Digit, Some(ErrorKind::Digit))
 }
 
-/// The first items that are hexadecimal digits, `0` to `9`, `A` to `F` and `a` to `f`; there may be none. Where all items are such,
-/// it asks for 1 more.
+/// Matches zero or more hexadecimal digits, `0` to `9`, `A` to `F` or `a` to `f`.
+///
+/// If all items match, it needs 1 more.
 #[inline(always)]
 pub fn hex_digit0<T: Input, E: ParseError<T>>(input: T) -> IResult<T, T, E>
 where
@@ -131,8 +140,10 @@ where
     of_class(input, AsciiClass::HexDigit, None)
 }
 
-/// The first items that are hexadecimal digits, `0` to `9`, `A` to `F` and `a` to `f`, one at least: where the first item is
-/// another, it refuses with `HexDigit`. Where all are such, or there is none, it asks for 1 more.
+/// Matches one or more hexadecimal digits, `0` to `9`, `A` to `F` or `a` to `f`.
+///
+/// If the first item is another, it refuses with `HexDigit`. If all items match, or the input is empty, it
+/// needs 1 more.
 #[inline(always)]
 pub fn hex_digit1<T: Input, E: ParseError<T>>(input: T) -> IResult<T, T, E>
 where
@@ -143,8 +154,9 @@ where
     of_class(input, AsciiClass::HexDigit, Some(ErrorKind::HexDigit))
 }
 
-/// The first items that are octal digits, `0` to `7`; there may be none. Where all items are such,
-/// it asks for 1 more.
+/// Matches zero or more octal digits, `0` to `7`.
+///
+/// If all items match, it needs 1 more.
 #[inline(always)]
 pub fn oct_digit0<T: Input, E: ParseError<T>>(input: T) -> IResult<T, T, E>
 where
@@ -154,8 +166,10 @@ where
     of_class(input, AsciiClass::OctDigit, None)
 }
 
-/// The first items that are octal digits, `0` to `7`, one at least: where the first item is
-/// another, it refuses with `OctDigit`. Where all are such, or there is none, it asks for 1 more.
+/// Matches one or more octal digits, `0` to `7`.
+///
+/// If the first item is another, it refuses with `OctDigit`. If all items match, or the input is empty, it
+/// needs 1 more.
 #[inline(always)]
 pub fn oct_digit1<T: Input, E: ParseError<T>>(input: T) -> IResult<T, T, E>
 where
@@ -166,8 +180,9 @@ where
     of_class(input, AsciiClass::OctDigit, Some(ErrorKind::OctDigit))
 }
 
-/// The first items that are binary digits, `0` and `1`; there may be none. Where all items are such,
-/// it asks for 1 more.
+/// Matches zero or more binary digits, `0` or `1`.
+///
+/// If all items match, it needs 1 more.
 #[inline(always)]
 pub fn bin_digit0<T: Input, E: ParseError<T>>(input: T) -> IResult<T, T, E>
 where
@@ -177,8 +192,10 @@ where
     of_class(input, AsciiClass::BinDigit, None)
 }
 
-/// The first items that are binary digits, `0` and `1`, one at least: where the first item is
-/// another, it refuses with `BinDigit`. Where all are such, or there is none, it asks for 1 more.
+/// Matches one or more binary digits, `0` or `1`.
+///
+/// If the first item is another, it refuses with `BinDigit`. If all items match, or the input is empty, it
+/// needs 1 more.
 #[inline(always)]
 pub fn bin_digit1<T: Input, E: ParseError<T>>(input: T) -> IResult<T, T, E>
 where
@@ -189,8 +206,9 @@ where
     of_class(input, AsciiClass::BinDigit, Some(ErrorKind::BinDigit))
 }
 
-/// The first items that are letters, `A` to `Z` and `a` to `z`, and decimal digits; there may be none. Where all items are such,
-/// it asks for 1 more.
+/// Matches zero or more letters (`A` to `Z` or `a` to `z`) or decimal digits.
+///
+/// If all items match, it needs 1 more.
 #[inline(always)]
 pub fn alphanumeric0<T: Input, E: ParseError<T>>(input: T) -> IResult<T, T, E>
 where
@@ -200,8 +218,10 @@ where
     of_class(input, AsciiClass::Alphanumeric, None)
 }
 
-/// The first items that are letters, `A` to `Z` and `a` to `z`, and decimal digits, one at least: where the first item is
-/// another, it refuses with `AlphaNumeric`. Where all are such, or there is none, it asks for 1 more.
+/// Matches one or more letters (`A` to `Z` or `a` to `z`) or decimal digits.
+///
+/// If the first item is another, it refuses with `AlphaNumeric`. If all items match, or the input is empty,
+/// it needs 1 more.
 #[inline(always)]
 pub fn alphanumeric1<T: Input, E: ParseError<T>>(input: T) -> IResult<T, T, E>
 where
@@ -216,8 +236,9 @@ where
     )
 }
 
-/// The first items that are spaces and tabs; there may be none. Where all items are such,
-/// it asks for 1 more.
+/// Matches zero or more spaces or tabs.
+///
+/// If all items match, it needs 1 more.
 #[inline(always)]
 pub fn space0<T: Input, E: ParseError<T>>(input: T) -> IResult<T, T, E>
 where
@@ -227,8 +248,10 @@ where
     of_class(input, AsciiClass::Space, None)
 }
 
-/// The first items that are spaces and tabs, one at least: where the first item is
-/// another, it refuses with `Space`. Where all are such, or there is none, it asks for 1 more.
+/// Matches one or more spaces or tabs.
+///
+/// If the first item is another, it refuses with `Space`. If all items match, or the input is empty, it needs
+/// 1 more.
 #[inline(always)]
 pub fn space1<T: Input, E: ParseError<T>>(input: T) -> IResult<T, T, E>
 where
@@ -239,8 +262,9 @@ where
     of_class(input, AsciiClass::Space, Some(ErrorKind::Space))
 }
 
-/// The first items that are spaces, tabs, `\r` and `\n`; there may be none. Where all items are such,
-/// it asks for 1 more.
+/// Matches zero or more spaces, tabs, `\r` or `\n`.
+///
+/// If all items match, it needs 1 more.
 #[inline(always)]
 pub fn multispace0<T: Input, E: ParseError<T>>(input: T) -> IResult<T, T, E>
 where
@@ -250,8 +274,10 @@ where
     of_class(input, AsciiClass::MultiSpace, None)
 }
 
-/// The first items that are spaces, tabs, `\r` and `\n`, one at least: where the first item is
-/// another, it refuses with `MultiSpace`. Where all are such, or there is none, it asks for 1 more.
+/// Matches one or more spaces, tabs, `\r` or `\n`.
+///
+/// If the first item is another, it refuses with `MultiSpace`. If all items match, or the input is empty, it
+/// needs 1 more.
 #[inline(always)]
 pub fn multispace1<T: Input, E: ParseError<T>>(input: T) -> IResult<T, T, E>
 where
@@ -263,7 +289,9 @@ where
     of_class(input, AsciiClass::MultiSpace, Some(ErrorKind::MultiSpace))
 }
 
-/// The first item, as a character: of an empty input it asks for 1.
+/// Returns the first item as a character.
+///
+/// On an empty input, the parser needs 1.
 #[inline(always)]
 pub fn anychar<T: Input, E: ParseError<T>>(input: T) -> IResult<T, char, E>
 where
@@ -274,9 +302,9 @@ where
     stream_answer(&mut parser, input)
 }
 
-/// The first item, if it is the end of a line, `\n`.
+/// Matches the end of a line, `\n`.
 ///
-/// Any other input is refused by the error type's `from_char`; of an empty one it asks for 1.
+/// Any other input is refused by the error type's `from_char`. On an empty input, the parser needs 1.
 #[inline(always)]
 pub fn newline<T: Input, E: ParseError<T>>(input: T) -> IResult<T, char, E>
 where
@@ -290,9 +318,9 @@ where
     stream_answer(&mut parser, input)
 }
 
-/// The first item, if it is a tab.
+/// Matches a tab.
 ///
-/// Any other input is refused by the error type's `from_char`; of an empty one it asks for 1.
+/// Any other input is refused by the error type's `from_char`. On an empty input, the parser needs 1.
 #[inline(always)]
 pub fn tab<T: Input, E: ParseError<T>>(input: T) -> IResult<T, char, E>
 where
@@ -306,9 +334,9 @@ where
     stream_answer(&mut parser, input)
 }
 
-/// `\r\n`.
+/// Matches `\r\n`.
 ///
-/// Any other input is refused with `CrLf`; of an empty one, and of a single `\r`, it asks for 2.
+/// Any other input is refused with `CrLf`. On an empty input, and on a single `\r`, the parser needs 2.
 #[inline(always)]
 pub fn crlf<T: Input, E: ParseError<T>>(input: T) -> IResult<T, T, E>
 where
@@ -319,9 +347,10 @@ where
     stream_answer(&mut parser, input)
 }
 
-/// The end of a line, `\n` or `\r\n`.
+/// Matches the end of a line, `\n` or `\r\n`.
 ///
-/// Any other input is refused with `CrLf`; of an empty one it asks for 1, and of a single `\r` for 2.
+/// Any other input is refused with `CrLf`. On an empty input, the parser needs 1. On a single `\r`, it needs
+/// 2.
 #[inline(always)]
 pub fn line_ending<T: Input, E: ParseError<T>>(input: T) -> IResult<T, T, E>
 where
@@ -332,10 +361,11 @@ where
     stream_answer(&mut parser, input)
 }
 
-/// The items before the first `\n` or `\r\n`; there may be none.
+/// Accepts the items before the first `\n` or `\r\n`. There may be none.
 ///
-/// Where there is none, or where the input ends after an `\r`, it asks for more, and can't tell how much.
-/// An `\r` that comes first, with another item after it than `\n`, is refused with `Tag`.
+/// If the input has neither `\r` nor `\n`, the parser needs more, of an unknown amount. If the first of these
+/// is an `\r`, a `\n` must follow. The parser refuses with `Tag` if another item follows. If the input ends
+/// after the `\r`, it needs more, of an unknown amount.
 #[inline(always)]
 pub fn not_line_ending<T: Input, E: ParseError<T>>(input: T) -> IResult<T, T, E>
 where

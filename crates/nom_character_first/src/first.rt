@@ -11,16 +11,16 @@ use nom_error::value::{ParseError, refusal};
 use nom_traits::character::AsChar;
 use nom_traits::input::Input;
 
-/// The error of a refusal.
+/// The kind of error that a refusal reports.
 #[derive(Clone, Copy)]
 pub enum Blame {
-    /// One for a kind.
+    /// An error of a kind.
     OfKind(ErrorKind),
-    /// One for a character that was wanted.
+    /// An error for a character that was expected.
     OfChar(char),
 }
 
-/// A refusal at an input, with its error where errors are built.
+/// Returns a refusal at the input, with its error if errors are built.
 #[inline(always)]
 fn refused<M: Mode, I: Drop, E: ParseError<I>>(input: I, blame: Blame) -> Err<E, Option<E>>
     ensures { Refuses (blamed E.errors blame input) E.errors.grows M.BUILDS result }
@@ -31,7 +31,7 @@ fn refused<M: Mode, I: Drop, E: ParseError<I>>(input: I, blame: Blame) -> Err<E,
     }
 }
 
-/// A refusal at an input where a character was wanted, with its error where errors are built.
+/// Returns a refusal at an input where a character was expected, with its error if errors are built.
 #[inline(always)]
 fn refused_char<M: Mode, I: Drop, E: ParseError<I>>(input: I, wanted: char) -> Err<E, Option<E>>
     ensures { Refuses (E.errors.of_char input wanted) E.errors.grows M.BUILDS result }
@@ -46,7 +46,7 @@ fn refused_char<M: Mode, I: Drop, E: ParseError<I>>(input: I, wanted: char) -> E
     }
 }
 
-/// The first item of an input, if there is one.
+/// Returns the first item of the input, if there is one.
 #[inline(always)]
 pub fn first<I: Input>(input: I) -> Option<I::Item>
     ensures { MatchOption result (I.model.elements input ≡ []) (IsFirstItem I.model input) }
@@ -54,7 +54,7 @@ pub fn first<I: Input>(input: I) -> Option<I::Item>
     input.iter_elements().next()
 }
 
-/// The character of an item, where outputs are built.
+/// Returns the character of the item, if outputs are built.
 #[inline(always)]
 fn character<M: Mode, C: AsChar>(item: C) -> Option<char>
     ensures { Built M.BUILDS (λ c. c ≡ C.code item) result }
@@ -66,7 +66,7 @@ fn character<M: Mode, C: AsChar>(item: C) -> Option<char>
     }
 }
 
-/// The input after its first item.
+/// Returns the input after its first item.
 #[inline(always)]
 pub fn after<I: Input>(input: I, item: I::Item) -> I
 where
@@ -77,7 +77,8 @@ where
     input.take_from(input.item_len(&item))
 }
 
-/// The first item, where it meets the test; where there is none, what lacks is `lack`.
+/// Returns the first item as a character if it meets the test. If there is no item, `lack` is the size that
+/// is needed.
 #[inline(always)]
 pub fn first_where<OM: OutputMode, I: Input, P: Predicate<I::Item>, E: ParseError<I>>(
     input: I,

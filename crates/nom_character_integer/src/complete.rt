@@ -1,7 +1,7 @@
-//! Whole numbers in decimal digits, where no more input may come.
+//! Integers in decimal digits, in complete mode.
 //!
-//! Each reads as many digits as follow, and refuses with `Digit`, at the start of the input, where there
-//! is none, and at the digit with which the number leaves its type.
+//! Each parser reads all digits that follow. It refuses with `Digit`, at the start of the input, if there is
+//! no digit. It does the same as soon as a digit takes the number out of the range of its type.
 ghost use Rattle.std.specs.Prelude.{◌≡◌, pos, false};
 ghost use Rattle.std.specs.Int.{w8, w16, w32, w64, w128};
 ghost use Rattle.nom_internal.specs.Prelude.{itself};
@@ -18,7 +18,7 @@ use nom_traits::view::Viewed;
 use num_traits::PrimInt;
 use std::marker::PhantomData;
 
-/// A whole number of a type of numbers; `signed` says whether a sign may stand first.
+/// Parses an integer of the type `N`; `signed` allows a sign before it.
 #[inline(always)]
 fn of_type<N: PrimInt + Viewed, T: Input, E: ParseError<T>>(
     input: T,
@@ -36,7 +36,7 @@ where
     answer(&mut integer, input)
 }
 
-/// Decimal digits, one at least, of a number below 2^8.
+/// Parses one or more decimal digits as a number below 2^8.
 #[inline(always)]
 pub fn u8<T: Input, E: ParseError<T>>(input: T) -> IResult<T, u8, E>
 where
@@ -46,7 +46,7 @@ where
     of_type::<u8, T, E>(input, false)
 }
 
-/// Decimal digits, one at least, of a number below 2^16.
+/// Parses one or more decimal digits as a number below 2^16.
 #[inline(always)]
 pub fn u16<T: Input, E: ParseError<T>>(input: T) -> IResult<T, u16, E>
 where
@@ -56,7 +56,7 @@ where
     of_type::<u16, T, E>(input, false)
 }
 
-/// Decimal digits, one at least, of a number below 2^32.
+/// Parses one or more decimal digits as a number below 2^32.
 #[inline(always)]
 pub fn u32<T: Input, E: ParseError<T>>(input: T) -> IResult<T, u32, E>
 where
@@ -66,7 +66,7 @@ where
     of_type::<u32, T, E>(input, false)
 }
 
-/// Decimal digits, one at least, of a number below 2^64.
+/// Parses one or more decimal digits as a number below 2^64.
 #[inline(always)]
 pub fn u64<T: Input, E: ParseError<T>>(input: T) -> IResult<T, u64, E>
 where
@@ -76,7 +76,7 @@ where
     of_type::<u64, T, E>(input, false)
 }
 
-/// Decimal digits, one at least, of a number below 2^128.
+/// Parses one or more decimal digits as a number below 2^128.
 #[inline(always)]
 pub fn u128<T: Input, E: ParseError<T>>(input: T) -> IResult<T, u128, E>
 where
@@ -86,7 +86,7 @@ where
     of_type::<u128, T, E>(input, false)
 }
 
-/// Decimal digits, one at least, of a number below 2^64.
+/// Parses one or more decimal digits as a number below 2^64.
 #[inline(always)]
 pub fn usize<T: Input, E: ParseError<T>>(input: T) -> IResult<T, usize, E>
 where
@@ -96,8 +96,8 @@ where
     of_type::<usize, T, E>(input, false)
 }
 
-/// A sign, `+` or `-`, if there is one, and decimal digits, one at least, of a number from -2^7 up and
-/// below 2^7.
+/// Parses an optional sign, `+` or `-`, and one or more decimal digits, as a number from -2^7 up and below
+/// 2^7.
 #[inline(always)]
 pub fn i8<T: Input, E: ParseError<T>>(input: T) -> IResult<T, i8, E>
 where
@@ -107,8 +107,8 @@ where
     of_type::<i8, T, E>(input, true)
 }
 
-/// A sign, `+` or `-`, if there is one, and decimal digits, one at least, of a number from -2^15 up and
-/// below 2^15.
+/// Parses an optional sign, `+` or `-`, and one or more decimal digits, as a number from -2^15 up and below
+/// 2^15.
 #[inline(always)]
 pub fn i16<T: Input, E: ParseError<T>>(input: T) -> IResult<T, i16, E>
 where
@@ -118,8 +118,8 @@ where
     of_type::<i16, T, E>(input, true)
 }
 
-/// A sign, `+` or `-`, if there is one, and decimal digits, one at least, of a number from -2^31 up and
-/// below 2^31.
+/// Parses an optional sign, `+` or `-`, and one or more decimal digits, as a number from -2^31 up and below
+/// 2^31.
 #[inline(always)]
 pub fn i32<T: Input, E: ParseError<T>>(input: T) -> IResult<T, i32, E>
 where
@@ -129,8 +129,8 @@ where
     of_type::<i32, T, E>(input, true)
 }
 
-/// A sign, `+` or `-`, if there is one, and decimal digits, one at least, of a number from -2^63 up and
-/// below 2^63.
+/// Parses an optional sign, `+` or `-`, and one or more decimal digits, as a number from -2^63 up and below
+/// 2^63.
 #[inline(always)]
 pub fn i64<T: Input, E: ParseError<T>>(input: T) -> IResult<T, i64, E>
 where
@@ -140,8 +140,8 @@ where
     of_type::<i64, T, E>(input, true)
 }
 
-/// A sign, `+` or `-`, if there is one, and decimal digits, one at least, of a number from -2^127 up and
-/// below 2^127.
+/// Parses an optional sign, `+` or `-`, and one or more decimal digits, as a number from -2^127 up and below
+/// 2^127.
 #[inline(always)]
 pub fn i128<T: Input, E: ParseError<T>>(input: T) -> IResult<T, i128, E>
 where
@@ -151,8 +151,8 @@ where
     of_type::<i128, T, E>(input, true)
 }
 
-/// A sign, `+` or `-`, if there is one, and decimal digits, one at least, of a number from -2^63 up and
-/// below 2^63.
+/// Parses an optional sign, `+` or `-`, and one or more decimal digits, as a number from -2^63 up and below
+/// 2^63.
 #[inline(always)]
 pub fn isize<T: Input, E: ParseError<T>>(input: T) -> IResult<T, isize, E>
 where

@@ -1,4 +1,4 @@
-//! Whole numbers in decimal digits.
+//! Integers in decimal digits.
 ghost use Rattle.std.specs.Prelude.{◌≡◌, ◌<◌, ◌+◌, ◌-◌, ◌*◌, ◌+ℤ◌, ◌*ℤ◌, ◌≤ℤ◌, ℕ, Bool, ℤ, pos, int_div, true, false, [], ◌∷◌, MatchOption};
 ghost use Rattle.std.proofs.Common.{sym, ◌∙◌};
 ghost use Rattle.nom_internal.specs.Prelude.{is_dec_digit_code, Built};
@@ -19,8 +19,8 @@ use nom_traits::view::Viewed;
 use num_traits::{NumCast, PrimInt, Zero};
 use std::marker::PhantomData;
 
-/// Ten times a number and some ones more, or less where it is negative; `None` where the type doesn't
-/// have it.
+/// Returns ten times `number` plus `ones`, or minus `ones` if `negative`. Returns `None` if the type can't
+/// hold it.
 #[inline(always)]
 fn ten_times_and<T: PrimInt>(number: T, ten: T, ones: T, negative: bool) -> Option<T>
     ensures { (n d : ℕ) → T.value number ≡ with_sign negative n → T.value ten ≡ pos 10 → T.value ones ≡ pos d →
@@ -34,7 +34,7 @@ fn ten_times_and<T: PrimInt>(number: T, ten: T, ones: T, negative: bool) -> Opti
     }
 }
 
-/// A tenth of the type's greatest number, rounded down.
+/// Returns a tenth of the type's greatest number, rounded down.
 #[inline(always)]
 fn tenth_of_greatest<T: PrimInt>(ten: T) -> T
     requires { T.value ten ≡ pos 10 }
@@ -43,7 +43,7 @@ fn tenth_of_greatest<T: PrimInt>(ten: T) -> T
     T::max_value() / ten
 }
 
-/// Ten times a number and some ones more, which the type has.
+/// Returns ten times `number` plus `ones`, a number that the type has.
 #[inline(always)]
 fn ten_times_more<T: PrimInt>(number: T, ten: T, ones: T) -> T
     requires { T.fits (T.value number *ℤ T.value ten) × T.fits (T.value number *ℤ T.value ten +ℤ T.value ones) }
@@ -53,8 +53,9 @@ fn ten_times_more<T: PrimInt>(number: T, ten: T, ones: T) -> T
     number * ten + ones
 }
 
-/// The number with one more digit after its own; `None` where the type doesn't have it. After a number below a
-/// tenth of the greatest one any digit may follow, so no sum is tested.
+/// Returns `number` with one more digit appended, or `None` if the type can't hold it.
+///
+/// After a number below a tenth of the greatest one, any digit may follow, and no sum is tested.
 #[inline(always)]
 fn followed_by<T: PrimInt>(number: T, digit: u8, negative: bool) -> Option<T>
     requires digit { digit < 10 }
@@ -69,7 +70,7 @@ fn followed_by<T: PrimInt>(number: T, digit: u8, negative: bool) -> Option<T>
     ten_times_and(number, ten, ones, negative)
 }
 
-/// The value of an item that is a decimal digit.
+/// Returns the value of an item that is a decimal digit.
 #[inline(always)]
 fn digit_of<C: AsChar>(item: C) -> Option<u8>
     ensures { MatchOption result (is_dec_digit_code (C.code item) ≡ false) (λ d. (is_dec_digit_code (C.code item) ≡ true) × (d ≡ C.code item - 48)) }
@@ -81,7 +82,7 @@ fn digit_of<C: AsChar>(item: C) -> Option<u8>
     }
 }
 
-/// The sign at the start of an input, where one may stand there.
+/// Returns the sign at the start of the input, if one is allowed there.
 #[inline(always)]
 fn sign_at<I: Input>(input: I, signed: bool) -> Option<I::Item>
 where
@@ -98,7 +99,7 @@ where
     }
 }
 
-/// What stands after a sign.
+/// The part of an input after an optional sign.
 #[derive(Drop)]
 pub struct Unsigned<I> {
     /// Whether the sign is a minus.
@@ -107,7 +108,7 @@ pub struct Unsigned<I> {
     pub digits: I,
 }
 
-/// The input after its sign, where one may stand first.
+/// Returns the input after its sign, if a sign is allowed at the start.
 #[inline(always)]
 fn after_sign<I: Input>(input: I, signed: bool) -> Unsigned<I>
 where
@@ -134,12 +135,13 @@ pub struct Number<T> {
     pub value: T,
     /// The length of its digits.
     pub length: usize,
-    /// Whether an item follows them.
+    /// Whether an item follows the digits.
     pub followed: bool,
 }
 
-/// The number that the first digits write; `None` where the type doesn't have it, which is told at the
-/// digit that is too much.
+/// Returns the number that the first digits write, or `None` if the type can't hold it.
+///
+/// `None` is returned at the digit that is too much.
 #[inline(always)]
 fn number_at<I: Input, T: PrimInt>(input: I, negative: bool) -> Option<Number<T>>
 where
@@ -169,7 +171,7 @@ where
     })
 }
 
-/// What is built of a number.
+/// Returns the value, if outputs are built.
 #[inline(always)]
 fn built<M: Mode, T: Drop>(value: T) -> Option<T>
     ensures { Built M.BUILDS (λ x. x ≡ value) result }
@@ -177,10 +179,10 @@ fn built<M: Mode, T: Drop>(value: T) -> Option<T>
     if M::BUILDS { Some(value) } else { None }
 }
 
-/// A whole number in decimal digits, of a type of numbers, made by `u8` and its like.
+/// The parser that `u8` and its siblings return: an integer in decimal digits, of the type `T`.
 #[derive(Drop)]
 pub struct Integer<T, I, E> {
-    /// Whether a sign may stand first.
+    /// Whether a sign is allowed at the start.
     pub signed: bool,
     /// The types of the number, of the input and of the error.
     pub types: PhantomData<(T, I, E)>,

@@ -1,4 +1,4 @@
-//! Parsers of whole numbers in decimal digits.
+//! Parsers of integers in decimal digits.
 #![tactic(auto)]
 
 pub mod complete;

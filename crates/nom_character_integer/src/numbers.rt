@@ -1,14 +1,15 @@
-//! Whole numbers in decimal digits, as parsers: each runs in the mode that is asked for, and is a part as it is.
+//! Parsers of integers in decimal digits. Each runs in the requested mode, and works as a part of other
+//! parsers.
 //!
-//! Each reads as many digits as follow, and refuses with `Digit`, at the start of the input, where there
-//! is none, and at the digit with which the number leaves its type. Where no item follows the digits,
-//! streaming needs 1 more.
+//! Each parser reads all digits that follow. It refuses with `Digit`, at the start of the input, if there is
+//! no digit. It does the same as soon as a digit takes the number out of the range of its type. If no item
+//! follows the digits, streaming needs 1 more.
 ghost use Rattle.std.specs.Prelude.{◌≡◌, true, false};
 
 use crate::integer::Integer;
 use std::marker::PhantomData;
 
-/// Decimal digits, one at least, of a number below 2^8.
+/// Parses one or more decimal digits as a number below 2^8.
 #[inline(always)]
 pub fn u8<I, E>() -> Integer<u8, I, E>
     ensures { result.signed ≡ false }
@@ -19,7 +20,7 @@ pub fn u8<I, E>() -> Integer<u8, I, E>
     }
 }
 
-/// Decimal digits, one at least, of a number below 2^16.
+/// Parses one or more decimal digits as a number below 2^16.
 #[inline(always)]
 pub fn u16<I, E>() -> Integer<u16, I, E>
     ensures { result.signed ≡ false }
@@ -30,7 +31,7 @@ pub fn u16<I, E>() -> Integer<u16, I, E>
     }
 }
 
-/// Decimal digits, one at least, of a number below 2^32.
+/// Parses one or more decimal digits as a number below 2^32.
 #[inline(always)]
 pub fn u32<I, E>() -> Integer<u32, I, E>
     ensures { result.signed ≡ false }
@@ -41,7 +42,7 @@ pub fn u32<I, E>() -> Integer<u32, I, E>
     }
 }
 
-/// Decimal digits, one at least, of a number below 2^64.
+/// Parses one or more decimal digits as a number below 2^64.
 #[inline(always)]
 pub fn u64<I, E>() -> Integer<u64, I, E>
     ensures { result.signed ≡ false }
@@ -52,7 +53,7 @@ pub fn u64<I, E>() -> Integer<u64, I, E>
     }
 }
 
-/// Decimal digits, one at least, of a number below 2^128.
+/// Parses one or more decimal digits as a number below 2^128.
 #[inline(always)]
 pub fn u128<I, E>() -> Integer<u128, I, E>
     ensures { result.signed ≡ false }
@@ -63,7 +64,7 @@ pub fn u128<I, E>() -> Integer<u128, I, E>
     }
 }
 
-/// Decimal digits, one at least, of a number below 2^64.
+/// Parses one or more decimal digits as a number below 2^64.
 #[inline(always)]
 pub fn usize<I, E>() -> Integer<usize, I, E>
     ensures { result.signed ≡ false }
@@ -74,8 +75,8 @@ pub fn usize<I, E>() -> Integer<usize, I, E>
     }
 }
 
-/// A sign, `+` or `-`, if there is one, and decimal digits, one at least, of a number from -2^7 up and
-/// below 2^7.
+/// Parses an optional sign, `+` or `-`, and one or more decimal digits, as a number from -2^7 up and below
+/// 2^7.
 #[inline(always)]
 pub fn i8<I, E>() -> Integer<i8, I, E>
     ensures { result.signed ≡ true }
@@ -86,8 +87,8 @@ pub fn i8<I, E>() -> Integer<i8, I, E>
     }
 }
 
-/// A sign, `+` or `-`, if there is one, and decimal digits, one at least, of a number from -2^15 up and
-/// below 2^15.
+/// Parses an optional sign, `+` or `-`, and one or more decimal digits, as a number from -2^15 up and below
+/// 2^15.
 #[inline(always)]
 pub fn i16<I, E>() -> Integer<i16, I, E>
     ensures { result.signed ≡ true }
@@ -98,8 +99,8 @@ pub fn i16<I, E>() -> Integer<i16, I, E>
     }
 }
 
-/// A sign, `+` or `-`, if there is one, and decimal digits, one at least, of a number from -2^31 up and
-/// below 2^31.
+/// Parses an optional sign, `+` or `-`, and one or more decimal digits, as a number from -2^31 up and below
+/// 2^31.
 #[inline(always)]
 pub fn i32<I, E>() -> Integer<i32, I, E>
     ensures { result.signed ≡ true }
@@ -110,8 +111,8 @@ pub fn i32<I, E>() -> Integer<i32, I, E>
     }
 }
 
-/// A sign, `+` or `-`, if there is one, and decimal digits, one at least, of a number from -2^63 up and
-/// below 2^63.
+/// Parses an optional sign, `+` or `-`, and one or more decimal digits, as a number from -2^63 up and below
+/// 2^63.
 #[inline(always)]
 pub fn i64<I, E>() -> Integer<i64, I, E>
     ensures { result.signed ≡ true }
@@ -122,8 +123,8 @@ pub fn i64<I, E>() -> Integer<i64, I, E>
     }
 }
 
-/// A sign, `+` or `-`, if there is one, and decimal digits, one at least, of a number from -2^127 up and
-/// below 2^127.
+/// Parses an optional sign, `+` or `-`, and one or more decimal digits, as a number from -2^127 up and below
+/// 2^127.
 #[inline(always)]
 pub fn i128<I, E>() -> Integer<i128, I, E>
     ensures { result.signed ≡ true }
@@ -134,8 +135,8 @@ pub fn i128<I, E>() -> Integer<i128, I, E>
     }
 }
 
-/// A sign, `+` or `-`, if there is one, and decimal digits, one at least, of a number from -2^63 up and
-/// below 2^63.
+/// Parses an optional sign, `+` or `-`, and one or more decimal digits, as a number from -2^63 up and below
+/// 2^63.
 #[inline(always)]
 pub fn isize<I, E>() -> Integer<isize, I, E>
     ensures { result.signed ≡ true }

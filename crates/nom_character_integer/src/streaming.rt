@@ -1,8 +1,8 @@
-//! Whole numbers in decimal digits, where more input may come.
+//! Integers in decimal digits, in streaming mode.
 //!
-//! Each reads as many digits as follow, and refuses with `Digit`, at the start of the input, where there
-//! is none, and at the digit with which the number leaves its type. Where no item follows the digits, it
-//! needs 1 more.
+//! Each parser reads all digits that follow. It refuses with `Digit`, at the start of the input, if there is
+//! no digit. It does the same as soon as a digit takes the number out of the range of its type. If no item
+//! follows the digits, it needs 1 more.
 ghost use Rattle.std.specs.Prelude.{◌≡◌, pos, true};
 ghost use Rattle.std.specs.Int.{w8, w16, w32, w64, w128};
 ghost use Rattle.nom_internal.specs.Prelude.{itself};
@@ -19,7 +19,7 @@ use nom_traits::view::Viewed;
 use num_traits::PrimInt;
 use std::marker::PhantomData;
 
-/// A whole number of a type of numbers; `signed` says whether a sign may stand first.
+/// Parses an integer of the type `N`; `signed` allows a sign before it.
 #[inline(always)]
 fn of_type<N: PrimInt + Viewed, T: Input, E: ParseError<T>>(
     input: T,
@@ -37,7 +37,7 @@ where
     stream_answer(&mut integer, input)
 }
 
-/// Decimal digits, one at least, of a number below 2^8.
+/// Parses one or more decimal digits as a number below 2^8.
 #[inline(always)]
 pub fn u8<T: Input, E: ParseError<T>>(input: T) -> IResult<T, u8, E>
 where
@@ -47,7 +47,7 @@ where
     of_type::<u8, T, E>(input, false)
 }
 
-/// Decimal digits, one at least, of a number below 2^16.
+/// Parses one or more decimal digits as a number below 2^16.
 #[inline(always)]
 pub fn u16<T: Input, E: ParseError<T>>(input: T) -> IResult<T, u16, E>
 where
@@ -57,7 +57,7 @@ where
     of_type::<u16, T, E>(input, false)
 }
 
-/// Decimal digits, one at least, of a number below 2^32.
+/// Parses one or more decimal digits as a number below 2^32.
 #[inline(always)]
 pub fn u32<T: Input, E: ParseError<T>>(input: T) -> IResult<T, u32, E>
 where
@@ -67,7 +67,7 @@ where
     of_type::<u32, T, E>(input, false)
 }
 
-/// Decimal digits, one at least, of a number below 2^64.
+/// Parses one or more decimal digits as a number below 2^64.
 #[inline(always)]
 pub fn u64<T: Input, E: ParseError<T>>(input: T) -> IResult<T, u64, E>
 where
@@ -77,7 +77,7 @@ where
     of_type::<u64, T, E>(input, false)
 }
 
-/// Decimal digits, one at least, of a number below 2^128.
+/// Parses one or more decimal digits as a number below 2^128.
 #[inline(always)]
 pub fn u128<T: Input, E: ParseError<T>>(input: T) -> IResult<T, u128, E>
 where
@@ -87,7 +87,7 @@ where
     of_type::<u128, T, E>(input, false)
 }
 
-/// Decimal digits, one at least, of a number below 2^64.
+/// Parses one or more decimal digits as a number below 2^64.
 #[inline(always)]
 pub fn usize<T: Input, E: ParseError<T>>(input: T) -> IResult<T, usize, E>
 where
@@ -97,8 +97,8 @@ where
     of_type::<usize, T, E>(input, false)
 }
 
-/// A sign, `+` or `-`, if there is one, and decimal digits, one at least, of a number from -2^7 up and
-/// below 2^7.
+/// Parses an optional sign, `+` or `-`, and one or more decimal digits, as a number from -2^7 up and below
+/// 2^7.
 #[inline(always)]
 pub fn i8<T: Input, E: ParseError<T>>(input: T) -> IResult<T, i8, E>
 where
@@ -108,8 +108,8 @@ where
     of_type::<i8, T, E>(input, true)
 }
 
-/// A sign, `+` or `-`, if there is one, and decimal digits, one at least, of a number from -2^15 up and
-/// below 2^15.
+/// Parses an optional sign, `+` or `-`, and one or more decimal digits, as a number from -2^15 up and below
+/// 2^15.
 #[inline(always)]
 pub fn i16<T: Input, E: ParseError<T>>(input: T) -> IResult<T, i16, E>
 where
@@ -119,8 +119,8 @@ where
     of_type::<i16, T, E>(input, true)
 }
 
-/// A sign, `+` or `-`, if there is one, and decimal digits, one at least, of a number from -2^31 up and
-/// below 2^31.
+/// Parses an optional sign, `+` or `-`, and one or more decimal digits, as a number from -2^31 up and below
+/// 2^31.
 #[inline(always)]
 pub fn i32<T: Input, E: ParseError<T>>(input: T) -> IResult<T, i32, E>
 where
@@ -130,8 +130,8 @@ where
     of_type::<i32, T, E>(input, true)
 }
 
-/// A sign, `+` or `-`, if there is one, and decimal digits, one at least, of a number from -2^63 up and
-/// below 2^63.
+/// Parses an optional sign, `+` or `-`, and one or more decimal digits, as a number from -2^63 up and below
+/// 2^63.
 #[inline(always)]
 pub fn i64<T: Input, E: ParseError<T>>(input: T) -> IResult<T, i64, E>
 where
@@ -141,8 +141,8 @@ where
     of_type::<i64, T, E>(input, true)
 }
 
-/// A sign, `+` or `-`, if there is one, and decimal digits, one at least, of a number from -2^127 up and
-/// below 2^127.
+/// Parses an optional sign, `+` or `-`, and one or more decimal digits, as a number from -2^127 up and below
+/// 2^127.
 #[inline(always)]
 pub fn i128<T: Input, E: ParseError<T>>(input: T) -> IResult<T, i128, E>
 where
@@ -152,8 +152,8 @@ where
     of_type::<i128, T, E>(input, true)
 }
 
-/// A sign, `+` or `-`, if there is one, and decimal digits, one at least, of a number from -2^63 up and
-/// below 2^63.
+/// Parses an optional sign, `+` or `-`, and one or more decimal digits, as a number from -2^63 up and below
+/// 2^63.
 #[inline(always)]
 pub fn isize<T: Input, E: ParseError<T>>(input: T) -> IResult<T, isize, E>
 where

@@ -13,7 +13,7 @@ use nom_internal::parser::{Parser, StreamParser};
 use nom_traits::input::Input;
 use std::marker::PhantomData;
 
-/// The first byte of an input, where outputs are built.
+/// Returns the first byte of the input, if outputs are built.
 #[inline(always)]
 fn first_byte<M: Mode, I: Input<Item = u8>>(input: I) -> Option<u8>
     requires { 0 < length (I.model.elements input) }
@@ -26,7 +26,7 @@ fn first_byte<M: Mode, I: Input<Item = u8>>(input: I) -> Option<u8>
     }
 }
 
-/// One byte, as a number; made by `be_u8`.
+/// The parser that `be_u8` returns: one byte as a number.
 #[derive(Drop)]
 pub struct BeU8<I, E> {
     pub error: PhantomData<(I, E)>,

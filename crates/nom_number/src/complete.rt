@@ -1,6 +1,6 @@
-//! Binary integers, where no more input may come.
+//! Binary integers, in complete mode.
 //!
-//! Where there are fewer bytes, each refuses with `Eof` at the start of the input.
+//! If there are fewer bytes, each parser refuses with `Eof` at the start of the input.
 ghost use Rattle.std.specs.Prelude.{◌≡◌, false};
 ghost use Rattle.nom_internal.specs.Prelude.{itself};
 ghost use Rattle.nom_func.specs.Func.{AnswersBy};
@@ -19,7 +19,7 @@ use nom_internal::one_mode::fixed;
 use nom_traits::input::Input;
 use std::marker::PhantomData;
 
-/// The number of a layout.
+/// Parses the number of a layout.
 #[inline(always)]
 fn of_layout<F: Layout, I: Input<Item = u8>, E: ParseError<I>>(
     input: I,
@@ -35,7 +35,7 @@ fn of_layout<F: Layout, I: Input<Item = u8>, E: ParseError<I>>(
     answer(&mut parser, input)
 }
 
-/// A number of one byte.
+/// Parses an unsigned integer of one byte.
 #[inline(always)]
 pub fn be_u8<I: Input<Item = u8>, E: ParseError<I>>(input: I) -> IResult<I, u8, E>
     ensures { AnswersBy I.model itself (λ t v. v ≡ t) (unsigned_meaning I.model E.errors Endianness.Big 1) false input result }
@@ -43,7 +43,7 @@ pub fn be_u8<I: Input<Item = u8>, E: ParseError<I>>(input: I) -> IResult<I, u8, 
     of_layout::<layout::U8, I, E>(input, Endianness::Big)
 }
 
-/// A number of two bytes, the highest first.
+/// Parses an unsigned integer of two bytes, big-endian.
 #[inline(always)]
 pub fn be_u16<I: Input<Item = u8>, E: ParseError<I>>(input: I) -> IResult<I, u16, E>
     ensures { AnswersBy I.model itself (λ t v. v ≡ t) (unsigned_meaning I.model E.errors Endianness.Big 2) false input result }
@@ -51,7 +51,7 @@ pub fn be_u16<I: Input<Item = u8>, E: ParseError<I>>(input: I) -> IResult<I, u16
     of_layout::<layout::U16, I, E>(input, Endianness::Big)
 }
 
-/// A number of three bytes, the highest first.
+/// Parses an unsigned integer of three bytes, big-endian.
 #[inline(always)]
 pub fn be_u24<I: Input<Item = u8>, E: ParseError<I>>(input: I) -> IResult<I, u32, E>
     ensures { AnswersBy I.model itself (λ t v. v ≡ t) (unsigned_meaning I.model E.errors Endianness.Big 3) false input result }
@@ -59,7 +59,7 @@ pub fn be_u24<I: Input<Item = u8>, E: ParseError<I>>(input: I) -> IResult<I, u32
     of_layout::<layout::U24, I, E>(input, Endianness::Big)
 }
 
-/// A number of four bytes, the highest first.
+/// Parses an unsigned integer of four bytes, big-endian.
 #[inline(always)]
 pub fn be_u32<I: Input<Item = u8>, E: ParseError<I>>(input: I) -> IResult<I, u32, E>
     ensures { AnswersBy I.model itself (λ t v. v ≡ t) (unsigned_meaning I.model E.errors Endianness.Big 4) false input result }
@@ -67,7 +67,7 @@ pub fn be_u32<I: Input<Item = u8>, E: ParseError<I>>(input: I) -> IResult<I, u32
     of_layout::<layout::U32, I, E>(input, Endianness::Big)
 }
 
-/// A number of eight bytes, the highest first.
+/// Parses an unsigned integer of eight bytes, big-endian.
 #[inline(always)]
 pub fn be_u64<I: Input<Item = u8>, E: ParseError<I>>(input: I) -> IResult<I, u64, E>
     ensures { AnswersBy I.model itself (λ t v. v ≡ t) (unsigned_meaning I.model E.errors Endianness.Big 8) false input result }
@@ -75,7 +75,7 @@ pub fn be_u64<I: Input<Item = u8>, E: ParseError<I>>(input: I) -> IResult<I, u64
     of_layout::<layout::U64, I, E>(input, Endianness::Big)
 }
 
-/// A number of sixteen bytes, the highest first.
+/// Parses an unsigned integer of sixteen bytes, big-endian.
 #[inline(always)]
 pub fn be_u128<I: Input<Item = u8>, E: ParseError<I>>(input: I) -> IResult<I, u128, E>
     ensures { AnswersBy I.model itself (λ t v. v ≡ t) (unsigned_meaning I.model E.errors Endianness.Big 16) false input result }
@@ -83,7 +83,7 @@ pub fn be_u128<I: Input<Item = u8>, E: ParseError<I>>(input: I) -> IResult<I, u1
     of_layout::<layout::U128, I, E>(input, Endianness::Big)
 }
 
-/// A signed number of one byte.
+/// Parses a signed integer of one byte.
 #[inline(always)]
 pub fn be_i8<I: Input<Item = u8>, E: ParseError<I>>(input: I) -> IResult<I, i8, E>
     ensures { AnswersBy I.model itself (λ t v. v ≡ t) (signed_meaning I.model E.errors Endianness.Big 1) false input result }
@@ -91,7 +91,7 @@ pub fn be_i8<I: Input<Item = u8>, E: ParseError<I>>(input: I) -> IResult<I, i8, 
     of_layout::<layout::I8, I, E>(input, Endianness::Big)
 }
 
-/// A signed number of two bytes, the highest first.
+/// Parses a signed integer of two bytes, big-endian.
 #[inline(always)]
 pub fn be_i16<I: Input<Item = u8>, E: ParseError<I>>(input: I) -> IResult<I, i16, E>
     ensures { AnswersBy I.model itself (λ t v. v ≡ t) (signed_meaning I.model E.errors Endianness.Big 2) false input result }
@@ -99,7 +99,7 @@ pub fn be_i16<I: Input<Item = u8>, E: ParseError<I>>(input: I) -> IResult<I, i16
     of_layout::<layout::I16, I, E>(input, Endianness::Big)
 }
 
-/// A signed number of three bytes, the highest first.
+/// Parses a signed integer of three bytes, big-endian.
 #[inline(always)]
 pub fn be_i24<I: Input<Item = u8>, E: ParseError<I>>(input: I) -> IResult<I, i32, E>
     ensures { AnswersBy I.model itself (λ t v. v ≡ t) (signed_meaning I.model E.errors Endianness.Big 3) false input result }
@@ -107,7 +107,7 @@ pub fn be_i24<I: Input<Item = u8>, E: ParseError<I>>(input: I) -> IResult<I, i32
     of_layout::<layout::I24, I, E>(input, Endianness::Big)
 }
 
-/// A signed number of four bytes, the highest first.
+/// Parses a signed integer of four bytes, big-endian.
 #[inline(always)]
 pub fn be_i32<I: Input<Item = u8>, E: ParseError<I>>(input: I) -> IResult<I, i32, E>
     ensures { AnswersBy I.model itself (λ t v. v ≡ t) (signed_meaning I.model E.errors Endianness.Big 4) false input result }
@@ -115,7 +115,7 @@ pub fn be_i32<I: Input<Item = u8>, E: ParseError<I>>(input: I) -> IResult<I, i32
     of_layout::<layout::I32, I, E>(input, Endianness::Big)
 }
 
-/// A signed number of eight bytes, the highest first.
+/// Parses a signed integer of eight bytes, big-endian.
 #[inline(always)]
 pub fn be_i64<I: Input<Item = u8>, E: ParseError<I>>(input: I) -> IResult<I, i64, E>
     ensures { AnswersBy I.model itself (λ t v. v ≡ t) (signed_meaning I.model E.errors Endianness.Big 8) false input result }
@@ -123,7 +123,7 @@ pub fn be_i64<I: Input<Item = u8>, E: ParseError<I>>(input: I) -> IResult<I, i64
     of_layout::<layout::I64, I, E>(input, Endianness::Big)
 }
 
-/// A signed number of sixteen bytes, the highest first.
+/// Parses a signed integer of sixteen bytes, big-endian.
 #[inline(always)]
 pub fn be_i128<I: Input<Item = u8>, E: ParseError<I>>(input: I) -> IResult<I, i128, E>
     ensures { AnswersBy I.model itself (λ t v. v ≡ t) (signed_meaning I.model E.errors Endianness.Big 16) false input result }
@@ -131,7 +131,7 @@ pub fn be_i128<I: Input<Item = u8>, E: ParseError<I>>(input: I) -> IResult<I, i1
     of_layout::<layout::I128, I, E>(input, Endianness::Big)
 }
 
-/// A number of one byte.
+/// Parses an unsigned integer of one byte.
 #[inline(always)]
 pub fn le_u8<I: Input<Item = u8>, E: ParseError<I>>(input: I) -> IResult<I, u8, E>
     ensures { AnswersBy I.model itself (λ t v. v ≡ t) (unsigned_meaning I.model E.errors Endianness.Little 1) false input result }
@@ -139,7 +139,7 @@ pub fn le_u8<I: Input<Item = u8>, E: ParseError<I>>(input: I) -> IResult<I, u8, 
     of_layout::<layout::U8, I, E>(input, Endianness::Little)
 }
 
-/// A number of two bytes, the lowest first.
+/// Parses an unsigned integer of two bytes, little-endian.
 #[inline(always)]
 pub fn le_u16<I: Input<Item = u8>, E: ParseError<I>>(input: I) -> IResult<I, u16, E>
     ensures { AnswersBy I.model itself (λ t v. v ≡ t) (unsigned_meaning I.model E.errors Endianness.Little 2) false input result }
@@ -147,7 +147,7 @@ pub fn le_u16<I: Input<Item = u8>, E: ParseError<I>>(input: I) -> IResult<I, u16
     of_layout::<layout::U16, I, E>(input, Endianness::Little)
 }
 
-/// A number of three bytes, the lowest first.
+/// Parses an unsigned integer of three bytes, little-endian.
 #[inline(always)]
 pub fn le_u24<I: Input<Item = u8>, E: ParseError<I>>(input: I) -> IResult<I, u32, E>
     ensures { AnswersBy I.model itself (λ t v. v ≡ t) (unsigned_meaning I.model E.errors Endianness.Little 3) false input result }
@@ -155,7 +155,7 @@ pub fn le_u24<I: Input<Item = u8>, E: ParseError<I>>(input: I) -> IResult<I, u32
     of_layout::<layout::U24, I, E>(input, Endianness::Little)
 }
 
-/// A number of four bytes, the lowest first.
+/// Parses an unsigned integer of four bytes, little-endian.
 #[inline(always)]
 pub fn le_u32<I: Input<Item = u8>, E: ParseError<I>>(input: I) -> IResult<I, u32, E>
     ensures { AnswersBy I.model itself (λ t v. v ≡ t) (unsigned_meaning I.model E.errors Endianness.Little 4) false input result }
@@ -163,7 +163,7 @@ pub fn le_u32<I: Input<Item = u8>, E: ParseError<I>>(input: I) -> IResult<I, u32
     of_layout::<layout::U32, I, E>(input, Endianness::Little)
 }
 
-/// A number of eight bytes, the lowest first.
+/// Parses an unsigned integer of eight bytes, little-endian.
 #[inline(always)]
 pub fn le_u64<I: Input<Item = u8>, E: ParseError<I>>(input: I) -> IResult<I, u64, E>
     ensures { AnswersBy I.model itself (λ t v. v ≡ t) (unsigned_meaning I.model E.errors Endianness.Little 8) false input result }
@@ -171,7 +171,7 @@ pub fn le_u64<I: Input<Item = u8>, E: ParseError<I>>(input: I) -> IResult<I, u64
     of_layout::<layout::U64, I, E>(input, Endianness::Little)
 }
 
-/// A number of sixteen bytes, the lowest first.
+/// Parses an unsigned integer of sixteen bytes, little-endian.
 #[inline(always)]
 pub fn le_u128<I: Input<Item = u8>, E: ParseError<I>>(input: I) -> IResult<I, u128, E>
     ensures { AnswersBy I.model itself (λ t v. v ≡ t) (unsigned_meaning I.model E.errors Endianness.Little 16) false input result }
@@ -179,7 +179,7 @@ pub fn le_u128<I: Input<Item = u8>, E: ParseError<I>>(input: I) -> IResult<I, u1
     of_layout::<layout::U128, I, E>(input, Endianness::Little)
 }
 
-/// A signed number of one byte.
+/// Parses a signed integer of one byte.
 #[inline(always)]
 pub fn le_i8<I: Input<Item = u8>, E: ParseError<I>>(input: I) -> IResult<I, i8, E>
     ensures { AnswersBy I.model itself (λ t v. v ≡ t) (signed_meaning I.model E.errors Endianness.Little 1) false input result }
@@ -187,7 +187,7 @@ pub fn le_i8<I: Input<Item = u8>, E: ParseError<I>>(input: I) -> IResult<I, i8, 
     of_layout::<layout::I8, I, E>(input, Endianness::Little)
 }
 
-/// A signed number of two bytes, the lowest first.
+/// Parses a signed integer of two bytes, little-endian.
 #[inline(always)]
 pub fn le_i16<I: Input<Item = u8>, E: ParseError<I>>(input: I) -> IResult<I, i16, E>
     ensures { AnswersBy I.model itself (λ t v. v ≡ t) (signed_meaning I.model E.errors Endianness.Little 2) false input result }
@@ -195,7 +195,7 @@ pub fn le_i16<I: Input<Item = u8>, E: ParseError<I>>(input: I) -> IResult<I, i16
     of_layout::<layout::I16, I, E>(input, Endianness::Little)
 }
 
-/// A signed number of three bytes, the lowest first.
+/// Parses a signed integer of three bytes, little-endian.
 #[inline(always)]
 pub fn le_i24<I: Input<Item = u8>, E: ParseError<I>>(input: I) -> IResult<I, i32, E>
     ensures { AnswersBy I.model itself (λ t v. v ≡ t) (signed_meaning I.model E.errors Endianness.Little 3) false input result }
@@ -203,7 +203,7 @@ pub fn le_i24<I: Input<Item = u8>, E: ParseError<I>>(input: I) -> IResult<I, i32
     of_layout::<layout::I24, I, E>(input, Endianness::Little)
 }
 
-/// A signed number of four bytes, the lowest first.
+/// Parses a signed integer of four bytes, little-endian.
 #[inline(always)]
 pub fn le_i32<I: Input<Item = u8>, E: ParseError<I>>(input: I) -> IResult<I, i32, E>
     ensures { AnswersBy I.model itself (λ t v. v ≡ t) (signed_meaning I.model E.errors Endianness.Little 4) false input result }
@@ -211,7 +211,7 @@ pub fn le_i32<I: Input<Item = u8>, E: ParseError<I>>(input: I) -> IResult<I, i32
     of_layout::<layout::I32, I, E>(input, Endianness::Little)
 }
 
-/// A signed number of eight bytes, the lowest first.
+/// Parses a signed integer of eight bytes, little-endian.
 #[inline(always)]
 pub fn le_i64<I: Input<Item = u8>, E: ParseError<I>>(input: I) -> IResult<I, i64, E>
     ensures { AnswersBy I.model itself (λ t v. v ≡ t) (signed_meaning I.model E.errors Endianness.Little 8) false input result }
@@ -219,7 +219,7 @@ pub fn le_i64<I: Input<Item = u8>, E: ParseError<I>>(input: I) -> IResult<I, i64
     of_layout::<layout::I64, I, E>(input, Endianness::Little)
 }
 
-/// A signed number of sixteen bytes, the lowest first.
+/// Parses a signed integer of sixteen bytes, little-endian.
 #[inline(always)]
 pub fn le_i128<I: Input<Item = u8>, E: ParseError<I>>(input: I) -> IResult<I, i128, E>
     ensures { AnswersBy I.model itself (λ t v. v ≡ t) (signed_meaning I.model E.errors Endianness.Little 16) false input result }
@@ -227,7 +227,7 @@ pub fn le_i128<I: Input<Item = u8>, E: ParseError<I>>(input: I) -> IResult<I, i1
     of_layout::<layout::I128, I, E>(input, Endianness::Little)
 }
 
-/// `be_u8`: one byte has no order.
+/// Parses a byte as `be_u8` does. A single byte has no byte order.
 #[inline(always)]
 pub fn u8<I: Input<Item = u8>, E: ParseError<I>>(input: I) -> IResult<I, u8, E>
     ensures { AnswersBy I.model itself (λ t v. v ≡ t) (unsigned_meaning I.model E.errors Endianness.Big 1) false input result }
@@ -235,7 +235,7 @@ pub fn u8<I: Input<Item = u8>, E: ParseError<I>>(input: I) -> IResult<I, u8, E>
     of_layout::<layout::U8, I, E>(input, Endianness::Big)
 }
 
-/// `be_i8`: one byte has no order.
+/// Parses a byte as `be_i8` does. A single byte has no byte order.
 #[inline(always)]
 pub fn i8<I: Input<Item = u8>, E: ParseError<I>>(input: I) -> IResult<I, i8, E>
     ensures { AnswersBy I.model itself (λ t v. v ≡ t) (signed_meaning I.model E.errors Endianness.Big 1) false input result }
@@ -243,7 +243,7 @@ pub fn i8<I: Input<Item = u8>, E: ParseError<I>>(input: I) -> IResult<I, i8, E>
     of_layout::<layout::I8, I, E>(input, Endianness::Big)
 }
 
-/// A number of two bytes, in the order that is given.
+/// Parses an unsigned integer of two bytes in the byte order `endian`.
 #[inline(always)]
 pub fn u16<I, E>(endian: Endianness) -> Fixed<Binary<layout::U16, I, E>, Complete>
     ensures { result.parser.endian ≡ endian }
@@ -251,7 +251,7 @@ pub fn u16<I, E>(endian: Endianness) -> Fixed<Binary<layout::U16, I, E>, Complet
     fixed(crate::u16(endian))
 }
 
-/// A number of three bytes, in the order that is given.
+/// Parses an unsigned integer of three bytes in the byte order `endian`.
 #[inline(always)]
 pub fn u24<I, E>(endian: Endianness) -> Fixed<Binary<layout::U24, I, E>, Complete>
     ensures { result.parser.endian ≡ endian }
@@ -259,7 +259,7 @@ pub fn u24<I, E>(endian: Endianness) -> Fixed<Binary<layout::U24, I, E>, Complet
     fixed(crate::u24(endian))
 }
 
-/// A number of four bytes, in the order that is given.
+/// Parses an unsigned integer of four bytes in the byte order `endian`.
 #[inline(always)]
 pub fn u32<I, E>(endian: Endianness) -> Fixed<Binary<layout::U32, I, E>, Complete>
     ensures { result.parser.endian ≡ endian }
@@ -267,7 +267,7 @@ pub fn u32<I, E>(endian: Endianness) -> Fixed<Binary<layout::U32, I, E>, Complet
     fixed(crate::u32(endian))
 }
 
-/// A number of eight bytes, in the order that is given.
+/// Parses an unsigned integer of eight bytes in the byte order `endian`.
 #[inline(always)]
 pub fn u64<I, E>(endian: Endianness) -> Fixed<Binary<layout::U64, I, E>, Complete>
     ensures { result.parser.endian ≡ endian }
@@ -275,7 +275,7 @@ pub fn u64<I, E>(endian: Endianness) -> Fixed<Binary<layout::U64, I, E>, Complet
     fixed(crate::u64(endian))
 }
 
-/// A number of sixteen bytes, in the order that is given.
+/// Parses an unsigned integer of sixteen bytes in the byte order `endian`.
 #[inline(always)]
 pub fn u128<I, E>(endian: Endianness) -> Fixed<Binary<layout::U128, I, E>, Complete>
     ensures { result.parser.endian ≡ endian }
@@ -283,7 +283,7 @@ pub fn u128<I, E>(endian: Endianness) -> Fixed<Binary<layout::U128, I, E>, Compl
     fixed(crate::u128(endian))
 }
 
-/// A signed number of two bytes, in the order that is given.
+/// Parses a signed integer of two bytes in the byte order `endian`.
 #[inline(always)]
 pub fn i16<I, E>(endian: Endianness) -> Fixed<Binary<layout::I16, I, E>, Complete>
     ensures { result.parser.endian ≡ endian }
@@ -291,7 +291,7 @@ pub fn i16<I, E>(endian: Endianness) -> Fixed<Binary<layout::I16, I, E>, Complet
     fixed(crate::i16(endian))
 }
 
-/// A signed number of three bytes, in the order that is given.
+/// Parses a signed integer of three bytes in the byte order `endian`.
 #[inline(always)]
 pub fn i24<I, E>(endian: Endianness) -> Fixed<Binary<layout::I24, I, E>, Complete>
     ensures { result.parser.endian ≡ endian }
@@ -299,7 +299,7 @@ pub fn i24<I, E>(endian: Endianness) -> Fixed<Binary<layout::I24, I, E>, Complet
     fixed(crate::i24(endian))
 }
 
-/// A signed number of four bytes, in the order that is given.
+/// Parses a signed integer of four bytes in the byte order `endian`.
 #[inline(always)]
 pub fn i32<I, E>(endian: Endianness) -> Fixed<Binary<layout::I32, I, E>, Complete>
     ensures { result.parser.endian ≡ endian }
@@ -307,7 +307,7 @@ pub fn i32<I, E>(endian: Endianness) -> Fixed<Binary<layout::I32, I, E>, Complet
     fixed(crate::i32(endian))
 }
 
-/// A signed number of eight bytes, in the order that is given.
+/// Parses a signed integer of eight bytes in the byte order `endian`.
 #[inline(always)]
 pub fn i64<I, E>(endian: Endianness) -> Fixed<Binary<layout::I64, I, E>, Complete>
     ensures { result.parser.endian ≡ endian }
@@ -315,7 +315,7 @@ pub fn i64<I, E>(endian: Endianness) -> Fixed<Binary<layout::I64, I, E>, Complet
     fixed(crate::i64(endian))
 }
 
-/// A signed number of sixteen bytes, in the order that is given.
+/// Parses a signed integer of sixteen bytes in the byte order `endian`.
 #[inline(always)]
 pub fn i128<I, E>(endian: Endianness) -> Fixed<Binary<layout::I128, I, E>, Complete>
     ensures { result.parser.endian ≡ endian }

@@ -1,24 +1,24 @@
-//! Integers in a number of bytes.
+//! Layouts of integers in bytes.
 ghost use Rattle.std.specs.Prelude.{◌≡◌, ◌<◌, ◌*◌, ◌^◌, ℕ};
 ghost use Rattle.std.proofs.Common.{arith};
 ghost use Rattle.nom_number.specs.Numbers.{signed_of};
 
 use nom_traits::view::Viewed;
 
-/// How a number stands in bytes.
+/// The layout of a number in bytes.
 pub trait Layout {
     /// The type of the number.
     type Number: Viewed + Drop;
 
     ghost BYTES: { ℕ };
 
-    /// How many bytes it takes, 16 at most.
+    /// The number of bytes, at most 16.
     const BYTES: usize;
 
-    /// The number that the bits of the bytes stand for.
+    /// The number that the bits of the bytes represent.
     ghost of_bits: { ℕ → Self.Number };
 
-    /// The number that the bits of the bytes stand for.
+    /// Returns the number that the bits of the bytes represent.
     fn from_bits(bits: u128) -> Self::Number
         requires { bits < 2 ^ (8 * BYTES) }
         ensures { result ≡ of_bits bits };
@@ -26,7 +26,7 @@ pub trait Layout {
     ghost short: { BYTES < 17 };
 }
 
-/// One byte of a number from 0.
+/// An unsigned integer in one byte.
 pub struct U8;
 
 impl Layout for U8 {
@@ -46,7 +46,7 @@ impl Layout for U8 {
     ghost short = { omega arith };
 }
 
-/// Two bytes of a number from 0.
+/// An unsigned integer in two bytes.
 pub struct U16;
 
 impl Layout for U16 {
@@ -66,7 +66,7 @@ impl Layout for U16 {
     ghost short = { omega arith };
 }
 
-/// Three bytes of a number from 0.
+/// An unsigned integer in three bytes.
 pub struct U24;
 
 impl Layout for U24 {
@@ -86,7 +86,7 @@ impl Layout for U24 {
     ghost short = { omega arith };
 }
 
-/// Four bytes of a number from 0.
+/// An unsigned integer in four bytes.
 pub struct U32;
 
 impl Layout for U32 {
@@ -106,7 +106,7 @@ impl Layout for U32 {
     ghost short = { omega arith };
 }
 
-/// Eight bytes of a number from 0.
+/// An unsigned integer in eight bytes.
 pub struct U64;
 
 impl Layout for U64 {
@@ -126,7 +126,7 @@ impl Layout for U64 {
     ghost short = { omega arith };
 }
 
-/// Sixteen bytes of a number from 0.
+/// An unsigned integer in sixteen bytes.
 pub struct U128;
 
 impl Layout for U128 {
@@ -146,7 +146,7 @@ impl Layout for U128 {
     ghost short = { omega arith };
 }
 
-/// One byte of a signed number.
+/// A signed integer in one byte.
 pub struct I8;
 
 impl Layout for I8 {
@@ -170,7 +170,7 @@ impl Layout for I8 {
     ghost short = { omega arith };
 }
 
-/// Two bytes of a signed number.
+/// A signed integer in two bytes.
 pub struct I16;
 
 impl Layout for I16 {
@@ -194,7 +194,7 @@ impl Layout for I16 {
     ghost short = { omega arith };
 }
 
-/// Three bytes of a signed number.
+/// A signed integer in three bytes.
 pub struct I24;
 
 impl Layout for I24 {
@@ -218,7 +218,7 @@ impl Layout for I24 {
     ghost short = { omega arith };
 }
 
-/// Four bytes of a signed number.
+/// A signed integer in four bytes.
 pub struct I32;
 
 impl Layout for I32 {
@@ -242,7 +242,7 @@ impl Layout for I32 {
     ghost short = { omega arith };
 }
 
-/// Eight bytes of a signed number.
+/// A signed integer in eight bytes.
 pub struct I64;
 
 impl Layout for I64 {
@@ -266,7 +266,7 @@ impl Layout for I64 {
     ghost short = { omega arith };
 }
 
-/// Sixteen bytes of a signed number.
+/// A signed integer in sixteen bytes.
 pub struct I128;
 
 impl Layout for I128 {

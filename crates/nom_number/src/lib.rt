@@ -16,15 +16,15 @@ pub use crate::wide::Binary;
 pub use nom_internal::fixed::Fixed;
 use std::marker::PhantomData;
 
-/// One byte, as a number.
+/// Parses one byte as a number.
 ///
-/// Where there is none, streaming asks for it, and complete refuses with `Eof`.
+/// If there is none, streaming needs it, and complete refuses with `Eof`.
 #[inline(always)]
 pub fn be_u8<I, E>() -> BeU8<I, E> {
     BeU8 { error: PhantomData }
 }
 
-/// A number in the order that is given.
+/// Returns the parser of a number in the byte order `endian`.
 #[inline(always)]
 fn in_order<F, I, E>(endian: Endianness) -> Binary<F, I, E>
     ensures { result.endian ≡ endian }
@@ -35,9 +35,9 @@ fn in_order<F, I, E>(endian: Endianness) -> Binary<F, I, E>
     }
 }
 
-/// A number of two bytes, the highest first.
+/// Parses an unsigned integer of two bytes, big-endian.
 ///
-/// Where there are fewer bytes, streaming asks for the rest, and complete refuses with `Eof`.
+/// If there are fewer bytes, streaming needs the missing ones, and complete refuses with `Eof`.
 #[inline(always)]
 pub fn be_u16<I, E>() -> Binary<layout::U16, I, E>
     ensures { result.endian ≡ Endianness.Big }
@@ -45,9 +45,9 @@ pub fn be_u16<I, E>() -> Binary<layout::U16, I, E>
     in_order(Endianness::Big)
 }
 
-/// A number of three bytes, the highest first.
+/// Parses an unsigned integer of three bytes, big-endian.
 ///
-/// Where there are fewer bytes, streaming asks for the rest, and complete refuses with `Eof`.
+/// If there are fewer bytes, streaming needs the missing ones, and complete refuses with `Eof`.
 #[inline(always)]
 pub fn be_u24<I, E>() -> Binary<layout::U24, I, E>
     ensures { result.endian ≡ Endianness.Big }
@@ -55,9 +55,9 @@ pub fn be_u24<I, E>() -> Binary<layout::U24, I, E>
     in_order(Endianness::Big)
 }
 
-/// A number of four bytes, the highest first.
+/// Parses an unsigned integer of four bytes, big-endian.
 ///
-/// Where there are fewer bytes, streaming asks for the rest, and complete refuses with `Eof`.
+/// If there are fewer bytes, streaming needs the missing ones, and complete refuses with `Eof`.
 #[inline(always)]
 pub fn be_u32<I, E>() -> Binary<layout::U32, I, E>
     ensures { result.endian ≡ Endianness.Big }
@@ -65,9 +65,9 @@ pub fn be_u32<I, E>() -> Binary<layout::U32, I, E>
     in_order(Endianness::Big)
 }
 
-/// A number of eight bytes, the highest first.
+/// Parses an unsigned integer of eight bytes, big-endian.
 ///
-/// Where there are fewer bytes, streaming asks for the rest, and complete refuses with `Eof`.
+/// If there are fewer bytes, streaming needs the missing ones, and complete refuses with `Eof`.
 #[inline(always)]
 pub fn be_u64<I, E>() -> Binary<layout::U64, I, E>
     ensures { result.endian ≡ Endianness.Big }
@@ -75,9 +75,9 @@ pub fn be_u64<I, E>() -> Binary<layout::U64, I, E>
     in_order(Endianness::Big)
 }
 
-/// A number of sixteen bytes, the highest first.
+/// Parses an unsigned integer of sixteen bytes, big-endian.
 ///
-/// Where there are fewer bytes, streaming asks for the rest, and complete refuses with `Eof`.
+/// If there are fewer bytes, streaming needs the missing ones, and complete refuses with `Eof`.
 #[inline(always)]
 pub fn be_u128<I, E>() -> Binary<layout::U128, I, E>
     ensures { result.endian ≡ Endianness.Big }
@@ -85,9 +85,9 @@ pub fn be_u128<I, E>() -> Binary<layout::U128, I, E>
     in_order(Endianness::Big)
 }
 
-/// A signed number of one byte.
+/// Parses a signed integer of one byte.
 ///
-/// Where there are fewer bytes, streaming asks for the rest, and complete refuses with `Eof`.
+/// If there are fewer bytes, streaming needs the missing ones, and complete refuses with `Eof`.
 #[inline(always)]
 pub fn be_i8<I, E>() -> Binary<layout::I8, I, E>
     ensures { result.endian ≡ Endianness.Big }
@@ -95,9 +95,9 @@ pub fn be_i8<I, E>() -> Binary<layout::I8, I, E>
     in_order(Endianness::Big)
 }
 
-/// A signed number of two bytes, the highest first.
+/// Parses a signed integer of two bytes, big-endian.
 ///
-/// Where there are fewer bytes, streaming asks for the rest, and complete refuses with `Eof`.
+/// If there are fewer bytes, streaming needs the missing ones, and complete refuses with `Eof`.
 #[inline(always)]
 pub fn be_i16<I, E>() -> Binary<layout::I16, I, E>
     ensures { result.endian ≡ Endianness.Big }
@@ -105,9 +105,9 @@ pub fn be_i16<I, E>() -> Binary<layout::I16, I, E>
     in_order(Endianness::Big)
 }
 
-/// A signed number of three bytes, the highest first.
+/// Parses a signed integer of three bytes, big-endian.
 ///
-/// Where there are fewer bytes, streaming asks for the rest, and complete refuses with `Eof`.
+/// If there are fewer bytes, streaming needs the missing ones, and complete refuses with `Eof`.
 #[inline(always)]
 pub fn be_i24<I, E>() -> Binary<layout::I24, I, E>
     ensures { result.endian ≡ Endianness.Big }
@@ -115,9 +115,9 @@ pub fn be_i24<I, E>() -> Binary<layout::I24, I, E>
     in_order(Endianness::Big)
 }
 
-/// A signed number of four bytes, the highest first.
+/// Parses a signed integer of four bytes, big-endian.
 ///
-/// Where there are fewer bytes, streaming asks for the rest, and complete refuses with `Eof`.
+/// If there are fewer bytes, streaming needs the missing ones, and complete refuses with `Eof`.
 #[inline(always)]
 pub fn be_i32<I, E>() -> Binary<layout::I32, I, E>
     ensures { result.endian ≡ Endianness.Big }
@@ -125,9 +125,9 @@ pub fn be_i32<I, E>() -> Binary<layout::I32, I, E>
     in_order(Endianness::Big)
 }
 
-/// A signed number of eight bytes, the highest first.
+/// Parses a signed integer of eight bytes, big-endian.
 ///
-/// Where there are fewer bytes, streaming asks for the rest, and complete refuses with `Eof`.
+/// If there are fewer bytes, streaming needs the missing ones, and complete refuses with `Eof`.
 #[inline(always)]
 pub fn be_i64<I, E>() -> Binary<layout::I64, I, E>
     ensures { result.endian ≡ Endianness.Big }
@@ -135,9 +135,9 @@ pub fn be_i64<I, E>() -> Binary<layout::I64, I, E>
     in_order(Endianness::Big)
 }
 
-/// A signed number of sixteen bytes, the highest first.
+/// Parses a signed integer of sixteen bytes, big-endian.
 ///
-/// Where there are fewer bytes, streaming asks for the rest, and complete refuses with `Eof`.
+/// If there are fewer bytes, streaming needs the missing ones, and complete refuses with `Eof`.
 #[inline(always)]
 pub fn be_i128<I, E>() -> Binary<layout::I128, I, E>
     ensures { result.endian ≡ Endianness.Big }
@@ -145,9 +145,9 @@ pub fn be_i128<I, E>() -> Binary<layout::I128, I, E>
     in_order(Endianness::Big)
 }
 
-/// A number of one byte.
+/// Parses an unsigned integer of one byte.
 ///
-/// Where there are fewer bytes, streaming asks for the rest, and complete refuses with `Eof`.
+/// If there are fewer bytes, streaming needs the missing ones, and complete refuses with `Eof`.
 #[inline(always)]
 pub fn le_u8<I, E>() -> Binary<layout::U8, I, E>
     ensures { result.endian ≡ Endianness.Little }
@@ -155,9 +155,9 @@ pub fn le_u8<I, E>() -> Binary<layout::U8, I, E>
     in_order(Endianness::Little)
 }
 
-/// A number of two bytes, the lowest first.
+/// Parses an unsigned integer of two bytes, little-endian.
 ///
-/// Where there are fewer bytes, streaming asks for the rest, and complete refuses with `Eof`.
+/// If there are fewer bytes, streaming needs the missing ones, and complete refuses with `Eof`.
 #[inline(always)]
 pub fn le_u16<I, E>() -> Binary<layout::U16, I, E>
     ensures { result.endian ≡ Endianness.Little }
@@ -165,9 +165,9 @@ pub fn le_u16<I, E>() -> Binary<layout::U16, I, E>
     in_order(Endianness::Little)
 }
 
-/// A number of three bytes, the lowest first.
+/// Parses an unsigned integer of three bytes, little-endian.
 ///
-/// Where there are fewer bytes, streaming asks for the rest, and complete refuses with `Eof`.
+/// If there are fewer bytes, streaming needs the missing ones, and complete refuses with `Eof`.
 #[inline(always)]
 pub fn le_u24<I, E>() -> Binary<layout::U24, I, E>
     ensures { result.endian ≡ Endianness.Little }
@@ -175,9 +175,9 @@ pub fn le_u24<I, E>() -> Binary<layout::U24, I, E>
     in_order(Endianness::Little)
 }
 
-/// A number of four bytes, the lowest first.
+/// Parses an unsigned integer of four bytes, little-endian.
 ///
-/// Where there are fewer bytes, streaming asks for the rest, and complete refuses with `Eof`.
+/// If there are fewer bytes, streaming needs the missing ones, and complete refuses with `Eof`.
 #[inline(always)]
 pub fn le_u32<I, E>() -> Binary<layout::U32, I, E>
     ensures { result.endian ≡ Endianness.Little }
@@ -185,9 +185,9 @@ pub fn le_u32<I, E>() -> Binary<layout::U32, I, E>
     in_order(Endianness::Little)
 }
 
-/// A number of eight bytes, the lowest first.
+/// Parses an unsigned integer of eight bytes, little-endian.
 ///
-/// Where there are fewer bytes, streaming asks for the rest, and complete refuses with `Eof`.
+/// If there are fewer bytes, streaming needs the missing ones, and complete refuses with `Eof`.
 #[inline(always)]
 pub fn le_u64<I, E>() -> Binary<layout::U64, I, E>
     ensures { result.endian ≡ Endianness.Little }
@@ -195,9 +195,9 @@ pub fn le_u64<I, E>() -> Binary<layout::U64, I, E>
     in_order(Endianness::Little)
 }
 
-/// A number of sixteen bytes, the lowest first.
+/// Parses an unsigned integer of sixteen bytes, little-endian.
 ///
-/// Where there are fewer bytes, streaming asks for the rest, and complete refuses with `Eof`.
+/// If there are fewer bytes, streaming needs the missing ones, and complete refuses with `Eof`.
 #[inline(always)]
 pub fn le_u128<I, E>() -> Binary<layout::U128, I, E>
     ensures { result.endian ≡ Endianness.Little }
@@ -205,9 +205,9 @@ pub fn le_u128<I, E>() -> Binary<layout::U128, I, E>
     in_order(Endianness::Little)
 }
 
-/// A signed number of one byte.
+/// Parses a signed integer of one byte.
 ///
-/// Where there are fewer bytes, streaming asks for the rest, and complete refuses with `Eof`.
+/// If there are fewer bytes, streaming needs the missing ones, and complete refuses with `Eof`.
 #[inline(always)]
 pub fn le_i8<I, E>() -> Binary<layout::I8, I, E>
     ensures { result.endian ≡ Endianness.Little }
@@ -215,9 +215,9 @@ pub fn le_i8<I, E>() -> Binary<layout::I8, I, E>
     in_order(Endianness::Little)
 }
 
-/// A signed number of two bytes, the lowest first.
+/// Parses a signed integer of two bytes, little-endian.
 ///
-/// Where there are fewer bytes, streaming asks for the rest, and complete refuses with `Eof`.
+/// If there are fewer bytes, streaming needs the missing ones, and complete refuses with `Eof`.
 #[inline(always)]
 pub fn le_i16<I, E>() -> Binary<layout::I16, I, E>
     ensures { result.endian ≡ Endianness.Little }
@@ -225,9 +225,9 @@ pub fn le_i16<I, E>() -> Binary<layout::I16, I, E>
     in_order(Endianness::Little)
 }
 
-/// A signed number of three bytes, the lowest first.
+/// Parses a signed integer of three bytes, little-endian.
 ///
-/// Where there are fewer bytes, streaming asks for the rest, and complete refuses with `Eof`.
+/// If there are fewer bytes, streaming needs the missing ones, and complete refuses with `Eof`.
 #[inline(always)]
 pub fn le_i24<I, E>() -> Binary<layout::I24, I, E>
     ensures { result.endian ≡ Endianness.Little }
@@ -235,9 +235,9 @@ pub fn le_i24<I, E>() -> Binary<layout::I24, I, E>
     in_order(Endianness::Little)
 }
 
-/// A signed number of four bytes, the lowest first.
+/// Parses a signed integer of four bytes, little-endian.
 ///
-/// Where there are fewer bytes, streaming asks for the rest, and complete refuses with `Eof`.
+/// If there are fewer bytes, streaming needs the missing ones, and complete refuses with `Eof`.
 #[inline(always)]
 pub fn le_i32<I, E>() -> Binary<layout::I32, I, E>
     ensures { result.endian ≡ Endianness.Little }
@@ -245,9 +245,9 @@ pub fn le_i32<I, E>() -> Binary<layout::I32, I, E>
     in_order(Endianness::Little)
 }
 
-/// A signed number of eight bytes, the lowest first.
+/// Parses a signed integer of eight bytes, little-endian.
 ///
-/// Where there are fewer bytes, streaming asks for the rest, and complete refuses with `Eof`.
+/// If there are fewer bytes, streaming needs the missing ones, and complete refuses with `Eof`.
 #[inline(always)]
 pub fn le_i64<I, E>() -> Binary<layout::I64, I, E>
     ensures { result.endian ≡ Endianness.Little }
@@ -255,9 +255,9 @@ pub fn le_i64<I, E>() -> Binary<layout::I64, I, E>
     in_order(Endianness::Little)
 }
 
-/// A signed number of sixteen bytes, the lowest first.
+/// Parses a signed integer of sixteen bytes, little-endian.
 ///
-/// Where there are fewer bytes, streaming asks for the rest, and complete refuses with `Eof`.
+/// If there are fewer bytes, streaming needs the missing ones, and complete refuses with `Eof`.
 #[inline(always)]
 pub fn le_i128<I, E>() -> Binary<layout::I128, I, E>
     ensures { result.endian ≡ Endianness.Little }
@@ -265,13 +265,13 @@ pub fn le_i128<I, E>() -> Binary<layout::I128, I, E>
     in_order(Endianness::Little)
 }
 
-/// `be_u8`: one byte has no order.
+/// Parses a byte as `be_u8` does. A single byte has no byte order.
 #[inline(always)]
 pub fn u8<I, E>() -> BeU8<I, E> {
     be_u8()
 }
 
-/// `be_i8`: one byte has no order.
+/// Parses a byte as `be_i8` does. A single byte has no byte order.
 #[inline(always)]
 pub fn i8<I, E>() -> Binary<layout::I8, I, E>
     ensures { result.endian ≡ Endianness.Big }
@@ -279,9 +279,9 @@ pub fn i8<I, E>() -> Binary<layout::I8, I, E>
     be_i8()
 }
 
-/// A number of two bytes, in the order that is given.
+/// Parses an unsigned integer of two bytes in the byte order `endian`.
 ///
-/// Where there are fewer bytes, streaming asks for the rest, and complete refuses with `Eof`.
+/// If there are fewer bytes, streaming needs the missing ones, and complete refuses with `Eof`.
 #[inline(always)]
 pub fn u16<I, E>(endian: Endianness) -> Binary<layout::U16, I, E>
     ensures { result.endian ≡ endian }
@@ -289,9 +289,9 @@ pub fn u16<I, E>(endian: Endianness) -> Binary<layout::U16, I, E>
     in_order(endian)
 }
 
-/// A number of three bytes, in the order that is given.
+/// Parses an unsigned integer of three bytes in the byte order `endian`.
 ///
-/// Where there are fewer bytes, streaming asks for the rest, and complete refuses with `Eof`.
+/// If there are fewer bytes, streaming needs the missing ones, and complete refuses with `Eof`.
 #[inline(always)]
 pub fn u24<I, E>(endian: Endianness) -> Binary<layout::U24, I, E>
     ensures { result.endian ≡ endian }
@@ -299,9 +299,9 @@ pub fn u24<I, E>(endian: Endianness) -> Binary<layout::U24, I, E>
     in_order(endian)
 }
 
-/// A number of four bytes, in the order that is given.
+/// Parses an unsigned integer of four bytes in the byte order `endian`.
 ///
-/// Where there are fewer bytes, streaming asks for the rest, and complete refuses with `Eof`.
+/// If there are fewer bytes, streaming needs the missing ones, and complete refuses with `Eof`.
 #[inline(always)]
 pub fn u32<I, E>(endian: Endianness) -> Binary<layout::U32, I, E>
     ensures { result.endian ≡ endian }
@@ -309,9 +309,9 @@ pub fn u32<I, E>(endian: Endianness) -> Binary<layout::U32, I, E>
     in_order(endian)
 }
 
-/// A number of eight bytes, in the order that is given.
+/// Parses an unsigned integer of eight bytes in the byte order `endian`.
 ///
-/// Where there are fewer bytes, streaming asks for the rest, and complete refuses with `Eof`.
+/// If there are fewer bytes, streaming needs the missing ones, and complete refuses with `Eof`.
 #[inline(always)]
 pub fn u64<I, E>(endian: Endianness) -> Binary<layout::U64, I, E>
     ensures { result.endian ≡ endian }
@@ -319,9 +319,9 @@ pub fn u64<I, E>(endian: Endianness) -> Binary<layout::U64, I, E>
     in_order(endian)
 }
 
-/// A number of sixteen bytes, in the order that is given.
+/// Parses an unsigned integer of sixteen bytes in the byte order `endian`.
 ///
-/// Where there are fewer bytes, streaming asks for the rest, and complete refuses with `Eof`.
+/// If there are fewer bytes, streaming needs the missing ones, and complete refuses with `Eof`.
 #[inline(always)]
 pub fn u128<I, E>(endian: Endianness) -> Binary<layout::U128, I, E>
     ensures { result.endian ≡ endian }
@@ -329,9 +329,9 @@ pub fn u128<I, E>(endian: Endianness) -> Binary<layout::U128, I, E>
     in_order(endian)
 }
 
-/// A signed number of two bytes, in the order that is given.
+/// Parses a signed integer of two bytes in the byte order `endian`.
 ///
-/// Where there are fewer bytes, streaming asks for the rest, and complete refuses with `Eof`.
+/// If there are fewer bytes, streaming needs the missing ones, and complete refuses with `Eof`.
 #[inline(always)]
 pub fn i16<I, E>(endian: Endianness) -> Binary<layout::I16, I, E>
     ensures { result.endian ≡ endian }
@@ -339,9 +339,9 @@ pub fn i16<I, E>(endian: Endianness) -> Binary<layout::I16, I, E>
     in_order(endian)
 }
 
-/// A signed number of three bytes, in the order that is given.
+/// Parses a signed integer of three bytes in the byte order `endian`.
 ///
-/// Where there are fewer bytes, streaming asks for the rest, and complete refuses with `Eof`.
+/// If there are fewer bytes, streaming needs the missing ones, and complete refuses with `Eof`.
 #[inline(always)]
 pub fn i24<I, E>(endian: Endianness) -> Binary<layout::I24, I, E>
     ensures { result.endian ≡ endian }
@@ -349,9 +349,9 @@ pub fn i24<I, E>(endian: Endianness) -> Binary<layout::I24, I, E>
     in_order(endian)
 }
 
-/// A signed number of four bytes, in the order that is given.
+/// Parses a signed integer of four bytes in the byte order `endian`.
 ///
-/// Where there are fewer bytes, streaming asks for the rest, and complete refuses with `Eof`.
+/// If there are fewer bytes, streaming needs the missing ones, and complete refuses with `Eof`.
 #[inline(always)]
 pub fn i32<I, E>(endian: Endianness) -> Binary<layout::I32, I, E>
     ensures { result.endian ≡ endian }
@@ -359,9 +359,9 @@ pub fn i32<I, E>(endian: Endianness) -> Binary<layout::I32, I, E>
     in_order(endian)
 }
 
-/// A signed number of eight bytes, in the order that is given.
+/// Parses a signed integer of eight bytes in the byte order `endian`.
 ///
-/// Where there are fewer bytes, streaming asks for the rest, and complete refuses with `Eof`.
+/// If there are fewer bytes, streaming needs the missing ones, and complete refuses with `Eof`.
 #[inline(always)]
 pub fn i64<I, E>(endian: Endianness) -> Binary<layout::I64, I, E>
     ensures { result.endian ≡ endian }
@@ -369,9 +369,9 @@ pub fn i64<I, E>(endian: Endianness) -> Binary<layout::I64, I, E>
     in_order(endian)
 }
 
-/// A signed number of sixteen bytes, in the order that is given.
+/// Parses a signed integer of sixteen bytes in the byte order `endian`.
 ///
-/// Where there are fewer bytes, streaming asks for the rest, and complete refuses with `Eof`.
+/// If there are fewer bytes, streaming needs the missing ones, and complete refuses with `Eof`.
 #[inline(always)]
 pub fn i128<I, E>(endian: Endianness) -> Binary<layout::I128, I, E>
     ensures { result.endian ≡ endian }

@@ -1,20 +1,20 @@
-//! Orders of bytes.
+//! Byte orders.
 ghost use Rattle.std.specs.Prelude.{◌≡◌};
 ghost use Rattle.nom_number.specs.Orders.{is_big};
 
 /// The order of a number's bytes.
 #[derive(Debug, Clone, Copy, PartialEq, Eq)]
 pub enum Endianness {
-    /// The highest first.
+    /// Big-endian: the most significant byte comes first.
     Big,
-    /// The lowest first.
+    /// Little-endian: the least significant byte comes first.
     Little,
-    /// That of the machine, which is taken to be the lowest first.
+    /// The order of the machine, which is assumed to be little-endian.
     Native,
 }
 
 impl Endianness {
-    /// Whether the highest byte is the first one.
+    /// Returns whether the most significant byte comes first.
     #[inline(always)]
     pub fn is_big(self) -> bool
         ensures { result ≡ is_big self }

@@ -16,7 +16,7 @@ use nom_internal::parser::{Parser, StreamParser};
 use nom_traits::input::Input;
 use std::marker::PhantomData;
 
-/// A byte as a wide number.
+/// Converts a byte to a wide number.
 #[inline(always)]
 fn widened(byte: u8) -> u128
     ensures value { result ≡ byte }
@@ -25,7 +25,7 @@ fn widened(byte: u8) -> u128
     byte as u128
 }
 
-/// The number that the bytes of an input write, the highest first.
+/// Returns the number that the bytes of an input write in big-endian order.
 #[inline(always)]
 fn big_number<I: Input<Item = u8>>(bytes: I) -> u128
     requires { length (I.model.elements bytes) < 17 }
@@ -40,7 +40,7 @@ fn big_number<I: Input<Item = u8>>(bytes: I) -> u128
     value
 }
 
-/// A byte at a place of a number, the lowest at 0.
+/// Returns the value of a byte at a place of a number. The lowest place is 0.
 #[inline(always)]
 fn at_place(byte: u8, place: usize) -> u128
     requires { place < 16 }
@@ -50,7 +50,7 @@ fn at_place(byte: u8, place: usize) -> u128
     widened(byte) << (8 * place)
 }
 
-/// The number that the bytes of an input write, the highest last.
+/// Returns the number that the bytes of an input write in little-endian order.
 #[inline(always)]
 fn little_number<I: Input<Item = u8>>(bytes: I) -> u128
     requires { length (I.model.elements bytes) < 17 }
@@ -66,7 +66,7 @@ fn little_number<I: Input<Item = u8>>(bytes: I) -> u128
     value
 }
 
-/// The number that the bytes of an input write in an order.
+/// Returns the number that the bytes of an input write in the order `endian`.
 #[inline(always)]
 fn number<I: Input<Item = u8>>(bytes: I, endian: Endianness) -> u128
     requires { length (I.model.elements bytes) < 17 }
@@ -80,7 +80,7 @@ fn number<I: Input<Item = u8>>(bytes: I, endian: Endianness) -> u128
     }
 }
 
-/// The number of the first bytes, of length `n`, where outputs are built.
+/// Returns the number in the first bytes, of length `n`, if outputs are built.
 #[inline(always)]
 fn first_number<M: Mode, F: Layout, I: Input<Item = u8>>(
     input: I,
@@ -97,7 +97,7 @@ fn first_number<M: Mode, F: Layout, I: Input<Item = u8>>(
     }
 }
 
-/// A number that `F::BYTES` bytes write, in one order.
+/// A parser of a number in `F::BYTES` bytes, in one byte order.
 #[derive(Drop)]
 pub struct Binary<F, I, E> {
     /// The order of the bytes.

@@ -1,4 +1,4 @@
-//! Words in the place of a decimal fraction.
+//! Words in place of a decimal fraction.
 ghost use Rattle.std.specs.Prelude.{◌⊎◌};
 ghost use Rattle.nom_internal.specs.Prelude.{Slice};
 ghost use Rattle.nom_number_text.specs.Words.{exceptions_of};
@@ -15,7 +15,8 @@ use nom_traits::character::AsChar;
 use nom_traits::input::Input;
 use std::marker::PhantomData;
 
-/// A parser, or where it refuses `nan`, `infinity` or `inf`; made by `recognize_float_or_exceptions`.
+/// The parser that `recognize_float_or_exceptions` returns: `parser`, or, if it refuses, `nan`, `infinity` or
+/// `inf`.
 #[derive(Drop)]
 pub struct OrExceptions<F> {
     pub parser: F,

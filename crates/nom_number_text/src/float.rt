@@ -16,7 +16,7 @@ use nom_traits::character::AsChar;
 use nom_traits::input::Input;
 use std::marker::PhantomData;
 
-/// One of two characters.
+/// Returns a parser of one of two characters.
 #[inline(always)]
 pub(crate) fn either<I, E>(first: char, second: char) -> Choice<(Char<I, E>, Char<I, E>)>
     ensures first { result.parsers.0.wanted ≡ first }
@@ -25,7 +25,7 @@ pub(crate) fn either<I, E>(first: char, second: char) -> Choice<(Char<I, E>, Cha
     alt((char(first), char(second)))
 }
 
-/// The shape of a decimal fraction; made by `recognize_float`.
+/// The parser that `recognize_float` returns: the shape of a decimal fraction.
 #[derive(Drop)]
 pub struct RecognizeFloat<I, E> {
     pub error: PhantomData<(I, E)>,

@@ -1,4 +1,4 @@
-//! Numbers in base 16.
+//! Numbers in hexadecimal digits.
 ghost use Rattle.std.specs.Prelude.{◌≡◌, ◌≤◌, ◌<◌, ℕ, length, take};
 ghost use Rattle.nom_internal.specs.Prelude.{Built, value_pinned, valued};
 ghost use Rattle.nom_number_text.specs.Hex.{hex_value, hex_number, hex_meaning};
@@ -14,7 +14,7 @@ use nom_traits::character::{AsChar, AsciiClass};
 use nom_traits::input::Input;
 use std::marker::PhantomData;
 
-/// The value of an item as a digit in base 16; 0 for an item that is none.
+/// Returns the value of an item as a hexadecimal digit, or 0 if it isn't one.
 #[inline(always)]
 fn digit_of<C: AsChar>(item: C) -> u32
     ensures { result ≡ hex_value (C.code item) }
@@ -31,7 +31,7 @@ fn digit_of<C: AsChar>(item: C) -> u32
     }
 }
 
-/// The number that at most eight digits write in base 16.
+/// Returns the number that at most eight hexadecimal digits write.
 #[inline(always)]
 fn number_of<I: Input>(digits: I) -> u32
 where
@@ -47,7 +47,7 @@ where
     value
 }
 
-/// The first eight items of an input, or all where there are fewer.
+/// Returns the first eight items of the input, or all if there are fewer.
 #[inline(always)]
 fn first_eight<I: Input>(digits: I) -> I
     ensures items { I.model.elements result ≡ take 8 (I.model.elements digits) }
@@ -58,7 +58,7 @@ fn first_eight<I: Input>(digits: I) -> I
     }
 }
 
-/// The number of at most eight digits, where outputs are built.
+/// Returns the number that at most eight hexadecimal digits write, if outputs are built.
 #[inline(always)]
 fn number_built<M: Mode, I: Input>(digits: I) -> Option<u32>
 where
@@ -73,7 +73,7 @@ where
     }
 }
 
-/// A number of at most eight digits in base 16.
+/// A parser of a number of at most eight hexadecimal digits.
 #[derive(Drop)]
 pub struct HexU32<I, E> {
     pub error: PhantomData<(I, E)>,

@@ -1,4 +1,4 @@
-//! A part whose errors become those of one kind.
+//! A parser that replaces the errors of its part by errors of one kind.
 ghost use Rattle.nom_error.specs.declared.kind.ErrorKind.TheVariants as Kind;
 ghost use Rattle.nom_combinator.specs.Contexts.{IsRenamed};
 ghost use Rattle.nom_number_text.specs.Words.{as_float_of};
@@ -11,7 +11,7 @@ use nom_error::value::ParseError;
 use nom_internal::parser::{Parser, StreamParser};
 use nom_traits::input::Items;
 
-/// An answer, whose error becomes one of `Float` where it holds one.
+/// Replaces the error of an answer, if it has one, by an error of kind `Float`.
 #[inline(always)]
 fn of_float<I: Drop, E: ParseError<I>>(input: I, answer: Err<E, Option<E>>) -> Err<E, Option<E>>
     ensures { IsRenamed (λ _. E.errors.of_kind input Kind.Float) E.errors.grows answer result }
@@ -31,7 +31,7 @@ fn of_float<I: Drop, E: ParseError<I>>(input: I, answer: Err<E, Option<E>>) -> E
     }
 }
 
-/// A parser whose errors become those of `Float` at the start.
+/// A parser that replaces the errors of its part by errors of kind `Float` at the start.
 #[derive(Drop)]
 pub struct AsFloat<F> {
     pub parser: F,

@@ -1,4 +1,4 @@
-//! Numbers and shapes of decimal fractions that are written in digits.
+//! Numbers and shapes of decimal fractions, written in digits.
 #![tactic(auto)]
 
 pub mod complete;
@@ -18,22 +18,25 @@ pub use crate::part::FloatParts;
 pub use crate::word::{Exception, Word};
 use std::marker::PhantomData;
 
-/// The shape of a decimal fraction, as a slice of the input.
+/// Matches the shape of a decimal fraction, and returns it as a slice of the input.
 ///
-/// An optional sign, `+` or `-`; either digits with an optional point and optional digits after it, or a
-/// point and digits; and an optional exponent of `e` or `E`, an optional sign and digits. Digits are
-/// decimal, one at least. Where no fraction stands, it refuses as `alt` of its parts does; where digits
-/// lack after an `e` or `E`, it fails with `Digit` there. Where more may come and might belong to it,
-/// streaming asks for 1 more.
+/// The shape is an optional sign, `+` or `-`, a mantissa, and an optional exponent. The mantissa is either
+/// digits with an optional point and optional digits after it, or a point and digits. The exponent is `e` or
+/// `E`, an optional sign, and digits. All digits are decimal, and each run has at least one.
+///
+/// If the input doesn't start with a fraction, the parser refuses as `alt` of its parts does. If digits are
+/// missing after an `e` or `E`, it fails with `Digit` there. If more input may come and might belong to the
+/// fraction, streaming needs 1 more.
 #[inline(always)]
 pub fn recognize_float<T, E>() -> RecognizeFloat<T, E> {
     RecognizeFloat { error: PhantomData }
 }
 
-/// The shape of a decimal fraction, or, in any case of the letters, `nan`, `infinity` or `inf`, in this
-/// order; the words are refused with `Float` at the start, and all refusals are joined as by `alt`.
+/// Matches the shape of a decimal fraction, or `nan`, `infinity` or `inf`, in this order, in any case of the
+/// letters.
 ///
-/// Of a beginning of a word streaming asks for the letters that lack.
+/// The words are refused with `Float` at the start. All refusals are joined as by `alt`. If the input ends
+/// inside a word, streaming needs the missing letters.
 #[inline(always)]
 pub fn recognize_float_or_exceptions<T, E>() -> OrExceptions<RecognizeFloat<T, E>> {
     OrExceptions {

@@ -19,7 +19,7 @@ use nom_traits::character::{AsChar, AsciiClass};
 use nom_traits::input::Input;
 use std::marker::PhantomData;
 
-/// Whether a sign is no minus.
+/// Returns whether the sign isn't a minus.
 #[inline(always)]
 fn no_minus(sign: Option<char>) -> bool
     ensures { result ≡ is_plus sign }
@@ -30,7 +30,7 @@ fn no_minus(sign: Option<char>) -> bool
     }
 }
 
-/// The power that was read, or 0.
+/// Returns the power that was read, or 0.
 #[inline(always)]
 fn power_of(power: Option<i32>) -> i32
     ensures { result ≡ power_read power }
@@ -41,7 +41,7 @@ fn power_of(power: Option<i32>) -> i32
     }
 }
 
-/// The length of the leading zeros, but for a last item.
+/// Returns the length of the leading zeros, never counting the last item.
 #[inline(always)]
 fn zeros_len<I: Input>(digits: I) -> usize
 where
@@ -60,7 +60,7 @@ where
     place
 }
 
-/// Digits without their leading zeros; of zeros alone the last.
+/// Returns the digits without their leading zeros. If all are zeros, the last one stays.
 #[inline(always)]
 fn integer_part<I: Input>(digits: I) -> I
 where
@@ -70,7 +70,7 @@ where
     digits.take_from(zeros_len(digits))
 }
 
-/// The length of the first item, and of all up to the last that is no zero.
+/// Returns the length up to the last item that isn't zero, and at least the length of the first item.
 #[inline(always)]
 fn kept_len<I: Input>(digits: I) -> usize
 where
@@ -90,7 +90,7 @@ where
     kept
 }
 
-/// Digits without their trailing zeros; of zeros alone the first.
+/// Returns the digits without their trailing zeros. If all are zeros, the first one stays.
 #[inline(always)]
 fn fraction_part<I: Input>(digits: I) -> I
 where
@@ -100,7 +100,7 @@ where
     digits.take(kept_len(digits))
 }
 
-/// The parts that were read, without the zeros.
+/// Returns the parts that were read, without the leading and trailing zeros.
 #[inline(always)]
 fn parts<I: Input>(read: ((Option<char>, (I, I)), Option<i32>)) -> (bool, I, I, i32)
 where
@@ -116,7 +116,7 @@ where
     )
 }
 
-/// Decimal digits, of which there may be none.
+/// Returns a parser of zero or more decimal digits.
 #[inline(always)]
 fn digit0<I, E>() -> ClassRun<I, E>
     ensures class { result.class ≡ AsciiClass.Digit }
@@ -129,7 +129,7 @@ fn digit0<I, E>() -> ClassRun<I, E>
     }
 }
 
-/// The digits and signs that are read, before zeros are left out.
+/// Reads the digits and signs, before zeros are removed.
 #[inline(always)]
 fn read<OM: OutputMode, I: Input, E: ParseError<I>>(
     input: I,
@@ -154,7 +154,7 @@ where
     shape.process::<OM>(input)
 }
 
-/// The parts of a decimal fraction; run by `recognize_float_parts`.
+/// The parser that `recognize_float_parts` runs: the parts of a decimal fraction.
 #[derive(Drop)]
 pub struct FloatParts<I, E> {
     pub error: PhantomData<(I, E)>,

@@ -1,4 +1,4 @@
-//! Numbers and shapes that are written in digits, where more input may come.
+//! Numbers and shapes written in digits, in streaming mode.
 ghost use Rattle.std.specs.Prelude.{◌≡◌, true, false};
 ghost use Rattle.nom_internal.specs.Prelude.{IsModelledBy, itself, view_4, EitherOutput};
 ghost use Rattle.nom_func.specs.Func.{StreamsBy};
@@ -19,11 +19,11 @@ use nom_traits::character::AsChar;
 use nom_traits::input::Input;
 use std::marker::PhantomData;
 
-/// A number of at most eight digits in base 16.
+/// Parses a number of at most eight hexadecimal digits.
 ///
-/// The digits are those up to the first other item. Of more than eight the first eight are read, and the
-/// rest begins after them. Where the first item is none, it refuses with `IsA`; where all items are
-/// digits, also where there is no item, it asks for 1 more.
+/// The digits end at the first other item. If there are more than eight, the first eight are read, and the
+/// rest begins after them. If the first item isn't a digit, the parser refuses with `IsA`. If all items are
+/// digits, or the input is empty, it needs 1 more.
 #[inline(always)]
 pub fn hex_u32<I: Input, E: ParseError<I>>(input: I) -> IResult<I, u32, E>
 where
@@ -34,7 +34,7 @@ where
     stream_answer(&mut parser, input)
 }
 
-/// The shape of a decimal fraction, as `recognize_float` at the top.
+/// Matches the shape of a decimal fraction, as `recognize_float` at the crate root does.
 #[inline(always)]
 pub fn recognize_float<T: Input, E: ParseError<T>>(input: T) -> IResult<T, T, E>
 where
@@ -45,9 +45,10 @@ where
     stream_answer(&mut parser, input)
 }
 
-/// The shape of a decimal fraction, or `nan`, `infinity` or `inf`, without case.
+/// Matches the shape of a decimal fraction, or `nan`, `infinity` or `inf` in any case.
 ///
-/// Unlike at the top the error of the fraction becomes one of `Float` at the start.
+/// Unlike the parser at the crate root, it replaces the error of the fraction by one of kind `Float` at the
+/// start.
 #[inline(always)]
 pub fn recognize_float_or_exceptions<T: Input, E: ParseError<T>>(input: T) -> IResult<T, T, E>
 where
@@ -64,13 +65,14 @@ where
     stream_answer(&mut parser, input)
 }
 
-/// The sign of a decimal fraction, which is false for a minus, its integer, its fraction, and its power
-/// of ten.
+/// Returns the sign, integer, fraction and power of ten of a decimal fraction.
 ///
-/// The integer has no leading zeros, and the fraction no trailing ones; of zeros alone one is left. A
-/// digit must stand before the point or after it: else it refuses with `Float` at the start. After an
-/// `e` or `E` a whole number of type `i32` must follow, else it fails with `Digit`; without one the power
-/// is 0. At the end of the input it asks for 1 more.
+/// The sign is false for a minus. The integer has no leading zeros, and the fraction no trailing zeros. A
+/// part of zeros alone keeps one.
+///
+/// A digit must appear before or after the point. Otherwise the parser refuses with `Float` at the start.
+/// After an `e` or `E`, an integer of type `i32` must follow. Otherwise the parser fails with `Digit`.
+/// Without an `e` or `E` the power is 0. At the end of the input the parser needs 1 more.
 #[inline(always)]
 pub fn recognize_float_parts<T: Input, E: ParseError<T>>(
     input: T,

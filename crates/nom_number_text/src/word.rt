@@ -1,4 +1,4 @@
-//! Words without the case of ASCII letters.
+//! Words that ignore the case of ASCII letters.
 ghost use Rattle.std.specs.Prelude.{◌≡◌};
 ghost use Rattle.nom_internal.specs.Prelude.{Slice, slice_pinned, sliced};
 ghost use Rattle.nom_number_text.specs.declared.word.Exception.{Exception};
@@ -16,7 +16,7 @@ use nom_traits::character::AsChar;
 use nom_traits::input::Input;
 use std::marker::PhantomData;
 
-/// A word for what is no fraction.
+/// A word for a value that isn't a fraction.
 #[derive(Clone, Copy, Debug, PartialEq, Eq)]
 pub enum Exception {
     /// `nan`.
@@ -28,7 +28,7 @@ pub enum Exception {
 }
 
 impl Exception {
-    /// Its letters, in lower case.
+    /// Returns the letters of the word, in lower case.
     #[inline(always)]
     fn letters(self) -> &'static [u8]
         ensures { result.now ≡ letters_of self }
@@ -41,18 +41,18 @@ impl Exception {
     }
 }
 
-/// What stands at the start of an input.
+/// The result of a search for a word at the start of an input.
 #[derive(Drop)]
 pub enum WordAt<I> {
-    /// The word, with the rest after it.
+    /// The word was found; the rest follows it.
     Stands(I),
-    /// Something else.
+    /// Something else was found.
     Differs,
-    /// A beginning of it, and how many letters are missing.
+    /// The start of the word was found; this many letters are missing.
     Lacks(usize),
 }
 
-/// A word at the start of an input.
+/// Searches for a word at the start of the input.
 #[inline(always)]
 fn word_at<I: Input>(input: I, word: &[u8]) -> WordAt<I>
 where
@@ -73,7 +73,7 @@ where
     WordAt::Stands(rest)
 }
 
-/// A word without the case of ASCII letters, refused with `Float`.
+/// A parser of a word that ignores the case of ASCII letters, and refuses with `Float`.
 #[derive(Drop)]
 pub struct Word<I, E> {
     pub word: Exception,
