@@ -266,7 +266,7 @@ impl<R: Read, A: Allocator + Copy> Stream<R, A> {
         }
     }
 
-    /// Returns the bytes of the last item, whose number is `used`.
+    /// Returns the bytes of the last item; `used` is how many they are.
     pub fn last(&self, used: usize) -> &[u8]
         requires open { IsOpen R.remaining self.now }
         requires used { used ≤ self.now.held.start }
