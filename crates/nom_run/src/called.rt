@@ -9,8 +9,8 @@ use std::io::{Read, Write};
 
 /// A reader or a writer of std that only `read_once` and `write_once` call. They count their calls.
 ///
-/// A trait of std says nothing about how often it is called. The single line of each of the two shows that it
-/// makes exactly one call; this isn't proved.
+/// A trait of std says nothing about how often it is called. The body of each of the two shows that it makes
+/// exactly one call; this isn't proved.
 #[derive(Drop)]
 pub struct Called<T> {
     inner: T,
