@@ -19,7 +19,7 @@ pub enum Awaits {
 #[derive(Clone, Copy, Debug, PartialEq, Eq)]
 pub enum Missing {
     Value,
-    /// The rest of a word.
+    /// A word.
     Word(&'static str),
     Digit,
     /// A character of a string, or the quote that closes it.
