@@ -1,5 +1,5 @@
-//! Bit fields, parsers of bits among parsers of bytes, and the other way round. Those at the top run in the
-//! mode that is asked for.
+//! Bit fields, parsers of bits among parsers of bytes, and the reverse. The parsers at the top run in the
+//! requested mode.
 
 pub use nom_bits::{
     Bits, Bool, Bytes, Fixed, Tag, Take, bits, bool, bytes, complete, streaming, tag, take,

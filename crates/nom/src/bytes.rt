@@ -1,5 +1,5 @@
-//! Parsers of items: tags, slices, runs, searches and texts with escapes. Those at the top run in the
-//! mode that is asked for.
+//! Parsers of items: tags, slices, runs, searches and texts with escapes. The parsers at the top run in the
+//! requested mode.
 
 pub mod complete;
 pub mod streaming;

@@ -1,5 +1,6 @@
-//! Parsers of characters: single ones, runs of a class, ends of lines and decimal integers. Those at the top run in
-//! the mode that is asked for.
+//! Parsers of characters: single ones, runs of a class, ends of lines and decimal integers.
+//!
+//! The parsers at the top run in the requested mode.
 
 pub mod complete;
 pub mod streaming;

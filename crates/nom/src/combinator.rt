@@ -1,4 +1,4 @@
-//! Parsers by what becomes of a part's outcome or of its output, and parsers that take nothing or all.
+//! Parsers that change the outcome or the output of a part, and parsers that consume nothing or everything.
 
 pub use nom_alloc::{MapAlloc, ValueAlloc, map_alloc, value_alloc};
 pub use nom_combinator::{

@@ -5,7 +5,7 @@ pub use nom_error::kind::{ErrorKind, error_to_u32};
 pub use nom_error::outside::{ContextError, FromExternalError};
 pub use nom_error::value::{Error, ParseError, append_error, make_error};
 
-/// The error for a kind at an input, by `make_error`.
+/// Makes the error of a kind at an input, by `make_error`.
 #[macro_export]
 macro_rules! error_position {
     ($input:expr, $code:expr) => {
@@ -13,7 +13,7 @@ macro_rules! error_position {
     };
 }
 
-/// The error that adds a kind at an input to one from below, by `append_error`.
+/// Adds a kind at an input to an error from below, by `append_error`.
 #[macro_export]
 macro_rules! error_node_position {
     ($input:expr, $code:expr, $next:expr) => {

@@ -1,5 +1,7 @@
-//! For parsers and combinators of one's own: errors and outputs that are built only where they are asked for, choices,
-//! slices of the input, and what is kept of items.
+//! Functions for writing new parsers and combinators.
+//!
+//! They cover errors and outputs that are built only on request, choices, slices of the input, and
+//! accumulated items.
 
 pub use nom_error::value::refusal;
 pub use nom_internal::built::{built, cloned, emitted};

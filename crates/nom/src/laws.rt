@@ -1,5 +1,7 @@
-//! Laws of values, for generic users: equality of errors and answers, what `parse_to` reads, and ranges as counts.
-//! These functions do nothing but what their names say: their contracts are the laws.
+//! Laws of values, for generic users: equality of errors and answers, the results of `parse_to`, and ranges
+//! as counts.
+//!
+//! These functions do only what their names say: their contracts are the laws.
 
 pub use nom_error::laws::{
     answers_are_equal, equal_kinds_hash_alike, errors_are_equal, finished_are_equal,

@@ -1,6 +1,6 @@
 //! nom for Rattle: streaming and complete parser combinators, proved.
 //!
-//! The public names stand under the paths of nom 8.0.0.
+//! The public names have the paths of nom 8.0.0.
 #![tactic(auto)]
 
 pub mod bits;

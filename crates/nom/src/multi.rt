@@ -1,4 +1,4 @@
-//! Repetition, folds, and what stands after a length.
+//! Repetition, folds, and parsers of data after a length.
 
 pub use nom_alloc::{FoldMany0Alloc, FoldMany1Alloc, fold_many0_alloc, fold_many1_alloc};
 pub use nom_multi::{

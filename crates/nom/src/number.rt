@@ -1,4 +1,4 @@
-//! Numbers. Those at the top run in the mode that is asked for.
+//! Numbers. The parsers at the top run in the requested mode.
 
 pub mod complete;
 pub mod streaming;

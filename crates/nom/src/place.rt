@@ -1,10 +1,12 @@
-//! Where an input stands.
+//! The place of an input.
 ghost use Rattle.std.specs.Prelude.{◌≡◌};
 
 use nom_bytes::{Take, take};
 
-/// Where the input stands, as that of a `Located`: its output is the empty front of the input. It takes nothing, and
-/// accepts every input, streaming and complete.
+/// Returns the place of the input, such as that of a `Located`.
+///
+/// Its output is the empty prefix of the input. It consumes nothing, and accepts every input, in streaming
+/// and in complete mode.
 #[inline(always)]
 pub fn position<I, E>() -> Take<I, E>
     ensures { result.count ≡ 0 }

@@ -1,5 +1,7 @@
-//! What every parser promises, what combinators, the items of an iterator, a permutation, lists, counts and folds do,
-//! where lists and texts may run out of memory, where fronts and rests stand, and that they keep their label.
+//! The promises of every parser, and of combinators, iterators, permutations, lists, counts and folds.
+//!
+//! Others say when lists and texts may run out of memory, where prefixes and rests are, and that they keep
+//! their label.
 
 pub use nom_combinator::promises::{
     complete_never_waits, consumed_gives_front, cut_never_refuses, not_consumes_nothing,

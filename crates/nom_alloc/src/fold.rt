@@ -15,7 +15,7 @@ use nom_internal::parser::{Parser, StreamParser};
 use nom_traits::input::{Input, Items};
 use nom_traits::view::Viewed;
 
-/// What one more item makes of a value, where outputs are built.
+/// Folds one more item into a value, if outputs are built.
 #[inline(always)]
 fn folded<R: Drop, T: Drop, G: Fn(R, T) -> Result<R, OutOfMemory>>(
     value: Option<R>,
@@ -37,7 +37,7 @@ fn folded<R: Drop, T: Drop, G: Fn(R, T) -> Result<R, OutOfMemory>>(
     }
 }
 
-/// The first value, where outputs are built.
+/// Returns the first value, if outputs are built.
 #[inline(always)]
 fn start<M: Mode, R: Drop, E: Drop, H: Fn() -> Result<R, OutOfMemory>>(
     init: &H,
@@ -84,8 +84,10 @@ fn fold_one<
     }
 }
 
-/// Folds items from a first value, until one is refused; one that consumes nothing is refused with the kind.
-/// Between two items there is a value, where outputs are built.
+/// Folds items from a first value, until one is refused. An item that consumes nothing is refused with
+/// `kind`.
+///
+/// Between two items there is a value, if outputs are built.
 #[inline(always)]
 fn fold_items<
     OM: OutputMode,
@@ -127,8 +129,7 @@ fn fold_items<
     }
 }
 
-/// The fold of items until one is refused, by closures that may take memory; made by `fold_many0_alloc`. The
-/// closures are called only where outputs are built.
+/// The parser that `fold_many0_alloc` returns. The closures are called only if outputs are built.
 #[derive(Drop)]
 pub struct FoldMany0Alloc<F, H, G> {
     pub parser: F,
@@ -183,8 +184,7 @@ impl<
     ghost steady = { λ s k. fold_many0_alloc_steady I.lawful F.Error.errors (F.steady s.0 k) };
 }
 
-/// The fold of items until one is refused, one at least, by closures that may take memory; made by
-/// `fold_many1_alloc`. The closures are called only where outputs are built.
+/// The parser that `fold_many1_alloc` returns. The closures are called only if outputs are built.
 #[derive(Drop)]
 pub struct FoldMany1Alloc<F, H, G> {
     pub parser: F,

@@ -1,5 +1,5 @@
-//! Parsers whose closures take memory: where there is none, the parser runs out of memory, and no other
-//! branch is tried.
+//! Parsers whose closures take memory. If there is none, the parser runs out of memory, and no other branch
+//! is tried.
 #![tactic(auto)]
 
 ghost use Rattle.std.specs.Prelude.{◌≡◌};
@@ -15,10 +15,10 @@ use nom_error::answer::OutOfMemory;
 use nom_internal::parser::Parser;
 use nom_traits::input::{Input, Items};
 
-/// A part whose outputs a closure maps, which may take memory: as `map`, but `OutOfMemory` is answered
-/// where the closure finds none.
+/// Runs `parser`, and applies a closure that may take memory to its output.
 ///
-/// The closure takes its allocator by capture. It is called only where outputs are built.
+/// It works like `map`, but answers `OutOfMemory` if the closure finds no memory. The closure captures its
+/// allocator. It is called only if outputs are built.
 #[inline(always)]
 pub fn map_alloc<I: Items, O: Drop, F: Parser<I>, G: Fn(F::Output) -> Result<O, OutOfMemory>>(
     parser: F,
@@ -30,12 +30,13 @@ pub fn map_alloc<I: Items, O: Drop, F: Parser<I>, G: Fn(F::Output) -> Result<O, 
     MapAlloc { parser, map }
 }
 
-/// A value in the place of what a part accepts, made by a closure which may take memory: as `value`, but
-/// the value is made anew for each acceptance, and `OutOfMemory` is answered where the closure finds none.
-/// So a value that owns memory can stand for a part.
+/// Runs `parser`, and returns a value from a closure that may take memory, in place of its output.
 ///
-/// The closure takes its allocator by capture. It is called only where outputs are built, after the part
-/// accepted. The part's own outputs are dropped.
+/// It works like `value`, but makes a new value for each acceptance, and answers `OutOfMemory` if the closure
+/// finds no memory. The value may therefore own memory.
+///
+/// The closure captures its allocator. It is called only if outputs are built, after `parser` accepted. The
+/// outputs of `parser` are dropped.
 #[inline(always)]
 pub fn value_alloc<I: Items, O: Drop, G: Fn() -> Result<O, OutOfMemory>, F: Parser<I>>(
     make: G,
@@ -47,10 +48,11 @@ pub fn value_alloc<I: Items, O: Drop, G: Fn() -> Result<O, OutOfMemory>, F: Pars
     ValueAlloc { make, parser }
 }
 
-/// The fold of items until one is refused, by closures that may take memory: as `fold_many0`, but
-/// `OutOfMemory` is answered where one of them finds none.
+/// Repeats `parser` until it refuses, and folds the outputs with closures that may take memory.
 ///
-/// The closures take their allocator by capture. They are called only where outputs are built; `init` once,
+/// It works like `fold_many0`, but answers `OutOfMemory` if one of the closures finds no memory.
+///
+/// The closures capture their allocator. They are called only if outputs are built. `init` is called once,
 /// before the first item.
 #[inline(always)]
 pub fn fold_many0_alloc<
@@ -67,13 +69,17 @@ pub fn fold_many0_alloc<
     FoldMany0Alloc { parser, init, fold }
 }
 
-/// The fold of items until one is refused, one at least, by closures that may take memory: as `fold_many1`,
-/// but `OutOfMemory` is answered where one of them finds none.
+/// Repeats `parser` until it refuses, at least once, and folds the outputs with closures that may take
+/// memory.
 ///
-/// A refusal of the first item is one with `Many1` at the start; a later one ends the fold with success. From
-/// the second item on, one that is accepted without consuming anything is refused with `Many1`. The closures
-/// take their allocator by capture. They are called only where outputs are built; `init` once, before the
-/// first item.
+/// It works like `fold_many1`, but answers `OutOfMemory` if one of the closures finds no memory.
+///
+/// If the first item is refused, the fold refuses with `Many1` at the start. A later refusal ends the fold
+/// successfully. From the second item on, one that is accepted without consuming input is refused with
+/// `Many1`.
+///
+/// The closures capture their allocator. They are called only if outputs are built. `init` is called once,
+/// before the first item.
 #[inline(always)]
 pub fn fold_many1_alloc<
     I: Input,

@@ -1,4 +1,4 @@
-//! A parser whose outputs a closure maps, which may take memory.
+//! A parser whose outputs are mapped by a closure that may take memory.
 ghost use Rattle.std.specs.Prelude.{Ok};
 ghost use Rattle.nom_internal.specs.Prelude.{JudgedBesides, SeesAlike};
 ghost use Rattle.nom_internal.specs.laws.MappedLaws.{given_pinned};
@@ -11,8 +11,7 @@ use nom_internal::parser::{Parser, StreamParser};
 use nom_traits::input::Items;
 use nom_traits::view::Viewed;
 
-/// A parser whose outputs a closure maps, which may take memory; made by `map_alloc`. The closure is
-/// called only where outputs are built.
+/// The parser that `map_alloc` returns. The closure is called only if outputs are built.
 #[derive(Drop)]
 pub struct MapAlloc<F, G> {
     pub parser: F,

@@ -1,4 +1,4 @@
-//! A value in the place of what a parser accepts, made by a closure that may take memory.
+//! A value in place of a parser's output, made by a closure that may take memory.
 ghost use Rattle.std.specs.Prelude.{Ok};
 ghost use Rattle.nom_internal.specs.Prelude.{JudgedBesides};
 ghost use Rattle.nom_alloc.specs.ValueAlloc.{MakesAlike, value_alloc_by};
@@ -11,8 +11,9 @@ use nom_internal::parser::{Parser, StreamParser};
 use nom_traits::input::Items;
 use nom_traits::view::Viewed;
 
-/// A value in the place of what a parser accepts, made by a closure that may take memory; made by
-/// `value_alloc`. The closure is called only where outputs are built, after the parser accepted.
+/// The parser that `value_alloc` returns.
+///
+/// The closure is called only if outputs are built, after the parser accepted.
 #[derive(Drop)]
 pub struct ValueAlloc<G, F> {
     pub make: G,

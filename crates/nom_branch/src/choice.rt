@@ -1,18 +1,19 @@
-//! Choices among parsers, and that of one.
+//! Choices among parsers, and the choice of one.
 
 use nom_error::answer::PResult;
 use nom_error::mode::OutputMode;
 use nom_internal::parser::{Parser, StreamParser};
 use nom_traits::input::Items;
 
-/// The first of some parsers that doesn't refuse, made by `alt`: of a tuple of one to eight parsers, or of
-/// parsers of one type in an array or a slice.
+/// The parser that `alt` returns: a choice among several parsers.
+///
+/// The list is a tuple of one to eight parsers, or an array or a slice of parsers of one type.
 #[derive(Drop)]
 pub struct Choice<List> {
     pub parsers: List,
 }
 
-/// One parser is all of the choice: its errors aren't closed.
+/// A choice of one parser is that parser: its errors aren't closed.
 impl<I: Items, A: Parser<I>> Parser<I> for Choice<(A,)> {
     type Output = A::Output;
 

@@ -11,7 +11,7 @@ use nom_internal::choice::{close, next_branch};
 use nom_internal::parser::Parser;
 use nom_traits::input::Items;
 
-/// What the first of some branches answers that doesn't refuse.
+/// Returns the answer of the first branch that doesn't refuse.
 #[inline(always)]
 pub fn choose<I: Items, A: Parser<I>, OM: OutputMode>(
     branches: &mut [A],

@@ -1,4 +1,4 @@
-//! Choice: the first of some parsers that doesn't refuse.
+//! Choice: the first of several parsers that doesn't refuse.
 #![tactic(auto)]
 
 ghost use Rattle.std.specs.Prelude.{◌≡◌};
@@ -12,14 +12,15 @@ mod widest;
 
 pub use crate::choice::Choice;
 
-/// The first of the parsers in `list` that doesn't refuse: its answer is the choice's, and no later one
-/// is tried.
+/// Tries the parsers in `list` in order, and returns the answer of the first that doesn't refuse.
 ///
-/// The list is a tuple of one to eight parsers, or parsers of one type in an array or a slice, as
-/// `alt(&mut parsers[..])`. Nest choices for more than eight types.
+/// No later parser is tried. `alt((tag("a"), tag("b")))` on `"bc"` returns `"b"` and leaves `"c"`.
 ///
-/// Where all refuse, so does the choice: their errors are joined by `or` from left to right, and the
-/// whole is closed by `append` with `Alt` at the start. A tuple of one parser is that parser, whose errors
+/// The list is a tuple of one to eight parsers. It can also be an array or a slice of parsers of one type, as
+/// in `alt(&mut parsers[..])`. Nest choices for more than eight types.
+///
+/// If all parsers refuse, the choice refuses. Their errors are joined by `or` from left to right, and
+/// `append` closes the result with `Alt` at the start. A tuple of one parser is that parser, and its errors
 /// aren't closed. An array or a slice without parsers refuses with `Alt`.
 #[inline(always)]
 pub fn alt<List>(list: List) -> Choice<List>

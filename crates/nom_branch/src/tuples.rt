@@ -1,7 +1,7 @@
 //! Choices among two to five parsers, of any types.
 //!
-//! Each width has an implementation of its own, whose bounds stand side by side: of nested ones each would ask for the
-//! types of those within again. The error type is asked for before the output, which is then found sooner.
+//! Each width has a separate implementation, with its bounds side by side. In a nested one, each bound would
+//! require the inner types again. The error type is required before the output, which is then found sooner.
 ghost use Rattle.std.specs.Prelude.{◌⊎◌};
 ghost use Rattle.nom_branch.specs.Alternatives.{alt_of, or_of};
 ghost use Rattle.nom_internal.specs.Prelude.{OrBesides};

@@ -9,7 +9,7 @@ use nom_internal::built::built;
 use nom_internal::parser::{Parser, StreamParser};
 use nom_traits::input::Items;
 
-/// A parser, or none, which gives nothing at once; made by `cond`.
+/// The parser that `cond` returns. It holds a parser, or none; without one it accepts at once with `None`.
 #[derive(Drop)]
 pub struct Cond<F> {
     pub parser: Option<F>,

@@ -11,7 +11,7 @@ use nom_error::mode::{Check, OutputM, OutputMode};
 use nom_internal::parser::Parser;
 use nom_traits::input::Input;
 
-/// A parser after which nothing is left; made by `all_consuming`.
+/// The parser that `all_consuming` returns. Nothing is left after it.
 #[derive(Drop)]
 pub struct AllConsuming<F> {
     pub parser: F,

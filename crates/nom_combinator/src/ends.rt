@@ -1,4 +1,4 @@
-//! Parsers that take nothing, or all that is left.
+//! Parsers that consume nothing, or everything that is left.
 ghost use Rattle.std.specs.Prelude.{◌≡◌, false};
 ghost use Rattle.nom_internal.specs.Prelude.{IsModelledBy, itself};
 ghost use Rattle.nom_func.specs.Func.{AnswersBy};
@@ -13,7 +13,7 @@ use nom_internal::parser::Parser;
 use nom_traits::input::Input;
 use std::marker::PhantomData;
 
-/// Accepts at once, consumes nothing, and gives a clone of the value.
+/// Accepts at once, consumes nothing, and returns a clone of the value.
 #[inline(always)]
 pub fn success<I, O, E>(value: O) -> Success<O, I, E>
     ensures { result.value ≡ value }
@@ -30,7 +30,10 @@ pub fn fail<I, O, E>() -> Fail<O, I, E> {
     Fail { of: PhantomData }
 }
 
-/// A parser after which nothing may be left: what is left is refused with `Eof`, where it begins.
+/// Runs `parser`, and requires that nothing is left after it.
+///
+/// A nonempty rest is refused with `Eof`, at its start. `all_consuming(tag("ab"))` on `"abc"` refuses with
+/// `Eof` at `"c"`.
 #[inline(always)]
 pub fn all_consuming<F>(parser: F) -> AllConsuming<F>
     ensures { result.parser ≡ parser }
@@ -38,7 +41,9 @@ pub fn all_consuming<F>(parser: F) -> AllConsuming<F>
     AllConsuming { parser }
 }
 
-/// The end of the input: an empty input is given, and any other is refused with `Eof`, in both modes.
+/// Matches the end of the input.
+///
+/// It returns an empty input, and refuses any other with `Eof`, in both modes.
 #[inline(always)]
 pub fn eof<I: Input, E: ParseError<I>>(input: I) -> IResult<I, I, E>
     ensures { AnswersBy I.model I.view (IsModelledBy I.model) (eof_meaning I.model E.errors) false input result }
@@ -47,7 +52,7 @@ pub fn eof<I: Input, E: ParseError<I>>(input: I) -> IResult<I, I, E>
     parser.parse_complete(input)
 }
 
-/// All that is left, in both modes; nothing is left after it.
+/// Returns all the remaining input, in both modes. Nothing is left after it.
 #[inline(always)]
 pub fn rest<I: Input, E: ParseError<I>>(input: I) -> IResult<I, I, E>
     ensures { AnswersBy I.model I.view (IsModelledBy I.model) (rest_meaning I.model) false input result }
@@ -56,7 +61,7 @@ pub fn rest<I: Input, E: ParseError<I>>(input: I) -> IResult<I, I, E>
     parser.parse_complete(input)
 }
 
-/// The length of what is left, in both modes; nothing is consumed.
+/// Returns the length of the remaining input, in both modes. Nothing is consumed.
 #[inline(always)]
 pub fn rest_len<I: Input, E: ParseError<I>>(input: I) -> IResult<I, usize, E>
     ensures { AnswersBy I.model itself (λ t n. n ≡ t) (rest_len_meaning I.model) false input result }

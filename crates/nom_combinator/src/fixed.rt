@@ -15,7 +15,7 @@ use nom_traits::input::Items;
 use nom_traits::view::Viewed;
 use std::marker::PhantomData;
 
-/// A value of which a clone is given at once; made by `success`.
+/// The parser that `success` returns. It returns a clone of its value at once.
 #[derive(Drop)]
 pub struct Success<O, I, E> {
     pub value: O,
@@ -39,7 +39,7 @@ impl<I: Items, O: Clone, E: ParseError<I>> Parser<I> for Success<O, I, E> {
       IsOutput = λ _. O.is_clone value;
     } };
 
-    /// It rests where it starts.
+    /// The rest is the whole input.
     ghost Besides = { λ _ _ _ i. OfRest (λ rest. rest ≡ i) };
 
     #[inline(always)]
@@ -62,7 +62,7 @@ impl<I: Items, O: Clone + Viewed, E: ParseError<I>> StreamParser<I> for Success<
     ghost steady = { λ value k. clone_steady E I.model value (O.is_infallible value) };
 }
 
-/// A refusal, made by `fail`.
+/// The parser that `fail` returns. It refuses.
 #[derive(Drop)]
 pub struct Fail<O, I, E> {
     pub of: PhantomData<(O, I, E)>,

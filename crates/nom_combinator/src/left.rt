@@ -1,4 +1,4 @@
-//! Parsers of all that is left, alike in both modes.
+//! Parsers of the remaining input, the same in both modes.
 ghost use Rattle.std.specs.Prelude.{◌≡◌, ℕ};
 ghost use Rattle.nom_internal.specs.Prelude.{OfRest, Slice, sliced, valued};
 ghost use Rattle.nom_combinator.specs.Ends.{eof_meaning, rest_meaning, rest_len_meaning};
@@ -13,14 +13,14 @@ use nom_internal::parser::Parser;
 use nom_traits::input::Input;
 use std::marker::PhantomData;
 
-/// The end of the input.
+/// The parser of the end of the input.
 #[derive(Drop)]
 pub struct Eof<I, E> {
     pub error: PhantomData<(I, E)>,
 }
 
 impl<I, E> Eof<I, E> {
-    /// The parser of the end.
+    /// Returns the parser of the end of the input.
     #[inline(always)]
     pub fn new() -> Eof<I, E> {
         Eof { error: PhantomData }
@@ -40,7 +40,7 @@ impl<I: Input, E: ParseError<I>> Parser<I> for Eof<I, E> {
 
     ghost grammar = { λ _. sliced I.model (eof_meaning I.model E.errors) };
 
-    /// It rests where it starts.
+    /// The rest is the whole input.
     ghost Besides = { λ _ _ _ i. OfRest (λ rest. rest ≡ i) };
 
     #[inline(always)]
@@ -56,14 +56,14 @@ impl<I: Input, E: ParseError<I>> Parser<I> for Eof<I, E> {
     ghost lawful = { λ _ k. eof_lawful I.model E.errors };
 }
 
-/// All that is left.
+/// The parser of all the remaining input.
 #[derive(Drop)]
 pub struct Rest<I, E> {
     pub error: PhantomData<(I, E)>,
 }
 
 impl<I, E> Rest<I, E> {
-    /// The parser of all that is left.
+    /// Returns the parser of all the remaining input.
     #[inline(always)]
     pub fn new() -> Rest<I, E> {
         Rest { error: PhantomData }
@@ -95,14 +95,14 @@ impl<I: Input, E: ParseError<I>> Parser<I> for Rest<I, E> {
     ghost lawful = { λ _ k. rest_lawful I.model E };
 }
 
-/// The length of what is left.
+/// The parser of the length of the remaining input.
 #[derive(Drop)]
 pub struct RestLen<I, E> {
     pub error: PhantomData<(I, E)>,
 }
 
 impl<I, E> RestLen<I, E> {
-    /// The parser of the length of what is left.
+    /// Returns the parser of the length of the remaining input.
     #[inline(always)]
     pub fn new() -> RestLen<I, E> {
         RestLen { error: PhantomData }
@@ -122,7 +122,7 @@ impl<I: Input, E: ParseError<I>> Parser<I> for RestLen<I, E> {
 
     ghost grammar = { λ _. valued (rest_len_meaning I.model) };
 
-    /// It rests where it starts.
+    /// The rest is the whole input.
     ghost Besides = { λ _ _ _ i. OfRest (λ rest. rest ≡ i) };
 
     #[inline(always)]

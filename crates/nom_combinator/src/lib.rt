@@ -1,4 +1,4 @@
-//! Parsers by what becomes of a part's outcome, or of its output.
+//! Parsers that change the outcome or the output of a part.
 #![tactic(auto)]
 
 ghost use Rattle.std.specs.Prelude.{◌≡◌, Some, None, true, false};
@@ -33,7 +33,7 @@ use nom_internal::parser::Parser;
 use nom_traits::input::Items;
 use std::marker::PhantomData;
 
-/// A parser whose refusals are failures, after which no other branch is tried.
+/// Runs `parser`, and turns its refusals into failures. No other branch is tried after a failure.
 #[inline(always)]
 pub fn cut<F>(parser: F) -> Cut<F>
     ensures { result.parser ≡ parser }
@@ -41,8 +41,10 @@ pub fn cut<F>(parser: F) -> Cut<F>
     Cut { parser }
 }
 
-/// A parser, or nothing where it refuses: then `None` is accepted, and nothing is consumed. The errors of
-/// its refusals aren't built; its failures stay.
+/// Runs `parser`, and accepts with `None` if it refuses.
+///
+/// In that case nothing is consumed. The errors of its refusals aren't built. Its failures are passed on.
+/// `opt(tag("a"))` on `"bc"` returns `None` and leaves `"bc"`.
 #[inline(always)]
 pub fn opt<F>(parser: F) -> Opt<F>
     ensures { result.parser ≡ parser }
@@ -50,7 +52,9 @@ pub fn opt<F>(parser: F) -> Opt<F>
     Opt { parser }
 }
 
-/// A parser of which nothing is consumed.
+/// Runs `parser` without consuming input.
+///
+/// `peek(tag("a"))` on `"ab"` returns `"a"` and leaves `"ab"`.
 #[inline(always)]
 pub fn peek<F>(parser: F) -> Peek<F>
     ensures { result.parser ≡ parser }
@@ -58,8 +62,10 @@ pub fn peek<F>(parser: F) -> Peek<F>
     Peek { parser }
 }
 
-/// Accepts nothing where a parser refuses, and refuses with `Not` at the start where it accepts. Its
-/// failures stay, and so does its need for more input.
+/// Accepts if `parser` refuses, and consumes nothing.
+///
+/// It refuses with `Not` at the start if `parser` accepts. Failures of `parser` are passed on, and so is its
+/// need for more input. `not(tag("a"))` on `"bc"` returns `()` and leaves `"bc"`.
 #[inline(always)]
 pub fn not<F>(parser: F) -> Not<F>
     ensures { result.parser ≡ parser }
@@ -67,8 +73,9 @@ pub fn not<F>(parser: F) -> Not<F>
     Not { parser }
 }
 
-/// A parser that runs as on a complete input; where it wants more all the same, it refuses with `Complete`
-/// at the start.
+/// Runs `parser` in complete mode.
+///
+/// If `parser` still needs more input, this parser refuses with `Complete` at the start.
 #[inline(always)]
 pub fn complete<F>(parser: F) -> MakeComplete<F>
     ensures { result.parser ≡ parser }
@@ -76,7 +83,10 @@ pub fn complete<F>(parser: F) -> MakeComplete<F>
     MakeComplete { parser }
 }
 
-/// What a parser consumes, as a slice of the input; its own outputs aren't built.
+/// Returns the part of the input that `parser` consumes, as a slice.
+///
+/// The outputs of `parser` aren't built. `recognize(pair(tag("a"), tag("b")))` on `"abc"` returns `"ab"` and
+/// leaves `"c"`.
 #[inline(always)]
 pub fn recognize<F>(parser: F) -> Recognize<F>
     ensures { result.parser ≡ parser }
@@ -84,7 +94,9 @@ pub fn recognize<F>(parser: F) -> Recognize<F>
     Recognize { parser }
 }
 
-/// A parser's output, after the slice of the input that it consumes.
+/// Returns the part of the input that `parser` consumes, as a slice, and then the output of `parser`.
+///
+/// `consumed(value(1, tag("ab")))` on `"abc"` returns `("ab", 1)` and leaves `"c"`.
 #[inline(always)]
 pub fn consumed<F>(parser: F) -> Consumed<F>
     ensures { result.parser ≡ parser }
@@ -92,7 +104,9 @@ pub fn consumed<F>(parser: F) -> Consumed<F>
     Consumed { parser }
 }
 
-/// A parser that runs only where `b` holds; else `None` is given, and nothing is consumed.
+/// Runs `f` only if `b` is true. Otherwise it returns `None` and consumes nothing.
+///
+/// `cond(false, tag("a"))` on `"ab"` returns `None` and leaves `"ab"`.
 #[inline(always)]
 pub fn cond<F: Drop>(b: bool, f: F) -> Cond<F>
     ensures runs { b ≡ true → result.parser ≡ Some f }
@@ -105,9 +119,10 @@ pub fn cond<F: Drop>(b: bool, f: F) -> Cond<F>
     }
 }
 
-/// A parser whose errors are told with a name, by `ContextError`: of its refusals and of its failures, at
-/// the start. The name is a `&'static str`; its type is a parameter since the checker follows a call by
-/// borrowed types only where no `'static` stands in the signature.
+/// Adds a name to the errors of `parser`, by `ContextError`.
+///
+/// Refusals and failures both receive the name, at the start. The name is a `&'static str`. Its type is a
+/// parameter, because the checker follows a call by borrowed types only if the signature has no `'static`.
 #[inline(always)]
 pub fn context<C, F>(context: C, parser: F) -> Context<F, C>
     ensures context { result.context ≡ context }
@@ -116,8 +131,10 @@ pub fn context<C, F>(context: C, parser: F) -> Context<F, C>
     Context { context, parser }
 }
 
-/// A parser, and another one on its output alone: the other's output, and the first's rest. What the other
-/// leaves is dropped.
+/// Runs `parser`, and then runs `applied_parser` on its output alone.
+///
+/// It returns the output of `applied_parser` and the rest of `parser`. The rest of `applied_parser` is
+/// dropped.
 #[inline(always)]
 pub fn map_parser<I: Items, F: Parser<I, Output: Items>, G: Parser<F::Output, Error = F::Error>>(
     parser: F,
@@ -134,7 +151,7 @@ where
     }
 }
 
-/// A parser, and on the rest the one that a closure gives for its output.
+/// Runs `parser`, makes a second parser from its output with a closure, and runs that on the rest.
 #[inline(always)]
 pub fn flat_map<I: Items, F: Parser<I>, H: Parser<I, Error = F::Error>, G: Fn(F::Output) -> H>(
     parser: F,
@@ -149,7 +166,7 @@ pub fn flat_map<I: Items, F: Parser<I>, H: Parser<I, Error = F::Error>, G: Fn(F:
     }
 }
 
-/// A parser with what a closure gives for its output. The closure is called only where outputs are built.
+/// Runs `parser`, and applies a closure to its output. The closure is called only if outputs are built.
 #[inline(always)]
 pub fn map<I: Items, O: Drop, F: Parser<I>, G: Fn(F::Output) -> O>(parser: F, map: G) -> Map<F, G>
     ensures parser { result.parser ≡ parser }
@@ -158,8 +175,9 @@ pub fn map<I: Items, O: Drop, F: Parser<I>, G: Fn(F::Output) -> O>(parser: F, ma
     Map { parser, map }
 }
 
-/// A parser with what a closure gives for its output. Where that is `None`, the input is refused at its
-/// start, with `MapOpt`.
+/// Runs `parser`, and applies a closure to its output.
+///
+/// If the closure returns `None`, the input is refused at its start, with `MapOpt`.
 #[inline(always)]
 pub fn map_opt<I: Items, O: Drop, F: Parser<I>, G: Fn(F::Output) -> Option<O>>(
     parser: F,
@@ -171,8 +189,10 @@ pub fn map_opt<I: Items, O: Drop, F: Parser<I>, G: Fn(F::Output) -> Option<O>>(
     MapOpt { parser, map }
 }
 
-/// A parser with what a closure gives for its output. Where that is an error, the input is refused at its
-/// start, with the error that `from_external_error` makes of it with `MapRes`.
+/// Runs `parser`, and applies a closure to its output.
+///
+/// If the closure returns an error, the input is refused at its start. `from_external_error` makes the
+/// refusal's error from the closure's error, with `MapRes`.
 #[inline(always)]
 pub fn map_res<I: Items, O: Drop, X: Drop, F: Parser<I>, G: Fn(F::Output) -> Result<O, X>>(
     parser: F,
@@ -186,8 +206,9 @@ where
     MapRes { parser, map }
 }
 
-/// A parser whose outputs pass a test. Where one doesn't, the input is refused at its start, with
-/// `Verify`.
+/// Runs `parser`, and accepts only if its output passes a test.
+///
+/// Otherwise the input is refused at its start, with `Verify`.
 #[inline(always)]
 pub fn verify<I: Items, F: Parser<I>, G: Fn(&F::Output) -> bool>(parser: F, test: G) -> Verify<F, G>
     ensures parser { result.parser ≡ parser }
@@ -196,7 +217,9 @@ pub fn verify<I: Items, F: Parser<I>, G: Fn(&F::Output) -> bool>(parser: F, test
     Verify { parser, test }
 }
 
-/// A clone of a value for each output of a parser.
+/// Runs `parser`, and returns a clone of `value` in place of its output.
+///
+/// `value(1, tag("ab"))` on `"abc"` returns `1` and leaves `"c"`.
 #[inline(always)]
 pub fn value<O, F>(value: O, parser: F) -> Value<O, F>
     ensures value { result.value ≡ value }
@@ -205,7 +228,7 @@ pub fn value<O, F>(value: O, parser: F) -> Value<O, F>
     Value { value, parser }
 }
 
-/// A parser with its output and its error converted by `From`.
+/// Runs `parser`, and converts its output and its error by `From`.
 #[inline(always)]
 pub fn into<F, O, E>(parser: F) -> Into<F, O, E>
     ensures { result.parser ≡ parser }

@@ -1,4 +1,4 @@
-//! A part whose errors are told with a name.
+//! A part whose errors receive a name.
 ghost use Rattle.std.specs.Prelude.{ℕ, List};
 ghost use Rattle.nom_internal.specs.laws.MappedLaws.{renamed_lawful, renamed_steady};
 ghost use Rattle.nom_combinator.specs.Contexts.{IsRenamed, context_of};
@@ -9,7 +9,7 @@ use nom_error::outside::ContextError;
 use nom_internal::parser::{Parser, StreamParser};
 use nom_traits::input::Items;
 
-/// An answer, whose error is told with a name where it holds one.
+/// Adds a name to the error of an answer, if it holds one.
 #[inline(always)]
 fn named<I: Drop, E: ContextError<I> + Drop>(
     input: I,
@@ -33,7 +33,7 @@ fn named<I: Drop, E: ContextError<I> + Drop>(
     }
 }
 
-/// A parser whose errors are told with a name; made by `context`.
+/// The parser that `context` returns. It adds a name to the errors of its part.
 #[derive(Drop)]
 pub struct Context<F, C = &'static str> {
     pub context: C,

@@ -1,4 +1,4 @@
-//! Parsers whose outputs are tested, or replaced.
+//! Parsers whose outputs are tested or replaced.
 ghost use Rattle.std.specs.Prelude.{◌≡◌, true};
 ghost use Rattle.std.specs.Borrow.{Bor};
 ghost use Rattle.std.specs.Fn.{FnReturnsAt};
@@ -17,7 +17,7 @@ use nom_internal::parser::{Parser, StreamParser};
 use nom_traits::input::Items;
 use nom_traits::view::Viewed;
 
-/// Whether an output passes a test.
+/// Returns whether an output passes a test.
 #[inline(always)]
 fn passes<O, G: Fn(&O) -> bool>(test: &G, output: &O) -> bool
     requires callable { (p : Bor O) → p.now ≡ output.now → G.pre test.now p }
@@ -26,8 +26,9 @@ fn passes<O, G: Fn(&O) -> bool>(test: &G, output: &O) -> bool
     test(output)
 }
 
-/// A parser whose outputs pass a test; made by `verify`. Its outputs are always built, since the test
-/// judges them.
+/// The parser that `verify` returns.
+///
+/// The outputs of its part are always built, because the test examines them.
 #[derive(Drop)]
 pub struct Verify<F, G> {
     pub parser: F,
@@ -78,8 +79,9 @@ impl<I: Items, F: StreamParser<I> + Drop, G: Fn(&F::Output) -> bool> StreamParse
     ghost steady = { λ s k. judged_steady k.1 (F.steady s.0 k.0) };
 }
 
-/// A value in the place of what a parser accepts; made by `value`. A clone of it is made where outputs
-/// are built; the parser's own are dropped.
+/// The parser that `value` returns.
+///
+/// It clones the value if outputs are built. The outputs of its part are dropped.
 #[derive(Drop)]
 pub struct Value<O, F> {
     pub value: O,

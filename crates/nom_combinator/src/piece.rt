@@ -1,4 +1,4 @@
-//! The parsers that give what a part consumes.
+//! The parsers that return the part of the input that they consume.
 ghost use Rattle.std.specs.Prelude.{false};
 ghost use Rattle.nom_internal.specs.Prelude.{Slice, slice_pinned, pair_pinned, with_outputs};
 ghost use Rattle.nom_internal.specs.laws.RecognizedLaws.{recognized_lawful, recognized_steady};
@@ -12,7 +12,7 @@ use nom_internal::sequence::combine;
 use nom_internal::slices::before;
 use nom_traits::input::Input;
 
-/// What a parser consumes; made by `recognize`.
+/// The parser that `recognize` returns.
 #[derive(Drop)]
 pub struct Recognize<F> {
     pub parser: F,
@@ -53,7 +53,7 @@ impl<I: Input, F: StreamParser<I> + Drop> StreamParser<I> for Recognize<F> {
     ghost steady = { λ s k. recognized_steady I.lawful (F.steady s k) };
 }
 
-/// A parser's output, and what it consumes; made by `consumed`.
+/// The parser that `consumed` returns.
 #[derive(Drop)]
 pub struct Consumed<F> {
     pub parser: F,

@@ -1,4 +1,5 @@
-//! What combinators promise beside what every parser does. These functions do nothing: their contracts are the promises.
+//! The promises of combinators, in addition to those of every parser. These functions do nothing: their
+//! contracts are the promises.
 ghost use Rattle.nom_combinator.specs.Promises.{ConsumesNothing, GivesFront, GivesFrontAndOutput, NeverRefuses, NeverWaits};
 
 use crate::outputs::Value;
@@ -23,12 +24,12 @@ pub fn complete_never_waits<I: Items, F: Parser<I> + Drop>(_parser: &MakeComplet
     ensures { NeverWaits I.model (⟦<MakeComplete<F> as Parser<I>>⟧.grammar (F.state _parser.now.parser)).meaning }
 {}
 
-/// What `peek` accepts, it doesn't consume.
+/// `peek` consumes nothing when it accepts.
 pub fn peek_consumes_nothing<I: Items, F: Parser<I> + Drop>(_parser: &Peek<F>)
     ensures { ConsumesNothing I.model (⟦<Peek<F> as Parser<I>>⟧.grammar (F.state _parser.now.parser)).meaning }
 {}
 
-/// Where `not` accepts, it consumes nothing.
+/// `not` consumes nothing when it accepts.
 pub fn not_consumes_nothing<I: Items, F: Parser<I> + Drop>(_parser: &Not<F>)
     ensures { ConsumesNothing I.model (⟦<Not<F> as Parser<I>>⟧.grammar (F.state _parser.now.parser)).meaning }
 {}
@@ -38,14 +39,16 @@ pub fn recognize_gives_front<I: Input, F: Parser<I> + Drop>(_parser: &Recognize<
     ensures { GivesFront I.model (⟦<Recognize<F> as Parser<I>>⟧.grammar (F.state _parser.now.parser)).meaning }
 {}
 
-/// The slice that `consumed` gives, followed by the rest, is the input, and its other output is one that the part answers
-/// with the same rest.
+/// The slice that `consumed` returns, followed by the rest, is the input.
+///
+/// Its other output is one that the part answers with the same rest.
 pub fn consumed_gives_front<I: Input, F: Parser<I> + Drop>(_parser: &Consumed<F>)
     ensures { GivesFrontAndOutput I.model (F.grammar (F.state _parser.now.parser)).IsOutput (F.grammar (F.state _parser.now.parser)).meaning
         (⟦<Consumed<F> as Parser<I>>⟧.grammar (F.state _parser.now.parser)).meaning }
 {}
 
-/// Clones of a text are compared by its characters, so `value` of one pins, whatever the part.
+/// `Pins` holds for `value` of a text, whatever the part, because clones of a text are compared by its
+/// characters.
 pub fn value_pins_text<I: Items, F: StreamParser<I> + Drop, A: Allocator + Clone>(
     _parser: &Value<String<A>, F>,
 )

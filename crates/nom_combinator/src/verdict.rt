@@ -1,4 +1,4 @@
-//! The parsers that tell something of a part's outcome.
+//! The parsers that change or test a part's outcome.
 ghost use Rattle.std.specs.Prelude.{◌≡◌, Option, Some, true, false};
 ghost use Rattle.nom_internal.specs.Prelude.{OrBesides, ThenBesides, with_errors, with_outputs, with_streaming};
 ghost use Rattle.nom_combinator.specs.Verdicts.{cut_of, opt_of, peek_of};
@@ -14,7 +14,7 @@ use nom_internal::built::built;
 use nom_internal::parser::{Parser, StreamParser};
 use nom_traits::input::Items;
 
-/// A parser whose refusals are failures; made by `cut`.
+/// The parser that `cut` returns. Its refusals are failures.
 #[derive(Drop)]
 pub struct Cut<F> {
     pub parser: F,
@@ -61,7 +61,7 @@ impl<I: Items, F: StreamParser<I> + Drop> StreamParser<I> for Cut<F> {
     ghost steady = { λ s k. cut_steady (F.steady s k) };
 }
 
-/// A parser, or nothing where it refuses; made by `opt`.
+/// The parser that `opt` returns. It accepts with `None` if its part refuses.
 #[derive(Drop)]
 pub struct Opt<F> {
     pub parser: F,
@@ -108,7 +108,7 @@ impl<I: Items, F: StreamParser<I> + Drop> StreamParser<I> for Opt<F> {
     ghost steady = { λ s k. opt_steady (F.steady s k) };
 }
 
-/// A parser of which nothing is consumed; made by `peek`.
+/// The parser that `peek` returns. It consumes nothing.
 #[derive(Drop)]
 pub struct Peek<F> {
     pub parser: F,
@@ -147,7 +147,7 @@ impl<I: Items, F: StreamParser<I> + Drop> StreamParser<I> for Peek<F> {
     ghost steady = { λ s k. peek_steady (F.steady s k) };
 }
 
-/// A parser that must refuse; made by `not`.
+/// The parser that `not` returns. Its part must refuse.
 #[derive(Drop)]
 pub struct Not<F> {
     pub parser: F,
@@ -196,7 +196,7 @@ impl<I: Items, F: StreamParser<I> + Drop> StreamParser<I> for Not<F> {
     ghost steady = { λ s k. not_steady (F.steady s k) };
 }
 
-/// A parser that runs as on a complete input; made by `complete`.
+/// The parser that `complete` returns. It runs its part in complete mode.
 #[derive(Drop)]
 pub struct MakeComplete<F> {
     pub parser: F,

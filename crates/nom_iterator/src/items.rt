@@ -1,4 +1,4 @@
-//! The iterator, and what it holds.
+//! The iterator and its state.
 ghost use Rattle.nom_iterator.specs.Steps.{IsFinish, IsStep, Moves};
 
 use nom_error::answer::{Err, IResult, Needed};
@@ -6,7 +6,9 @@ use nom_error::value::ParseError;
 use nom_internal::parser::Parser;
 use nom_traits::input::Items;
 
-/// Whether more items may be given, or what ended them: a refusal, or an answer that `finish` gives.
+/// The state of an iterator: more items may follow, or the reason for its end.
+///
+/// The reason is a refusal, or an answer that `finish` returns.
 #[derive(Drop)]
 pub enum State<E> {
     Running,
@@ -16,7 +18,8 @@ pub enum State<E> {
     OutOfMemory,
 }
 
-/// The items of an input, one for each `next`; made by `iterator`. It holds the place that is reached.
+/// The iterator that `iterator` returns. Each `next` returns one item. It holds the place that it has
+/// reached.
 #[derive(Drop)]
 pub struct ParserIterator<I, E, F> {
     pub parser: F,
@@ -24,7 +27,7 @@ pub struct ParserIterator<I, E, F> {
     pub state: State<E>,
 }
 
-/// What is given for an answer at the input, the place after it, and what is held then.
+/// Returns the output of an answer at `input`, the place after it, and the new state.
 #[inline(always)]
 fn moved<I: Drop, O: Drop, E: Drop>(input: I, answer: IResult<I, O, E>) -> (Option<O>, I, State<E>)
     ensures { Moves input answer result.0 result.1 result.2 }
@@ -63,8 +66,9 @@ impl<I: Items, E: ParseError<I>, F: Parser<I, Error = E> + Drop> Iterator
 }
 
 impl<I: Drop, E: Drop, F: Drop> ParserIterator<I, E, F> {
-    /// The rest of the input, where the items ended by a refusal or may go on; and else the answer that
-    /// ended them.
+    /// Returns the rest of the input, or the answer that ended the items.
+    ///
+    /// It returns the rest if a refusal ended the items, or if more may follow.
     pub fn finish(self) -> IResult<I, (), E>
         ensures { IsFinish self.input self.state result }
     {

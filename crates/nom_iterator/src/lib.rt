@@ -9,7 +9,9 @@ pub mod promises;
 
 pub use crate::items::{ParserIterator, State};
 
-/// The items of an input: each accepted by the parser, and each begun where the one before ended.
+/// Returns an iterator over the items of `input`.
+///
+/// The parser accepts each item. Each item begins where the one before ended.
 #[inline(always)]
 pub fn iterator<I, E, F>(input: I, parser: F) -> ParserIterator<I, E, F>
     ensures parser { result.parser ≡ parser }

@@ -1,4 +1,4 @@
-//! What the items of every parser promise. These functions do nothing: their contracts are the promises.
+//! The promises of the items of every parser. These functions do nothing: their contracts are the promises.
 ghost use Rattle.nom_iterator.specs.Iterated.{ItemsAreOne, ItemsFit, ItemsStay, OutputsStay};
 ghost use Rattle.nom_iterator.specs.Steps.{GivesItems, EndsThere, FinishesSo, StaysEnded};
 
@@ -7,8 +7,9 @@ use nom_error::value::ParseError;
 use nom_internal::parser::{Parser, StreamParser};
 use nom_traits::input::Items;
 
-/// The items that can be given on an input, up to any limit, are a beginning of those on every input that
-/// extends it, and where the parser pins, so are the views of their outputs.
+/// The items of an input, up to any limit, are the first items of every input that extends it.
+///
+/// If `Pins` holds for the parser, the same is true of the views of their outputs.
 pub fn items_stay<I: Items, P: StreamParser<I>>(_parser: &P)
     requires { (P.grammar (P.state _parser.now)).meaning.IsSound }
     ensures items { ItemsStay I.model (P.grammar (P.state _parser.now)).meaning }
@@ -16,21 +17,22 @@ pub fn items_stay<I: Items, P: StreamParser<I>>(_parser: &P)
         (P.grammar (P.state _parser.now)).IsOutput }
 {}
 
-/// The items that can be given on an input, up to any limit, are those on every input that is equal as models.
+/// Inputs that are equal as models have the same items, up to any limit.
 pub fn items_are_one<I: Items, P: Parser<I>>(_parser: &P)
     requires { (P.grammar (P.state _parser.now)).meaning.IsSound }
     ensures { ItemsAreOne I.model (P.grammar (P.state _parser.now)).meaning }
 {}
 
-/// Where each acceptance consumes something, no more items can be given than the input is long: so a limit
-/// of its length gives them all.
+/// An input has no more items than its length, if each acceptance consumes something. A limit of that length
+/// therefore covers all of them.
 pub fn items_fit<I: Items, P: Parser<I>>(_parser: &P)
     ensures { ItemsFit I.model (P.grammar (P.state _parser.now)).meaning }
 {}
 
-/// What calls of `next` give are the outputs of items, each begun where the one before ended. Of an iterator that
-/// ran, a call gives nothing only where the parser answers something else than an acceptance, or where memory runs
-/// out, and that is held; from then on nothing is given, and all stays.
+/// Calls of `next` return the outputs of items, each of which begins where the one before ended.
+///
+/// While the iterator runs, a call returns `None` only if the parser doesn't accept, or if memory runs out.
+/// The iterator then holds that answer. Every later call returns `None`, and nothing changes.
 pub fn gives_items<I: Items, E: ParseError<I>, F: Parser<I, Error = E> + Drop>(
     _iterator: &ParserIterator<I, E, F>,
 )
@@ -40,9 +42,10 @@ pub fn gives_items<I: Items, E: ParseError<I>, F: Parser<I, Error = E> + Drop>(
     ensures stays { StaysEnded I.model F.grammar (λ s. F.state s.parser) (λ s. s.input) (λ s. s.state) _iterator.now }
 {}
 
-/// Of an iterator that runs: as long as items are given, `finish` answers the place that is reached. After a call that
-/// gave nothing it answers the same place where the parser refuses there, and else the parser's failure, what it
-/// needs, or that memory ran out.
+/// `finish` returns the place that is reached, as long as a running iterator returns items.
+///
+/// After a call that returned `None`, it returns the same place if the parser refuses there. Otherwise it
+/// answers the parser's failure, the parser's need, or `OutOfMemory`.
 pub fn finishes_so<I: Items, E: ParseError<I>, F: Parser<I, Error = E> + Drop>(
     _iterator: &ParserIterator<I, E, F>,
 )

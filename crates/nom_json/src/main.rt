@@ -1,5 +1,6 @@
-//! `nom_json FILE`: whether a file is one JSON text, and where it isn't. `nom_json --lines FILE`: the same of each line of
-//! it. `-` in place of a file is standard input.
+//! `nom_json FILE`: whether a file is one JSON text, and the place of its fault if it isn't.
+//!
+//! `nom_json --lines FILE`: the same for each line of the file. `-` in place of a file is standard input.
 #![tactic(auto)]
 
 use nom_json_run::lines::tell_lines;
@@ -26,7 +27,7 @@ const SETTINGS: Settings = Settings {
     complete: true,
 };
 
-/// What is asked for.
+/// The task that the command line requests.
 #[derive(Drop)]
 enum Task {
     Text(String),

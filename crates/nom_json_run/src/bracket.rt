@@ -1,30 +1,30 @@
-//! Brackets, what is awaited between them, and what is missing.
+//! Brackets, the parts that are awaited between them, and missing parts.
 
-/// What is open.
+/// The kind of an open bracket.
 #[derive(Clone, Copy, Debug, PartialEq, Eq)]
 pub enum Bracket {
     Array,
     Object,
 }
 
-/// What is awaited at a place.
+/// The part that is awaited at a place.
 #[derive(Clone, Copy, Debug, PartialEq, Eq)]
 pub enum Awaits {
     Value,
-    /// What follows a value: a comma or the closing bracket, or the end where none is open.
+    /// The part after a value: a comma or the closing bracket, or the end if no bracket is open.
     After,
 }
 
-/// What is missing at a place.
+/// The part that is missing at a place.
 #[derive(Clone, Copy, Debug, PartialEq, Eq)]
 pub enum Missing {
     Value,
-    /// The rest of a word.
+    /// A word.
     Word(&'static str),
     Digit,
     /// A character of a string, or the quote that closes it.
     Character,
-    /// What follows a backslash.
+    /// The part after a backslash.
     Escape,
     /// A digit in base 16.
     Hex,
@@ -44,12 +44,12 @@ pub struct Fault {
     pub missing: Missing,
 }
 
-/// What comes of a step.
+/// The result of a step.
 #[derive(Clone, Copy, Debug, PartialEq, Eq)]
 pub enum Step {
-    /// It goes on at a place.
+    /// The check continues at a place.
     Go(usize, Awaits),
     Stop(Fault),
-    /// The text has come to its end.
+    /// The text has reached its end.
     Done,
 }

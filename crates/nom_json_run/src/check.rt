@@ -1,4 +1,6 @@
-//! Whether bytes are a JSON text. The brackets that lie open are kept in a list, so that none lies too deep.
+//! The check whether bytes are a JSON text.
+//!
+//! The open brackets are kept in a list. No nesting is too deep.
 ghost use Rattle.std.specs.Prelude.{◌≡◌, ◌≤◌, ◌∷◌, [], ◌⊎◌, IfOk, IfErr, MatchOption, false, true, length, drop, reverse};
 ghost use Rattle.nom_json_run.specs.Json.{JsonItem, JsonString, JsonValue, begins, closing, opening};
 ghost use Rattle.nom_json_run.specs.Scans.{EndsAtStop, EndsNowhere};
@@ -284,8 +286,10 @@ fn step<A: Allocator>(
     }
 }
 
-/// Whether bytes are a JSON value with white space around it, and no more: the first place where something is missing, if
-/// they aren't. What lies in brackets may lie as deep as memory holds the brackets.
+/// Returns `None` if bytes are a JSON value with white space around it, and no more.
+///
+/// Otherwise it returns the first place where something is missing. Brackets may nest as deep as memory holds
+/// them.
 pub fn verdict<A: Allocator>(alloc: A, bytes: &[u8]) -> Result<Option<Fault>, OutOfMemory>
     ensures { IfOk result (λ fault. IsVerdict bytes.now fault) }
 {

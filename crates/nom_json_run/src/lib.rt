@@ -1,4 +1,6 @@
-//! The engine of the program `nom_json`: whether bytes are a JSON text, and what stands in the way.
+//! The engine of the program `nom_json`.
+//!
+//! It checks whether bytes are a JSON text, and reports the fault if they aren't.
 #![tactic(auto)]
 
 pub mod bracket;

@@ -26,7 +26,7 @@ use std::fmt::Write;
 use std::io::Read;
 use std::str;
 
-/// Lines, each by its length without its end.
+/// Lines, each as its length without its end.
 #[derive(Clone, Copy)]
 pub struct Lines;
 
@@ -241,11 +241,15 @@ fn status_of(wrong: bool) -> u8
     if wrong { 1 } else { 0 }
 }
 
-/// Writes a line for each line of a stream that is no JSON text in UTF-8, with its number; answers the status: 1 where there
-/// is one, and else 0. A line longer than the stream may hold is told and ends it, with status 3.
+/// Writes a line for each line of a stream that is no JSON text in UTF-8, with its number, and returns the
+/// status.
 ///
-/// The data may end with the end of a line or without it. An empty line is no JSON text. `Write` where a write failed, which
-/// isn't tried again; `Read` where a read failed, and after 2^64 - 1 lines.
+/// The status is 1 if there is such a line, and 0 otherwise. A line longer than the stream may hold is
+/// reported and ends the run, with status 3.
+///
+/// The data may end with the end of a line or without it. An empty line is no JSON text. The answer is
+/// `Write` if a write failed, which isn't tried again. It is `Read` if a read failed, and after 2^64 - 1
+/// lines.
 pub fn tell_lines<R: Read, A: Allocator + Copy, W: Sink>(
     alloc: A,
     stream: &mut Stream<R, A>,

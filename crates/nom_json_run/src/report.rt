@@ -150,8 +150,10 @@ fn tell_bytes<A: Allocator + Copy>(
     }
 }
 
-/// The text and the status for bytes: none and 0 where they are a JSON text in UTF-8, and else a report on the first fault,
-/// and 1.
+/// Returns the text and the status for bytes.
+///
+/// If the bytes are a JSON text in UTF-8, the text is empty and the status is 0. Otherwise the text is a
+/// report on the first fault, and the status is 1.
 pub fn text_of<A: Allocator + Copy>(
     alloc: A,
     name: &str,
@@ -169,7 +171,7 @@ pub fn text_of<A: Allocator + Copy>(
     }
 }
 
-/// The report on a file of a name. It is the same in whichever parts the bytes come.
+/// The report on a file with a name. It is the same in whichever parts the bytes come.
 #[derive(Drop)]
 pub struct Checked<'a> {
     pub name: &'a str,

@@ -1,4 +1,5 @@
-//! What has no value in it: white space, words, numbers and strings. Each function tells where it ends.
+//! Texts without a value in them: white space, words, numbers and strings. Each function returns the place
+//! where it ends.
 ghost use Rattle.std.specs.Prelude.{◌≡◌, ◌+◌, ◌<◌, ◌≤◌, None, IfOk, IfErr, MatchBool, false, true, length, drop};
 ghost use Rattle.nom_json_run.specs.Json.{JsonCharacters, after_digits, after_digits1, after_escape, after_exponent, after_fraction};
 ghost use Rattle.nom_json_run.specs.Json.{after_hex, after_integer, after_minus, after_number, after_sign, after_spaces, after_word, begins, first_is};
@@ -7,7 +8,7 @@ ghost use Rattle.nom_json_run.specs.Scans.{EndsAtStop, EndsNowhere, LeadsTo, Sam
 
 use crate::bracket::{Fault, Missing};
 
-/// Whether a byte stands at a place.
+/// Returns whether a byte is at a place.
 #[inline(always)]
 pub fn byte_is(bytes: &[u8], at: usize, byte: u8) -> bool
     ensures { result ≡ begins byte (drop at bytes.now) }
@@ -152,7 +153,7 @@ fn hex(byte: u8) -> bool
     digit(byte) || (byte >= b'A' && byte <= b'F') || (byte >= b'a' && byte <= b'f')
 }
 
-/// White space.
+/// Skips white space.
 #[inline(always)]
 pub fn spaces(bytes: &[u8], start: usize) -> usize
     requires { start ≤ length bytes.now }
@@ -167,7 +168,7 @@ pub fn spaces(bytes: &[u8], start: usize) -> usize
     at
 }
 
-/// Digits, as many as there are.
+/// Skips digits, as many as there are.
 #[inline(always)]
 fn digits(bytes: &[u8], start: usize) -> usize
     requires { start ≤ length bytes.now }
@@ -182,7 +183,7 @@ fn digits(bytes: &[u8], start: usize) -> usize
     at
 }
 
-/// Digits, one at least.
+/// Skips digits, at least one.
 #[inline(always)]
 fn digits1(bytes: &[u8], start: usize) -> Result<usize, Fault>
     requires { start ≤ length bytes.now }
@@ -269,7 +270,7 @@ fn after_a_minus(bytes: &[u8], start: usize) -> usize
     }
 }
 
-/// A number.
+/// Skips a number.
 #[inline(always)]
 pub fn number(bytes: &[u8], start: usize) -> Result<usize, Fault>
     requires { start ≤ length bytes.now }
@@ -289,7 +290,7 @@ pub fn number(bytes: &[u8], start: usize) -> Result<usize, Fault>
     exponent(bytes, part)
 }
 
-/// A word.
+/// Skips a word.
 #[inline(always)]
 pub fn word(bytes: &[u8], start: usize, wanted: &'static str) -> Result<usize, Fault>
     requires { start ≤ length bytes.now }
@@ -311,7 +312,7 @@ pub fn word(bytes: &[u8], start: usize, wanted: &'static str) -> Result<usize, F
     Ok(start + at)
 }
 
-/// Four digits in base 16.
+/// Skips four digits in base 16.
 fn hexes(bytes: &[u8], start: usize) -> Result<usize, Fault>
     requires { start ≤ length bytes.now }
     ensures ok { IfOk result (λ n. LeadsTo bytes.now (after_hex 4 (drop start bytes.now)) start n) }
@@ -328,7 +329,7 @@ fn hexes(bytes: &[u8], start: usize) -> Result<usize, Fault>
     Ok(start + 4)
 }
 
-/// What follows a backslash.
+/// Skips the part after a backslash.
 fn escape(bytes: &[u8], start: usize) -> Result<usize, Fault>
     requires { start ≤ length bytes.now }
     ensures ok { IfOk result (λ n. LeadsTo bytes.now (after_escape (drop start bytes.now)) start n) }
@@ -346,7 +347,7 @@ fn escape(bytes: &[u8], start: usize) -> Result<usize, Fault>
     }
 }
 
-/// Characters that stand for themselves, as many as there are.
+/// Skips characters that represent themselves, as many as there are.
 #[inline(always)]
 fn plain_run(bytes: &[u8], start: usize) -> usize
     requires { start ≤ length bytes.now }
@@ -362,7 +363,7 @@ fn plain_run(bytes: &[u8], start: usize) -> usize
     at
 }
 
-/// The characters of a string, after the quote that opens it, and the quote that closes it.
+/// Skips the characters of a string, after the quote that opens it, and the quote that closes it.
 pub fn string(bytes: &[u8], start: usize) -> Result<usize, Fault>
     requires { start ≤ length bytes.now }
     ensures ok { IfOk result (λ n. EndsAtStop bytes.now (JsonCharacters (drop start bytes.now)) start n) }

@@ -1,4 +1,4 @@
-//! Where lists and texts may run out of memory, as promises.
+//! Promises about when lists and texts may run out of memory.
 #![tactic(auto)]
 
 pub mod promises;

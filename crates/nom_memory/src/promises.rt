@@ -1,8 +1,9 @@
-//! Where lists and texts may run out of memory. These functions do nothing: their contracts are the promises.
+//! Promises about when lists and texts may run out of memory. These functions do nothing: their contracts are
+//! the promises.
 //!
-//! All say the same: where the parts are frugal and the error type takes no memory, memory runs out only where
-//! outputs are built, and a first item was accepted. So a call that gives up although there was nothing to keep is
-//! wrong: where room that is asked for ahead isn't there, items are read all the same.
+//! All say the same, provided that the parts are frugal and the error type takes no memory. Memory runs out
+//! only if outputs are built and a first item was accepted. A call that fails with nothing to keep is
+//! therefore wrong. If room that is requested in advance isn't there, items are still read.
 ghost use Rattle.std.specs.Prelude.{◌≡◌};
 ghost use Rattle.nom_memory.specs.Growths.{GrowsByCounted, GrowsByItems, GrowsByPieces, GrowsBySeparated, GrowsUntil};
 
@@ -19,7 +20,7 @@ use nom_traits::convert::ToUsize;
 use nom_traits::input::{Input, Items, Value};
 use std::alloc::Allocator;
 
-/// `many0` runs out of memory only for an item: its first is accepted.
+/// `many0` runs out of memory only for an item: its first item is accepted.
 pub fn many0_grows_by_items<I: Input, A: Allocator + Copy, F: Parser<I> + Drop>(
     _parser: &Many0<A, F>,
 )
@@ -28,7 +29,7 @@ pub fn many0_grows_by_items<I: Input, A: Allocator + Copy, F: Parser<I> + Drop>(
         (⟦<Many0<A, F> as Parser<I>>⟧.grammar (F.state _parser.now.parser)).meaning }
 {}
 
-/// `many1` runs out of memory only for an item: its first is accepted.
+/// `many1` runs out of memory only for an item: its first item is accepted.
 pub fn many1_grows_by_items<I: Input, A: Allocator + Copy, F: Parser<I> + Drop>(
     _parser: &Many1<A, F>,
 )
@@ -37,7 +38,7 @@ pub fn many1_grows_by_items<I: Input, A: Allocator + Copy, F: Parser<I> + Drop>(
         (⟦<Many1<A, F> as Parser<I>>⟧.grammar (F.state _parser.now.parser)).meaning }
 {}
 
-/// `count` runs out of memory only for an item: its first is accepted.
+/// `count` runs out of memory only for an item: its first item is accepted.
 pub fn count_grows_by_items<I: Items, A: Allocator + Copy, F: Parser<I> + Drop>(
     _parser: &Count<A, F>,
 )
@@ -46,7 +47,7 @@ pub fn count_grows_by_items<I: Items, A: Allocator + Copy, F: Parser<I> + Drop>(
         (⟦<Count<A, F> as Parser<I>>⟧.grammar (_parser.now.count, F.state _parser.now.parser)).meaning }
 {}
 
-/// `many_m_n` runs out of memory only for an item: its first is accepted.
+/// `many_m_n` runs out of memory only for an item: its first item is accepted.
 pub fn many_m_n_grows_by_items<I: Input, A: Allocator + Copy, F: Parser<I> + Drop>(
     _parser: &ManyMN<A, F>,
 )
@@ -55,7 +56,7 @@ pub fn many_m_n_grows_by_items<I: Input, A: Allocator + Copy, F: Parser<I> + Dro
         (⟦<ManyMN<A, F> as Parser<I>>⟧.grammar (_parser.now.min, _parser.now.max, F.state _parser.now.parser)).meaning }
 {}
 
-/// `many` runs out of memory only for an item: its first is accepted.
+/// `many` runs out of memory only for an item: its first item is accepted.
 pub fn many_grows_by_items<
     I: Input,
     A: Allocator + Copy,
@@ -68,7 +69,7 @@ pub fn many_grows_by_items<
         (⟦<Many<A, R, F, C> as Parser<I>>⟧.grammar (F.state _parser.now.parser, _parser.now.range)).meaning }
 {}
 
-/// `separated_list1` runs out of memory only for an item: its first is accepted.
+/// `separated_list1` runs out of memory only for an item: its first item is accepted.
 pub fn separated_list1_grows_by_items<
     I: Input,
     A: Allocator + Copy,
@@ -81,7 +82,7 @@ pub fn separated_list1_grows_by_items<
         (⟦<SeparatedList1<A, G, F> as Parser<I>>⟧.grammar (G.state _parser.now.next.first, F.state _parser.now.next.second)).meaning }
 {}
 
-/// `separated_list0` runs out of memory only for an item: its first is accepted.
+/// `separated_list0` runs out of memory only for an item: its first item is accepted.
 pub fn separated_list0_grows_by_items<
     I: Input,
     A: Allocator + Copy,
@@ -107,7 +108,8 @@ pub fn many_till_grows_by_items<
         (⟦<ManyTill<A, F, G> as Parser<I>>⟧.grammar (F.state _parser.now.parser, G.state _parser.now.end)).meaning }
 {}
 
-/// `length_count` runs out of memory only for an item: its length is accepted, and on the rest its first item.
+/// `length_count` runs out of memory only for an item: its length is accepted, and its first item on the
+/// rest.
 pub fn length_count_grows_by_items<
     I: Items,
     A: Allocator + Copy,
@@ -120,8 +122,10 @@ pub fn length_count_grows_by_items<
         (⟦<LengthCount<A, F, G> as Parser<I>>⟧.grammar (F.state _parser.now.length, G.state _parser.now.parser)).meaning }
 {}
 
-/// `escaped_transform` runs out of memory only for a piece: its normal part accepts at the start, or, where that
-/// refuses, the control character stands there, and on the rest the other part accepts.
+/// `escaped_transform` runs out of memory only for a piece.
+///
+/// Either its normal part accepts at the start, or that part refuses and the control character is there. In
+/// the second case, the other part accepts on the rest.
 pub fn escaped_transform_grows_by_pieces<
     A: Allocator + Copy,
     X: Builder + Drop,

@@ -1,5 +1,7 @@
-//! `nom_messages FILE [CUT ..]`: the report on a file of messages, given in the parts that the cuts (offsets in
-//! bytes) make of it. `nom_messages -`: the messages of standard input, a line for each.
+//! `nom_messages FILE [CUT ..]`: the report on a file of messages, given in parts divided at the cuts
+//! (offsets in bytes).
+//!
+//! `nom_messages -`: the messages of standard input, one line for each.
 #![tactic(auto)]
 
 use nom_messages_run::pipe::tell_messages;

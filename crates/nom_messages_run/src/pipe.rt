@@ -154,11 +154,11 @@ fn end<A: Allocator + Copy, W: Sink>(
     }
 }
 
-/// Writes the lines of the messages that a stream gives, one after another, and the last line, which tells why there is
-/// no further one; answers the status.
+/// Writes a line for each message of a stream, then a last line, and returns the status.
 ///
-/// `Write` where a write failed, and `OutOfMemory` where there was no room for a line: of the lines up to that one a
-/// beginning was written, and not all. A failed write isn't tried again. `Read` after 2^64 - 1 messages.
+/// The last line shows why there is no further message. The answer is `Write` if a write failed, and
+/// `OutOfMemory` if there was no room for a line. In both cases only a beginning of the lines up to that one
+/// was written. A failed write isn't tried again. The answer is `Read` after 2^64 - 1 messages.
 pub fn tell_items<R: Read, A: Allocator + Copy, G: Grammar<Item = Received>, W: Sink>(
     alloc: A,
     stream: &mut Stream<R, A>,
@@ -202,7 +202,7 @@ pub fn tell_items<R: Read, A: Allocator + Copy, G: Grammar<Item = Received>, W: 
     }
 }
 
-/// The same for messages.
+/// Writes the lines of messages as `tell_items` does.
 pub fn tell_messages<R: Read, A: Allocator + Copy, W: Sink>(
     alloc: A,
     stream: &mut Stream<R, A>,

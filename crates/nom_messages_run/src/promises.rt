@@ -1,4 +1,4 @@
-//! What the lines of messages promise. The function does nothing: its contract is the promise.
+//! The promise of the lines of messages. The function does nothing: its contract is the promise.
 ghost use Rattle.nom_messages_run.specs.Whole.{LinesOfWhole};
 
 use example_streams::messages::Received;
@@ -8,9 +8,12 @@ use nom_stream::stream::Stream;
 use std::alloc::Allocator;
 use std::io::Read;
 
-/// For every way in which a reader gives its bytes: what `tell_items` writes, where it answers a status, are the lines
-/// of the first items that `iterator` gives of the whole (`AreItems`), in order, and the last line, which tells of the
-/// outcome where these end. Where it is `end`, `error` or `need`, they are the lines of all.
+/// If `tell_items` answers a status, it wrote the lines of the first items of the whole, in order, and the
+/// last line.
+///
+/// The items are those that `iterator` returns for the whole (`AreItems`). The last line shows the outcome
+/// after them. If it is `end`, `error` or `need`, the lines are those of all items. This is true however the
+/// reader delivers its bytes.
 pub fn lines_of_whole<R: Read, A: Allocator + Copy, G: Grammar<Item = Received>>(
     stream: &Stream<R, A>,
     grammar: &G,

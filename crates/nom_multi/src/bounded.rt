@@ -1,4 +1,4 @@
-//! Exactly n items, or as many as bounds say.
+//! Exactly n items, or a number of items within bounds.
 ghost use Rattle.std.specs.Prelude.{ℕ, List};
 ghost use Rattle.nom_multi.specs.Bounded.{count_of, many_m_n_of};
 
@@ -14,7 +14,7 @@ use nom_repeat::inverted::failure;
 use nom_traits::input::{Input, Items};
 use std::alloc::Allocator;
 
-/// Exactly n items, made by `count`.
+/// The parser that `count` returns: exactly n items.
 #[derive(Drop)]
 pub struct Count<A, F> {
     pub alloc: A,
@@ -57,7 +57,7 @@ impl<I: Items, A: Allocator + Copy, F: StreamParser<I> + Drop> StreamParser<I> f
     ghost steady = { λ s k. count_steady I.lawful F.Error.errors s.0 (F.steady s.1 k) };
 }
 
-/// Items until one is refused, as many as the bounds say; made by `many_m_n`.
+/// The parser that `many_m_n` returns: items until one is refused, within the bounds.
 #[derive(Drop)]
 pub struct ManyMN<A, F> {
     pub alloc: A,

@@ -12,7 +12,7 @@ use nom_internal::parser::{Parser, StreamParser};
 use nom_traits::input::Items;
 use nom_traits::view::Viewed;
 
-/// Items in a buffer, as many as it is long; made by `fill`.
+/// The parser that `fill` returns: one item for each place of a buffer.
 #[derive(Drop)]
 pub struct Fill<'a, F, T> {
     pub parser: F,
@@ -32,7 +32,7 @@ impl<'a, I: Items, T: Drop, F: Parser<I, Output = T> + Drop> Parser<I> for Fill<
 
     ghost Tree = { List F.Tree };
 
-    /// What the buffer holds.
+    /// The content of the buffer.
     ghost Besides = { λ mode old new i rest. IsFilled I.model (F.grammar (F.state old.parser)).IsOutput (F.grammar (F.state old.parser)).meaning mode i
         old.buffer.now new.buffer.now (rest ≡ None) };
 
@@ -68,8 +68,9 @@ impl<'a, I: Items, T: Viewed + Drop, F: StreamParser<I, Output = T> + Drop> Stre
     ghost steady = { λ s k. fill_steady I.lawful F.Error.errors s.1 (F.steady s.0 k) };
 }
 
-/// Runs a parser as often as a buffer is long, and writes its outputs at the front of the buffer, one
-/// after the other, where outputs are built. What was written stays, whatever is answered.
+/// Runs a parser once for each place of `buffer`, and writes its outputs from the front of the buffer.
+///
+/// Outputs are written only if they are built. Written outputs stay, whatever the answer.
 #[inline(always)]
 pub fn fill_buffer<OM: OutputMode, I: Items, T: Drop, F: Parser<I, Output = T>>(
     parser: &mut F,
@@ -103,7 +104,7 @@ pub fn fill_buffer<OM: OutputMode, I: Items, T: Drop, F: Parser<I, Output = T>>(
     Ok((rest, done::<OM::Output>()))
 }
 
-/// Writes an item, where it is built.
+/// Writes an item, if it is built.
 #[inline(always)]
 fn put<T: Drop>(buffer: &mut [T], place: usize, item: Option<T>)
     requires { place < length buffer.old }
@@ -115,7 +116,7 @@ fn put<T: Drop>(buffer: &mut [T], place: usize, item: Option<T>)
     }
 }
 
-/// That all is done, where outputs are built.
+/// Returns `Some(())` if outputs are built.
 #[inline(always)]
 fn done<M: Mode>() -> Option<()>
     ensures { Built M.BUILDS (λ _. Unit {0}) result }

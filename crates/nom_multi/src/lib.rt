@@ -20,12 +20,14 @@ pub use crate::separated_lists::{SeparatedList0, SeparatedList1};
 pub use crate::till::ManyTill;
 use std::alloc::Allocator;
 
-/// Items until one is refused: a list of their outputs, which takes its memory from `alloc`.
+/// Repeats `parser` until it refuses, and returns the outputs in a `Vec` allocated in `alloc`.
 ///
-/// A refusal ends the list with success, before the item. An item that is accepted without consuming
-/// anything is refused with `Many0`, so that no input makes a list without an end. All else that the
-/// item answers is passed on. No memory is taken ahead: the list grows by the items that are accepted,
-/// and where it can't, the answer is `OutOfMemory`.
+/// `many0(alloc, tag("ab"))` on `"ababc"` returns `["ab", "ab"]` and leaves `"c"`.
+///
+/// A refusal ends the list successfully, before the refused item. If an item is accepted without consuming
+/// input, the list refuses with `Many0`; no input can make it loop forever. Any other answer of the item is
+/// passed on. The list takes no memory in advance. It grows with each accepted item, and answers
+/// `OutOfMemory` if it can't.
 #[inline(always)]
 pub fn many0<A: Allocator + Copy, F>(alloc: A, parser: F) -> Many0<A, F>
     ensures alloc { result.alloc ≡ alloc }
@@ -34,11 +36,10 @@ pub fn many0<A: Allocator + Copy, F>(alloc: A, parser: F) -> Many0<A, F>
     Many0 { alloc, parser }
 }
 
-/// Items until one is refused, and one at least: a list of their outputs, which takes its memory from
-/// `alloc`.
+/// Repeats `parser` until it refuses, at least once, and returns the outputs in a `Vec` allocated in `alloc`.
 ///
-/// Where the first item is refused, so is all, with the item's error, to which `Many1` is added at the
-/// start. From the second item on it is as with `many0`: one that consumes nothing is refused with
+/// If the first item is refused, the list refuses with the item's error, to which `Many1` is added at the
+/// start. From the second item on it works like `many0`: an item that consumes nothing is refused with
 /// `Many0`.
 #[inline(always)]
 pub fn many1<A: Allocator + Copy, F>(alloc: A, parser: F) -> Many1<A, F>
@@ -48,11 +49,13 @@ pub fn many1<A: Allocator + Copy, F>(alloc: A, parser: F) -> Many1<A, F>
     Many1 { alloc, parser }
 }
 
-/// Just that many items: a list of their outputs, which takes its memory from `alloc`.
+/// Runs `parser` exactly `count` times, and returns the outputs in a `Vec` allocated in `alloc`.
 ///
-/// An item that is refused refuses all, with the item's error, to which `Count` is added at the start.
-/// Items may consume nothing. The list gets room for its items ahead, for 1,024 at most; without the
-/// memory for it, and beyond it, it grows by the items that are accepted.
+/// `count(alloc, tag("ab"), 2)` on `"abababc"` returns `["ab", "ab"]` and leaves `"abc"`.
+///
+/// If an item is refused, the list refuses with the item's error, to which `Count` is added at the start.
+/// Items may consume nothing. The list reserves room for its items in advance, for 1,024 at most. Without the
+/// memory for it, and beyond that room, it grows with each accepted item.
 #[inline(always)]
 pub fn count<A: Allocator + Copy, F>(alloc: A, parser: F, count: usize) -> Count<A, F>
     ensures alloc { result.alloc ≡ alloc }
@@ -66,12 +69,14 @@ pub fn count<A: Allocator + Copy, F>(alloc: A, parser: F, count: usize) -> Count
     }
 }
 
-/// Items until one is refused, `min` at least and `max` at most: a list of their outputs, which takes
-/// its memory from `alloc`.
+/// Repeats `parser` until it refuses, `min` to `max` times, and returns the outputs in a `Vec` allocated in
+/// `alloc`.
 ///
-/// A refusal before `min` items refuses all, with the item's error, to which `ManyMN` is added at the
-/// item. An item that consumes nothing is refused with `ManyMN`. After `max` items none is tried. Where
-/// `min` is above `max`, the answer is a `Failure` with `ManyMN`.
+/// `many_m_n(alloc, 1, 2, tag("ab"))` on `"abababc"` returns `["ab", "ab"]` and leaves `"abc"`.
+///
+/// If an item is refused before `min` items, the list refuses with the item's error, to which `ManyMN` is
+/// added at the item. An item that consumes nothing is refused with `ManyMN`. After `max` items none is
+/// tried. If `min` is above `max`, the answer is a `Failure` with `ManyMN`.
 #[inline(always)]
 pub fn many_m_n<A: Allocator + Copy, F>(alloc: A, min: usize, max: usize, parser: F) -> ManyMN<A, F>
     ensures alloc { result.alloc ≡ alloc }
@@ -87,12 +92,14 @@ pub fn many_m_n<A: Allocator + Copy, F>(alloc: A, min: usize, max: usize, parser
     }
 }
 
-/// Items until an end is accepted: a list of their outputs, which takes its memory from `alloc`, and
-/// the end's output.
+/// Repeats `parser` until `end` accepts, and returns the outputs in a `Vec` allocated in `alloc`, and the
+/// output of `end`.
 ///
-/// At each place the end is tried first, and an item only where it is refused. A refusal of an item
-/// refuses all, with the item's error, to which `ManyTill` is added at the item. An item that consumes
-/// nothing is refused with `Many0`.
+/// `many_till(alloc, tag("ab"), tag("."))` on `"abab.c"` returns `(["ab", "ab"], ".")` and leaves `"c"`.
+///
+/// At each place `end` is tried first, and an item only if `end` refuses. If an item is refused, the list
+/// refuses with the item's error, to which `ManyTill` is added at the item. An item that consumes nothing is
+/// refused with `Many0`.
 #[inline(always)]
 pub fn many_till<A: Allocator + Copy, F, G>(alloc: A, parser: F, end: G) -> ManyTill<A, F, G>
     ensures alloc { result.alloc ≡ alloc }
@@ -102,13 +109,14 @@ pub fn many_till<A: Allocator + Copy, F, G>(alloc: A, parser: F, end: G) -> Many
     ManyTill { alloc, parser, end }
 }
 
-/// Items in a buffer, as many as it is long: nothing is told of them beside the buffer, and no memory is
-/// taken.
+/// Runs `parser` once for each place of `buffer`, and writes the outputs into it.
 ///
-/// A refusal of an item refuses all, with its error, to which `Count` is added at the start. Items may be
-/// empty. All else that an item answers is passed on. Where outputs are built, those of the items that were
-/// accepted stand at the front of the buffer afterwards, whatever is answered; what stood after them stays,
-/// and so does the whole buffer where none are built.
+/// The outputs go only to the buffer, and no memory is taken. If an item is refused, the whole is refused
+/// with the item's error, to which `Count` is added at the start. Items may be empty. Any other answer of an
+/// item is passed on.
+///
+/// If outputs are built, the outputs of the accepted items are at the front of the buffer afterwards,
+/// whatever the answer. The buffer is unchanged after them. It is entirely unchanged if no outputs are built.
 #[inline(always)]
 pub fn fill<'a, F, T>(parser: F, buffer: &'a mut [T]) -> Fill<'a, F, T>
     ensures parser { result.parser ≡ parser }

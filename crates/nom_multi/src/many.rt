@@ -13,7 +13,7 @@ use nom_repeat::items::TooFew;
 use nom_traits::input::{Input, Items};
 use std::alloc::Allocator;
 
-/// Items until one is refused, made by `many0`.
+/// The parser that `many0` returns.
 #[derive(Drop)]
 pub struct Many0<A, F> {
     pub alloc: A,
@@ -55,7 +55,7 @@ impl<I: Input, A: Allocator + Copy, F: StreamParser<I> + Drop> StreamParser<I> f
     ghost steady = { λ s k. many0_steady I.lawful F.Error.errors (F.steady s k) };
 }
 
-/// Items until one is refused, and one at least; made by `many1`.
+/// The parser that `many1` returns.
 #[derive(Drop)]
 pub struct Many1<A, F> {
     pub alloc: A,

@@ -5,12 +5,14 @@ use crate::separated_lists::{SeparatedList0, SeparatedList1};
 use nom_sequence::preceded;
 use std::alloc::Allocator;
 
-/// Items with a separator between them, and one at least: a list of the items' outputs, which takes its
-/// memory from `alloc`. Of the separators nothing is built.
+/// Parses one or more items with separators between them, and returns the outputs in a `Vec` allocated in
+/// `alloc`.
 ///
-/// A refusal of the first item is passed on. Later on a refusal of a separator, or of the item after
-/// it, ends the list with success, before that separator. Where a separator and its item together
-/// consume nothing, they are refused with `SeparatedList`, at the separator.
+/// `separated_list1(alloc, tag(","), tag("a"))` on `"a,a;"` returns `["a", "a"]` and leaves `";"`.
+///
+/// The outputs of the separators aren't built. A refusal of the first item is passed on. A later refusal of a
+/// separator, or of the item after it, ends the list successfully, before that separator. If a separator and
+/// its item together consume nothing, they are refused with `SeparatedList`, at the separator.
 #[inline(always)]
 pub fn separated_list1<A: Allocator + Copy, G, F>(
     alloc: A,
@@ -27,11 +29,10 @@ pub fn separated_list1<A: Allocator + Copy, G, F>(
     }
 }
 
-/// Items with a separator between them, or none: a list of the items' outputs, which takes its memory
-/// from `alloc`. Of the separators nothing is built.
+/// Parses items with separators between them, and returns the outputs in a `Vec` allocated in `alloc`.
 ///
-/// Where the first item is refused, the list is empty, and nothing is consumed. All else is as with
-/// `separated_list1`.
+/// The outputs of the separators aren't built. If the first item is refused, the list is empty, and nothing
+/// is consumed. Everything else is as with `separated_list1`.
 #[inline(always)]
 pub fn separated_list0<A: Allocator + Copy, G, F>(
     alloc: A,

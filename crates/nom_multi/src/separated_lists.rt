@@ -15,11 +15,11 @@ use nom_sequence::Preceded;
 use nom_traits::input::{Input, Items};
 use std::alloc::Allocator;
 
-/// Items with a separator between them, and one at least; made by `separated_list1`.
+/// The parser that `separated_list1` returns.
 #[derive(Drop)]
 pub struct SeparatedList1<A, G, F> {
     pub alloc: A,
-    /// A separator and an item after it.
+    /// A separator and the item after it.
     pub next: Preceded<G, F>,
 }
 
@@ -80,11 +80,11 @@ impl<
     ghost steady = { λ s k. separated1_steady I.lawful F.Error.errors (G.steady s.0 k.1.0) (F.steady s.1 k.0) };
 }
 
-/// Items with a separator between them, made by `separated_list0`.
+/// The parser that `separated_list0` returns.
 #[derive(Drop)]
 pub struct SeparatedList0<A, G, F> {
     pub alloc: A,
-    /// A separator and an item after it.
+    /// A separator and the item after it.
     pub next: Preceded<G, F>,
 }
 
@@ -151,7 +151,7 @@ impl<
     ghost steady = { λ s k. separated0_steady I.lawful F.Error.errors (G.steady s.0 k.1.0) (F.steady s.1 k.0) };
 }
 
-/// The first item, if it isn't refused: whether there is one, and what is kept.
+/// Parses the first item if it isn't refused. Returns whether there is one, and the accumulated outputs.
 #[inline(always)]
 fn first_item<OM: OutputMode, I: Input, F: Parser<I>, K: Accumulator<F::Output> + Drop>(
     parser: &mut F,

@@ -1,5 +1,5 @@
-//! What lists with a separator promise beside what every parser does. These functions do nothing: their
-//! contracts are the promises.
+//! The promises of lists with a separator, in addition to those of every parser. These functions do nothing:
+//! their contracts are the promises.
 ghost use Rattle.nom_repeat.specs.Accepted.{AcceptsOneAndMore};
 ghost use Rattle.nom_sequence.specs.Sequences.{preceded_meaning};
 ghost use Rattle.nom_multi.specs.SeparatedPromises.{AcceptsNoneOrMore};
@@ -9,8 +9,11 @@ use nom_internal::parser::Parser;
 use nom_traits::input::Input;
 use std::alloc::Allocator;
 
-/// `separated_list1` accepts a first item, and after it just the pairs of a separator and an item that they
-/// accept, one after the other, none of them empty, up to where the separator or the item after it refuses.
+/// `separated_list1` accepts a first item, and after it exactly the accepted pairs of a separator and an
+/// item.
+///
+/// The pairs follow one another, and none of them is empty. They end where a separator or the item after it
+/// refuses.
 pub fn separated_list1_accepts<
     I: Input,
     A: Allocator + Copy,
@@ -22,8 +25,8 @@ pub fn separated_list1_accepts<
         (⟦<SeparatedList1<A, G, F> as Parser<I>>⟧.grammar (G.state _parser.now.next.first, F.state _parser.now.next.second)).meaning }
 {}
 
-/// `separated_list0` accepts nothing, with no items, where the first item is refused; and else just what
-/// `separated_list1` accepts.
+/// `separated_list0` accepts without items, and consumes nothing, if the first item is refused. Otherwise it
+/// accepts exactly what `separated_list1` accepts.
 pub fn separated_list0_accepts<
     I: Input,
     A: Allocator + Copy,

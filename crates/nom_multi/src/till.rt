@@ -15,7 +15,7 @@ use nom_repeat::accumulator::{none_yet, push_item};
 use nom_traits::input::{Input, Items};
 use std::alloc::Allocator;
 
-/// What comes next: a piece, or why there is none.
+/// The next piece: the end or an item.
 #[derive(Drop)]
 pub enum Step<T, V> {
     /// The end.
@@ -24,7 +24,7 @@ pub enum Step<T, V> {
     Item(V),
 }
 
-/// Items until an end, made by `many_till`.
+/// The parser that `many_till` returns.
 #[derive(Drop)]
 pub struct ManyTill<A, F, G> {
     pub alloc: A,
@@ -99,7 +99,7 @@ impl<
     ghost steady = { λ s k. many_till_steady I.lawful F.Error.errors (F.steady s.0 k.1) (G.steady s.1 k.0) };
 }
 
-/// The end, or else an item.
+/// Parses the end, or an item if the end refuses.
 #[inline(always)]
 fn end_or_next<OM: OutputMode, I: Input, F: Parser<I>, G: Parser<I, Error = F::Error>>(
     parser: &mut F,

@@ -1,4 +1,4 @@
-//! How many items there are.
+//! The number of items.
 ghost use Rattle.std.specs.Prelude.{◌^◌, ◌<◌, ℕ, List};
 ghost use Rattle.nom_internal.specs.Prelude.{input_len};
 ghost use Rattle.nom_multi_fold.specs.Counts.{many0_count_of, many1_count_of, many_m_n_count_of};
@@ -16,7 +16,7 @@ use nom_repeat::inverted::failure;
 use nom_repeat::items::TooFew;
 use nom_traits::input::{Input, Items};
 
-/// The number of items until one is refused, made by `many0_count`.
+/// The parser that `many0_count` returns.
 #[derive(Drop)]
 pub struct Many0Count<F> {
     pub item: Dropped<F>,
@@ -57,7 +57,7 @@ impl<I: Input, F: StreamParser<I> + Drop> StreamParser<I> for Many0Count<F> {
     ghost steady = { λ s k. many0_count_steady I.lawful F.Error.errors (F.steady s k) };
 }
 
-/// The number of items until one is refused, one at least; made by `many1_count`.
+/// The parser that `many1_count` returns.
 #[derive(Drop)]
 pub struct Many1Count<F> {
     pub item: Dropped<F>,
@@ -105,7 +105,7 @@ impl<I: Input, F: StreamParser<I> + Drop> StreamParser<I> for Many1Count<F> {
     ghost steady = { λ s k. many1_count_steady I.lawful F.Error.errors (F.steady s k.0) };
 }
 
-/// The number of items until one is refused, as many as the bounds say; made by `many_m_n_count`.
+/// The parser that `many_m_n_count` returns.
 #[derive(Drop)]
 pub struct ManyMNCount<F> {
     pub min: usize,
@@ -158,7 +158,7 @@ impl<I: Input, F: StreamParser<I> + Drop> StreamParser<I> for ManyMNCount<F> {
     ghost steady = { λ s k. many_m_n_count_steady I.lawful F.Error.errors s.0 s.1 (F.steady s.2 k) };
 }
 
-/// An input is known, and its length is a `usize`.
+/// Proves that an input is known, and that its length is a `usize`.
 #[inline(always)]
 fn fits<I: Input>(input: I)
     ensures known { I.model.IsKnown input }

@@ -6,8 +6,9 @@ use nom_error::answer::OutOfMemory;
 use nom_error::mode::Mode;
 use nom_repeat::accumulator::Accumulator;
 
-/// The value that a fold carries, and the closure that takes an item to the next value. Between two items
-/// there is a value.
+/// The value that a fold carries, and the closure that makes the next value from an item.
+///
+/// Between two items there is a value.
 #[derive(Drop)]
 pub struct Folded<'a, R, G> {
     pub value: Option<R>,
@@ -37,7 +38,7 @@ impl<'a, T: Drop, R: Drop, G: Fn(R, T) -> R> Accumulator<T> for Folded<'a, R, G>
     }
 }
 
-/// The first value, where outputs are built.
+/// Returns the first value, if outputs are built.
 #[inline(always)]
 pub fn start<'a, M: Mode, T, R, H: Fn() -> R, G: Fn(R, T) -> R>(
     init: &H,
@@ -58,7 +59,7 @@ pub fn start<'a, M: Mode, T, R, H: Fn() -> R, G: Fn(R, T) -> R>(
     }
 }
 
-/// The value that a fold carries, where outputs are built.
+/// Returns the value that a fold carries, if outputs are built.
 #[inline(always)]
 pub fn carried<'a, R: Drop, G>(kept: Option<Folded<'a, R, G>>) -> Option<R>
     ensures { IsCarried (λ k. k.value) kept.entry result }

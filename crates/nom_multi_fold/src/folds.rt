@@ -15,8 +15,7 @@ use nom_repeat::items::TooFew;
 use nom_traits::input::{Input, Items};
 use nom_traits::view::Viewed;
 
-/// The fold of items until one is refused, made by `fold_many0`. The closures are called only where outputs
-/// are built.
+/// The parser that `fold_many0` returns. The closures are called only if outputs are built.
 #[derive(Drop)]
 pub struct FoldMany0<F, H, G> {
     pub parser: F,
@@ -71,8 +70,7 @@ impl<
     ghost steady = { λ s k. fold_many0_steady I.lawful F.Error.errors (F.steady s.0 k) };
 }
 
-/// The fold of items until one is refused, one at least; made by `fold_many1`. The closures are called only
-/// where outputs are built.
+/// The parser that `fold_many1` returns. The closures are called only if outputs are built.
 #[derive(Drop)]
 pub struct FoldMany1<F, H, G> {
     pub parser: F,
@@ -134,8 +132,7 @@ impl<
     ghost steady = { λ s k. fold_many1_steady I.lawful F.Error.errors (F.steady s.0 k.0) };
 }
 
-/// The fold of items until one is refused, as many as the bounds say; made by `fold_many_m_n`. The closures
-/// are called only where outputs are built.
+/// The parser that `fold_many_m_n` returns. The closures are called only if outputs are built.
 #[derive(Drop)]
 pub struct FoldManyMN<F, H, G> {
     pub min: usize,

@@ -1,4 +1,4 @@
-//! A collection that items are appended to.
+//! A collection to which items are appended.
 ghost use Rattle.std.specs.Prelude.{◌≡◌, []};
 ghost use Rattle.nom_internal.specs.Prelude.{Built};
 ghost use Rattle.nom_multi_fold.specs.Ranges.{Gathers, IsGathered};
@@ -34,7 +34,7 @@ impl<T, A: Allocator, C: Collection<T, A>> Accumulator<T> for Gathered<C, A> {
     }
 }
 
-/// A collection of no items, where outputs are built; it takes no memory.
+/// Returns an empty collection, if outputs are built. It takes no memory.
 #[inline(always)]
 pub fn gather<M: Mode, T, A: Allocator, C: Collection<T, A>>(alloc: A) -> Option<Gathered<C, A>>
     ensures empty { Built M.BUILDS (λ k. C.items k.collection ≡ []) result }
@@ -50,7 +50,7 @@ pub fn gather<M: Mode, T, A: Allocator, C: Collection<T, A>>(alloc: A) -> Option
     }
 }
 
-/// The collection, where outputs are built.
+/// Returns the collection, if outputs are built.
 #[inline(always)]
 pub fn collected<C: Drop, A>(kept: Option<Gathered<C, A>>) -> Option<C>
     ensures { IsGathered (λ k. k.collection) kept result }

@@ -1,4 +1,4 @@
-//! Items counted and folded, and collected by a range of counts.
+//! Items that are counted or folded, or collected within a range of counts.
 #![tactic(auto)]
 
 ghost use Rattle.std.specs.Prelude.{◌≡◌};
@@ -17,10 +17,12 @@ pub use crate::folds::{FoldMany0, FoldMany1, FoldManyMN};
 pub use crate::ranged::{Fold, Many};
 use std::alloc::Allocator;
 
-/// The number of items until one is refused.
+/// Repeats `parser` until it refuses, and returns the number of items.
 ///
-/// A refusal ends them with success, before the item. An item that is accepted without consuming anything
-/// is refused with `Many0Count`. All else that the item answers is passed on. No output of an item is
+/// `many0_count(tag("ab"))` on `"ababc"` returns `2` and leaves `"c"`.
+///
+/// A refusal ends the count successfully, before the refused item. An item that is accepted without consuming
+/// input is refused with `Many0Count`. Any other answer of the item is passed on. No output of an item is
 /// built.
 #[inline(always)]
 pub fn many0_count<F>(parser: F) -> Many0Count<F>
@@ -31,11 +33,11 @@ pub fn many0_count<F>(parser: F) -> Many0Count<F>
     }
 }
 
-/// The number of items until one is refused, one at least.
+/// Repeats `parser` until it refuses, at least once, and returns the number of items.
 ///
-/// A refusal of the first item is one with `Many1Count` at the start; a later one ends the items with
-/// success. From the second item on, one that is accepted without consuming anything is refused with
-/// `Many1Count`. All else that an item answers is passed on. No output of an item is built.
+/// If the first item is refused, the count refuses with `Many1Count` at the start. A later refusal ends the
+/// count successfully. From the second item on, one that is accepted without consuming input is refused with
+/// `Many1Count`. Any other answer of an item is passed on. No output of an item is built.
 #[inline(always)]
 pub fn many1_count<F>(parser: F) -> Many1Count<F>
     ensures { result.item.parser ≡ parser }
@@ -45,13 +47,13 @@ pub fn many1_count<F>(parser: F) -> Many1Count<F>
     }
 }
 
-/// The number of items until one is refused, `min` at least and `max` at most: as `many_m_n`, but no list is
-/// made, so no memory is asked for.
+/// Repeats `parser` until it refuses, `min` to `max` times, and returns the number of items.
 ///
-/// A refusal before `min` items refuses all, with the item's error, to which `ManyMN` is added at the item. An
-/// item that consumes nothing is refused with `ManyMN`. After `max` items none is tried. Where `min` is above
-/// `max`, the answer is a `Failure` with `ManyMN`. All else that an item answers is passed on. No output of an
-/// item is built.
+/// It works like `many_m_n` but makes no list, so it needs no memory. If an item is refused before `min`
+/// items, the count refuses with the item's error, to which `ManyMN` is added at the item. An item that
+/// consumes nothing is refused with `ManyMN`. After `max` items none is tried. If `min` is above `max`, the
+/// answer is a `Failure` with `ManyMN`. Any other answer of an item is passed on. No output of an item is
+/// built.
 #[inline(always)]
 pub fn many_m_n_count<F>(min: usize, max: usize, parser: F) -> ManyMNCount<F>
     ensures min { result.min ≡ min }
@@ -65,11 +67,14 @@ pub fn many_m_n_count<F>(min: usize, max: usize, parser: F) -> ManyMNCount<F>
     }
 }
 
-/// The fold of items until one is refused: `fold` takes the value of `init` and the output of the first item
-/// to the next value, and so on.
+/// Repeats `parser` until it refuses, and folds the outputs.
 ///
-/// A refusal ends the fold with success, before the item. An item that is accepted without consuming anything
-/// is refused with `Many0`. All else that the item answers is passed on. The closures are called only where
+/// The fold starts with the value of `init`. For each item, `fold` makes the next value from the value before
+/// it and the item's output. `fold_many0(tag("ab"), || 0, |n, _| n + 1)` on `"ababc"` returns `2` and leaves
+/// `"c"`.
+///
+/// A refusal ends the fold successfully, before the refused item. An item that is accepted without consuming
+/// input is refused with `Many0`. Any other answer of the item is passed on. The closures are called only if
 /// outputs are built.
 #[inline(always)]
 pub fn fold_many0<F, H, G>(parser: F, init: H, fold: G) -> FoldMany0<F, H, G>
@@ -80,10 +85,11 @@ pub fn fold_many0<F, H, G>(parser: F, init: H, fold: G) -> FoldMany0<F, H, G>
     FoldMany0 { parser, init, fold }
 }
 
-/// The fold of items until one is refused, one at least: as `fold_many0`.
+/// Repeats `parser` until it refuses, at least once, and folds the outputs as `fold_many0` does.
 ///
-/// A refusal of the first item is one with `Many1` at the start; a later one ends the fold with success. From
-/// the second item on, one that is accepted without consuming anything is refused with `Many1`.
+/// If the first item is refused, the fold refuses with `Many1` at the start. A later refusal ends the fold
+/// successfully. From the second item on, one that is accepted without consuming input is refused with
+/// `Many1`.
 #[inline(always)]
 pub fn fold_many1<F, H, G>(parser: F, init: H, fold: G) -> FoldMany1<F, H, G>
     ensures parser { result.parser ≡ parser }
@@ -93,11 +99,11 @@ pub fn fold_many1<F, H, G>(parser: F, init: H, fold: G) -> FoldMany1<F, H, G>
     FoldMany1 { parser, init, fold }
 }
 
-/// The fold of items until one is refused, `min` at least and `max` at most: as `fold_many0`.
+/// Repeats `parser` until it refuses, `min` to `max` times, and folds the outputs as `fold_many0` does.
 ///
-/// A refusal before `min` items refuses all, with the item's error, to which `ManyMN` is added at the item. An
-/// item that consumes nothing is refused with `ManyMN`. After `max` items none is tried. Where `min` is above
-/// `max`, the answer is an `Error` with `ManyMN`.
+/// If an item is refused before `min` items, the fold refuses with the item's error, to which `ManyMN` is
+/// added at the item. An item that consumes nothing is refused with `ManyMN`. After `max` items none is
+/// tried. If `min` is above `max`, the answer is an `Error` with `ManyMN`.
 #[inline(always)]
 pub fn fold_many_m_n<F, H, G>(
     min: usize,
@@ -121,14 +127,15 @@ pub fn fold_many_m_n<F, H, G>(
     }
 }
 
-/// As many items as `range` says, in a collection, which takes its memory from `alloc`. The range is one of
-/// counts, or one count.
+/// Repeats `parser` as often as `range` allows, and returns the outputs in a collection allocated in `alloc`.
 ///
-/// As many are taken as the range allows at most, `usize::MAX` where it has no second end; after them none is
-/// tried. A refusal ends the list with success, before the item; but where the number of the items before it
-/// is outside the range, it refuses all, with the item's error, to which `Many` is added at the item. An item
-/// that consumes nothing is refused with `Many`. Where the range has two ends and nothing between them, the
-/// answer is a `Failure` with `Many`. No memory is taken ahead.
+/// The range is a range of counts, or one count. The list takes no more items than the range allows, or
+/// `usize::MAX` if the range has no second end. After them none is tried.
+///
+/// A refusal ends the list successfully, before the refused item. If the number of items before it is outside
+/// the range, the list refuses with the item's error. `Many` is added to that error at the item. An item that
+/// consumes nothing is refused with `Many`. If the range has two ends and nothing between them, the answer is
+/// a `Failure` with `Many`. The list takes no memory in advance.
 #[inline(always)]
 pub fn many<A: Allocator + Copy, R, F, C>(alloc: A, range: R, parser: F) -> Many<A, R, F, C>
     ensures alloc { result.alloc ≡ alloc }
@@ -143,9 +150,10 @@ pub fn many<A: Allocator + Copy, R, F, C>(alloc: A, range: R, parser: F) -> Many
     }
 }
 
-/// The fold of as many items as `range` says: as `many`, with errors of the kind `Fold`, and from the value of
-/// `init` `fold` takes the items' outputs from left to right. The closures are called only where outputs are
-/// built.
+/// Repeats `parser` as often as `range` allows, and folds the outputs.
+///
+/// It works like `many`, with errors of the kind `Fold`. The fold starts with the value of `init`, and `fold`
+/// takes the outputs from left to right. The closures are called only if outputs are built.
 #[inline(always)]
 pub fn fold<R, F, H, G>(range: R, parser: F, init: H, fold: G) -> Fold<R, F, H, G>
     ensures range { result.range ≡ range }

@@ -1,6 +1,7 @@
-//! What folds, counts and lists over a range promise beside what every parser does. These functions do
-//! nothing: their contracts are the promises. The trees are those of the items: a count is their number, a
-//! fold takes their outputs from left to right, a collection holds them.
+//! The promises of folds, counts and lists over a range, in addition to those of every parser.
+//!
+//! These functions do nothing: their contracts are the promises. The trees are those of the items. A count is
+//! their number. A fold takes their outputs from left to right. A collection holds their outputs.
 ghost use Rattle.std.specs.Prelude.{◌<◌, None, Some};
 ghost use Rattle.nom_ranges.specs.Ranges.{fewest, most_items, limit};
 ghost use Rattle.nom_repeat.specs.Accepted.{AcceptsItems, AcceptsOneAndMore};
@@ -17,37 +18,39 @@ use nom_traits::input::{Input, Items};
 use nom_traits::view::Viewed;
 use std::alloc::Allocator;
 
-/// `many0_count` accepts just the items that its part accepts, one after the other, none of them empty, up to
-/// where the part refuses.
+/// `many0_count` accepts exactly the items that its part accepts, one after the other, up to where the part
+/// refuses. None of them is empty.
 pub fn many0_count_accepts<I: Input, F: Parser<I> + Drop>(_parser: &Many0Count<F>)
     ensures { AcceptsItems I.model (Unit {0}) (λ a. 0 < a) 0 None (F.grammar (F.state _parser.now.item.parser)).meaning
         (⟦<Many0Count<F> as Parser<I>>⟧.grammar (F.state _parser.now.item.parser)).meaning }
 {}
 
-/// `many1_count` accepts a first item, and after it just what `many0_count` accepts.
+/// `many1_count` accepts a first item, and after it exactly what `many0_count` accepts.
 pub fn many1_count_accepts<I: Input, F: Parser<I> + Drop>(_parser: &Many1Count<F>)
     ensures { AcceptsOneAndMore I.model (F.grammar (F.state _parser.now.item.parser)).meaning (F.grammar (F.state _parser.now.item.parser)).meaning
         (⟦<Many1Count<F> as Parser<I>>⟧.grammar (F.state _parser.now.item.parser)).meaning }
 {}
 
-/// `many1_count` of a sound part accepts fewer than 2^64 items of an input that is shorter than that: so what it gives is
-/// their number.
+/// `many1_count` of a sound part accepts fewer than 2^64 items of an input that is shorter than 2^64. Its
+/// output is therefore their number.
 pub fn many1_count_counts<I: Input, F: Parser<I> + Drop>(_parser: &Many1Count<F>)
     requires { (F.grammar (F.state _parser.now.item.parser)).meaning.IsSound }
     ensures { AcceptsFew I.model (⟦<Many1Count<F> as Parser<I>>⟧.grammar (F.state _parser.now.item.parser)).meaning }
 {}
 
-/// `many_m_n_count`, where its bounds fit each other, accepts just the items that its part accepts, one after
-/// the other, none of them empty: up to where the part refuses, after the least number at least, or up to the
-/// most.
+/// `many_m_n_count` accepts exactly the items that its part accepts, one after the other, if its bounds fit
+/// each other.
+///
+/// None of the items is empty. They end where the part refuses, after at least the minimum, or at the
+/// maximum.
 pub fn many_m_n_count_accepts<I: Input, F: Parser<I> + Drop>(_parser: &ManyMNCount<F>)
     ensures { AcceptsItems I.model (_parser.now.max < _parser.now.min → ⊥) (λ a. 0 < a) _parser.now.min (Some _parser.now.max)
         (F.grammar (F.state _parser.now.item.parser)).meaning
         (⟦<ManyMNCount<F> as Parser<I>>⟧.grammar (_parser.now.min, _parser.now.max, F.state _parser.now.item.parser)).meaning }
 {}
 
-/// `fold_many0` accepts just the items that its part accepts, one after the other, none of them empty, up to
-/// where the part refuses.
+/// `fold_many0` accepts exactly the items that its part accepts, one after the other, up to where the part
+/// refuses. None of them is empty.
 pub fn fold_many0_accepts<
     I: Input,
     F: Parser<I, Output: Viewed> + Drop,
@@ -59,7 +62,7 @@ pub fn fold_many0_accepts<
         (⟦<FoldMany0<F, H, G> as Parser<I>>⟧.grammar (F.state _parser.now.parser, _parser.now.init, _parser.now.fold)).meaning }
 {}
 
-/// `fold_many1` accepts a first item, and after it just what `fold_many0` accepts.
+/// `fold_many1` accepts a first item, and after it exactly what `fold_many0` accepts.
 pub fn fold_many1_accepts<
     I: Input,
     F: Parser<I, Output: Viewed> + Drop,
@@ -71,9 +74,11 @@ pub fn fold_many1_accepts<
         (⟦<FoldMany1<F, H, G> as Parser<I>>⟧.grammar (F.state _parser.now.parser, _parser.now.init, _parser.now.fold)).meaning }
 {}
 
-/// `fold_many_m_n`, where its bounds fit each other, accepts just the items that its part accepts, one after
-/// the other, none of them empty: up to where the part refuses, after the least number at least, or up to the
-/// most.
+/// `fold_many_m_n` accepts exactly the items that its part accepts, one after the other, if its bounds fit
+/// each other.
+///
+/// None of the items is empty. They end where the part refuses, after at least the minimum, or at the
+/// maximum.
 pub fn fold_many_m_n_accepts<
     I: Input,
     F: Parser<I, Output: Viewed> + Drop,
@@ -92,9 +97,10 @@ pub fn fold_many_m_n_accepts<
         )).meaning }
 {}
 
-/// `many`, where its range isn't empty, accepts just the items that its part accepts, one after the other,
-/// none of them empty: up to where the part refuses, after the fewest items of the range at least, or up to
-/// the most.
+/// `many` accepts exactly the items that its part accepts, one after the other, if its range isn't empty.
+///
+/// None of the items is empty. They end where the part refuses, after at least the fewest items of the range,
+/// or at the most items of the range.
 pub fn many_accepts<
     I: Input,
     A: Allocator + Copy,
@@ -107,7 +113,7 @@ pub fn many_accepts<
         (⟦<Many<A, R, F, C> as Parser<I>>⟧.grammar (F.state _parser.now.parser, _parser.now.range)).meaning }
 {}
 
-/// `fold` accepts just what `many` accepts.
+/// `fold` accepts exactly what `many` accepts.
 pub fn fold_accepts<
     I: Input,
     R: NomRange<usize> + Drop,

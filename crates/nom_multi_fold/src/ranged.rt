@@ -1,4 +1,4 @@
-//! As many items as a range of counts says.
+//! A number of items within a range of counts.
 ghost use Rattle.std.specs.Prelude.{List};
 ghost use Rattle.nom_error.specs.declared.kind.ErrorKind.TheVariants as Kind;
 ghost use Rattle.nom_multi_fold.specs.Folds.{AreCallable, FoldsAlike};
@@ -21,13 +21,13 @@ use nom_traits::input::{Input, Items};
 use nom_traits::view::Viewed;
 use std::alloc::Allocator;
 
-/// As many items as a range says, in a collection of type `C`; made by `many`.
+/// The parser that `many` returns: items within a range of counts, in a collection of type `C`.
 #[derive(Drop)]
 pub struct Many<A, R, F, C> {
     pub alloc: A,
     pub range: R,
     pub parser: F,
-    /// Nothing: it shows the type of the collection, with its lifetimes.
+    /// Holds nothing. It only shows the type of the collection, with its lifetimes.
     pub collection: Option<C>,
 }
 
@@ -88,8 +88,7 @@ impl<
     ghost steady = { λ s k. range_steady I.lawful F.Error.errors Kind.Many (R.IsSpent s.1) (R.lower s.1) (R.upper s.1) (F.steady s.0 k) };
 }
 
-/// The fold of as many items as a range says, made by `fold`. The closures are called only where outputs are
-/// built.
+/// The parser that `fold` returns. The closures are called only if outputs are built.
 #[derive(Drop)]
 pub struct Fold<R, F, H, G> {
     pub range: R,

@@ -12,7 +12,7 @@ use nom_traits::convert::ToUsize;
 use nom_traits::input::Items;
 use std::alloc::Allocator;
 
-/// A length n and n outputs of a parser after it, made by `length_count`.
+/// The parser that `length_count` returns: a length n, and n outputs of a parser after it.
 #[derive(Drop)]
 pub struct LengthCount<A, F, G> {
     pub alloc: A,

@@ -10,8 +10,9 @@ use nom_error::value::{ParseError, refusal};
 use nom_internal::slices::front;
 use nom_traits::input::{Input, Items};
 
-/// The first items, of the length together, and what stands after them. Where there is less, more is
-/// needed, in both modes.
+/// Returns the first items, with a total length of `length`, and the rest after them.
+///
+/// If the input is shorter, more is needed, in both modes.
 #[inline(always)]
 pub(crate) fn cut<OM: OutputMode, I: Input, E: ParseError<I>>(
     input: I,
@@ -33,7 +34,7 @@ pub(crate) fn cut<OM: OutputMode, I: Input, E: ParseError<I>>(
     Err(refusal::<OM::Error, I, E>(input, ErrorKind::LengthValue))
 }
 
-/// Whether a length is a place of an input.
+/// Returns whether a length is a place of an input.
 #[inline(always)]
 fn is_place<I: Input>(input: I, length: usize) -> bool
     ensures { MatchBool result (IsBoundary I.model input length) (IsBoundary I.model input length → ⊥) }
@@ -46,7 +47,7 @@ fn is_place<I: Input>(input: I, length: usize) -> bool
     }
 }
 
-/// Whether a length is a place of an input, item by item.
+/// Returns whether a length is a place of an input, item by item.
 fn is_reached<I: Input>(input: I, length: usize) -> bool
     ensures { MatchBool result (IsBoundary I.model input length) (IsBoundary I.model input length → ⊥) }
 {

@@ -10,7 +10,7 @@ use nom_internal::parser::{Parser, StreamParser};
 use nom_traits::convert::ToUsize;
 use nom_traits::input::{Input, Items};
 
-/// A length and that many items after it, made by `length_data`.
+/// The parser that `length_data` returns: a length, and that many items after it.
 #[derive(Drop)]
 pub struct LengthData<F> {
     pub parser: F,

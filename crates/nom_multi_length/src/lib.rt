@@ -1,4 +1,4 @@
-//! Lengths: what stands after a length that is read.
+//! Lengths: items, lists and values after a length that is read.
 #![tactic(auto)]
 
 ghost use Rattle.std.specs.Prelude.{◌≡◌};
@@ -14,10 +14,12 @@ pub use crate::length::LengthData;
 pub use crate::value::LengthValue;
 use std::alloc::Allocator;
 
-/// A length, as `parser` reads it, and after it that many items: bytes of a byte slice, characters of a
-/// text. Its output is those items. The length may be of any type that is `ToUsize`.
+/// Reads a length with `parser`, and returns that many items after it.
 ///
-/// Where there are fewer, streaming asks for the rest, and complete refuses with `Eof` after the
+/// Items are bytes of a byte slice, or characters of a text. The length may be of any type that is `ToUsize`.
+/// `length_data(be_u8())` on the bytes `[2, 5, 6, 7]` returns `[5, 6]` and leaves `[7]`.
+///
+/// If there are fewer items, streaming needs the missing ones, and complete refuses with `Eof` after the
 /// length, as `take` does.
 #[inline(always)]
 pub fn length_data<F>(parser: F) -> LengthData<F>
@@ -26,13 +28,17 @@ pub fn length_data<F>(parser: F) -> LengthData<F>
     LengthData { parser }
 }
 
-/// A length, as `length` reads it, and after it that number of outputs of `parser`, one after another: a list
-/// of them, which takes its memory from `alloc`.
+/// Reads a length with `length`, runs `parser` that many times, and returns the outputs in a `Vec` allocated
+/// in `alloc`.
 ///
-/// Where an item is refused, so is all, and `Count` is added to its error at the place after the
-/// length. An item may consume nothing. All else that an item answers is passed on. The list gets
-/// room for its items ahead, for 1,024 at most, whatever length is claimed; without the memory for it, and
-/// beyond it, it grows by the items that are accepted, and where it can't, the answer is `OutOfMemory`.
+/// `length_count(alloc, be_u8(), be_u8())` on the bytes `[2, 5, 6, 7]` returns `[5, 6]` and leaves `[7]`.
+///
+/// If an item is refused, the whole is refused, and `Count` is added to its error at the place after the
+/// length. An item may consume nothing. Any other answer of an item is passed on.
+///
+/// The list reserves room for its items in advance, for 1,024 at most, whatever length is claimed. Without
+/// the memory for it, and beyond that room, it grows with each accepted item. It answers `OutOfMemory` if it
+/// can't grow.
 #[inline(always)]
 pub fn length_count<A: Allocator + Copy, F, G>(
     alloc: A,
@@ -50,13 +56,15 @@ pub fn length_count<A: Allocator + Copy, F, G>(
     }
 }
 
-/// A length, as `length` reads it, and `parser` on exactly that much of the input after it. The length is
-/// in the units of `input_len`: bytes, of a byte slice and of a text. The output is that of `parser`,
-/// whatever it leaves of those bytes, and the rest stands after them.
+/// Reads a length with `length`, and runs `parser` on exactly that much of the input after it.
 ///
-/// Where there are fewer, more is needed, in both modes. Where the length ends inside a character, it is
-/// refused with `LengthValue` at the place after the length. `parser` runs in the mode that is asked
-/// for; where it wants more than there is for it, it is refused with `Complete`.
+/// The length is in the units of `input_len`: bytes, for a byte slice and for a text. The output is that of
+/// `parser`, whatever it leaves of those bytes. The rest begins after them. `length_value(be_u8(), be_u8())`
+/// on the bytes `[2, 5, 6, 7]` returns `5` and leaves `[7]`.
+///
+/// If there are fewer bytes, more is needed, in both modes. If the length ends inside a character, it is
+/// refused with `LengthValue` at the place after the length. `parser` runs in the requested mode. If it needs
+/// more than its part of the input, it is refused with `Complete`.
 #[inline(always)]
 pub fn length_value<F, G>(length: F, parser: G) -> LengthValue<F, G>
     ensures length { result.length ≡ length }

@@ -1,5 +1,5 @@
-//! What a list after its length promises beside what every parser does. The function does nothing: its
-//! contract is the promise.
+//! The promise of a list after its length, in addition to those of every parser. The function does nothing:
+//! its contract is the promise.
 ghost use Rattle.nom_multi_length.specs.Lengths.{HasSize};
 ghost use Rattle.nom_multi_length.specs.Promises.{AcceptsCounted};
 
@@ -9,8 +9,10 @@ use nom_traits::convert::ToUsize;
 use nom_traits::input::Items;
 use std::alloc::Allocator;
 
-/// `length_count` accepts a length that its first part accepts, and after it just that many items that its second
-/// part accepts, one after the other, of any length.
+/// `length_count` accepts a length that its first part accepts, and then exactly that many items that its
+/// second part accepts.
+///
+/// The items follow one another, and may be of any length.
 pub fn length_count_accepts<
     I: Items,
     A: Allocator + Copy,

@@ -1,4 +1,4 @@
-//! A value after the length of what it is read from.
+//! A value after the length of the input that it is read from.
 ghost use Rattle.std.specs.Prelude.{◌≡◌};
 ghost use Rattle.nom_error.specs.declared.kind.ErrorKind.TheVariants as Kind;
 ghost use Rattle.nom_internal.specs.Prelude.{modes, ShowsMeaning, IsPinned};
@@ -14,14 +14,14 @@ use nom_traits::convert::ToUsize;
 use nom_traits::input::{Input, Items};
 use nom_traits::view::Viewed;
 
-/// A length and a parser on exactly that much of the input after it, made by `length_value`.
+/// The parser that `length_value` returns: a length, and a parser on exactly that much of the input after it.
 #[derive(Drop)]
 pub struct LengthValue<F, G> {
     pub length: F,
     pub parser: G,
 }
 
-/// An answer on all that there is: where more is needed, a refusal.
+/// Turns a need for more input into a refusal, because the input is all there is.
 #[inline(always)]
 fn settle<M: Mode, I: Drop, T, E: ParseError<I>>(
     answer: Result<T, Err<E, Option<E>>>,
@@ -38,7 +38,7 @@ fn settle<M: Mode, I: Drop, T, E: ParseError<I>>(
     }
 }
 
-/// A parser on all that there is, in the mode that is asked for.
+/// Runs a parser on all the input there is, in the requested mode.
 #[inline(always)]
 fn settled<OM: OutputMode, I: Input, G: Parser<I>>(
     parser: &mut G,
@@ -52,7 +52,7 @@ fn settled<OM: OutputMode, I: Input, G: Parser<I>>(
     settle::<OM::Error, I, (I, Option<G::Output>), G::Error>(parser.process::<OM>(input), input)
 }
 
-/// A parser on the first items of an input, of the length together: its rest is dropped.
+/// Runs a parser on the first items of an input, with a total length of `length`. Its rest is dropped.
 #[inline(always)]
 fn within<OM: OutputMode, I: Input, G: Parser<I>>(
     parser: &mut G,

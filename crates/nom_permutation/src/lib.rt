@@ -1,4 +1,4 @@
-//! Permutation: each of some parsers once, in any order.
+//! Permutation: each of several parsers once, in any order.
 #![tactic(auto)]
 
 ghost use Rattle.std.specs.Prelude.{◌≡◌};
@@ -17,11 +17,13 @@ pub use crate::nest::{More, Nests};
 pub use crate::permutations::{OnceEach, Permutation};
 pub use nom_internal::flat::{Flat, One};
 
-/// Each of the parsers in `list` once, in any order, with their outputs in the order of the list.
+/// Runs each parser in `list` once, in any order, and returns their outputs in the order of the list.
 ///
-/// The first parser that is left and doesn't refuse is run, and a new round starts on the rest. Where
-/// all that are left refuse, so does the permutation: their errors are joined by `or` from left to
-/// right, and the whole is closed by `append` with `Permutation` where that round started.
+/// `permutation((tag("a"), tag("b")))` on `"bac"` returns `("a", "b")` and leaves `"c"`.
+///
+/// Each round runs the remaining parsers in order, until one doesn't refuse. The next round starts on the
+/// rest. If all remaining parsers refuse, the permutation refuses. Their errors are joined by `or` from left
+/// to right, and `append` closes the result with `Permutation` where that round started.
 #[inline(always)]
 pub fn permutation<List: Nests>(list: List) -> Permutation<List>
     ensures { result.members ≡ List.nested list }

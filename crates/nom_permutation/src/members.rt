@@ -1,4 +1,4 @@
-//! The members of a permutation, nested: a first one, or some and one more after them.
+//! The nested members of a permutation: a first one, or several and one more after them.
 ghost use Rattle.std.specs.Prelude.{◌≡◌, ◌+◌, ◌∷◌, [], ℕ, Bool, List, Option, Some, None, length};
 ghost use Rattle.nom_internal.specs.Prelude.{Built, modes};
 ghost use Rattle.nom_permutation.specs.Members.{Member, AllRun, IsOver, member, tried, with_last};
@@ -13,7 +13,7 @@ use nom_internal::flat::One;
 use nom_internal::parser::Parser;
 use nom_traits::input::Items;
 
-/// Members, nested, and what a round does with them.
+/// Nested members, and the steps of a round on them.
 pub trait Nested<I: Items>: Sized {
     /// The members' places.
     type Slots;
@@ -22,33 +22,33 @@ pub trait Nested<I: Items>: Sized {
 
     type Error: ParseError<I>;
 
-    /// What of the members their meaning depends on.
+    /// The part of the members on which their meaning depends.
     ghost State: { Type 0 };
 
     ghost state: { Self → State };
 
-    /// The trees of the members that are applied.
+    /// The trees of the applied members.
     ghost Tree: { Type 0 };
 
-    /// Of none.
+    /// The tree in which no member is applied.
     ghost none: { Tree };
 
     ghost members: { State → List (Member I Tree Self.Error) };
 
-    /// The places hold the outputs of the trees, where outputs are built.
+    /// The places hold the outputs of the trees, if outputs are built.
     ghost AreHeld: { Bool → State → Tree → Self.Slots → Type 0 };
 
-    /// How many places wait.
+    /// The number of places that wait.
     ghost waiting: { Self.Slots → ℕ };
 
     ghost AreOutputs: { State → Tree → Self.Outputs → Type 0 };
 
-    /// Places that all wait.
+    /// Returns places that all wait.
     fn slots() -> Self::Slots
         ensures held { (outputs : Bool) (s : State) → AreHeld outputs s none result }
         ensures all { (s : State) → waiting result ≡ length (members s) };
 
-    /// The first of the members that aren't applied that doesn't refuse; `None` where all are applied.
+    /// Runs the first member that isn't applied and doesn't refuse. Returns `None` if all are applied.
     fn round<OM: OutputMode>(
         &mut self,
         slots: &mut Self::Slots,
@@ -62,19 +62,20 @@ pub trait Nested<I: Items>: Sized {
         ensures counted { waiting slots.new + applies result ≡ waiting slots.old }
         ensures kept { state self.new ≡ state self.old };
 
-    /// The outputs, put together.
+    /// Combines the outputs.
     fn outputs(slots: Self::Slots) -> Option<Self::Outputs>
         ensures { (outputs : Bool) (s : State) (t : Tree) → AreHeld outputs s t slots →
             IsOver (tried Self.Error.errors.joined Self.Error.errors.grows (members s) t) → Built outputs (AreOutputs s t) result };
 
-    /// Lets the places go.
+    /// Drops the places.
     fn discard(slots: Self::Slots);
 
-    /// Where no place waits, no member is tried.
+    /// If no place waits, no member is tried.
     ghost over: { (outputs : Bool) (s : State) (t : Tree) (slots : Self.Slots) → AreHeld outputs s t slots → waiting slots ≡ 0 →
         IsOver (tried Self.Error.errors.joined Self.Error.errors.grows (members s) t) };
 
-    /// They are lawful, of `none` no member is applied, and to apply one leaves one fewer of these.
+    /// The members are lawful. `none` applies no member, and each application leaves one fewer unapplied
+    /// member.
     ghost good: { (s : State) → AreGood I.model (members s) none };
 }
 

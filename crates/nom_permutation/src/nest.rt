@@ -1,4 +1,4 @@
-//! Tuples, and how they nest.
+//! Tuples, and their nested form.
 ghost use Rattle.std.specs.Prelude.{◌≡◌};
 
 use nom_internal::flat::One;
@@ -25,7 +25,7 @@ pub type Seven<A, B, C, D, E, F, G> = More<Six<A, B, C, D, E, F>, G>;
 
 pub type Eight<A, B, C, D, E, F, G, H> = More<Seven<A, B, C, D, E, F, G>, H>;
 
-/// A tuple of 2 to 8, nested by its members before the last and its last.
+/// A tuple of 2 to 8, nested as its last element and the elements before it.
 pub trait Nests {
     type Nested;
 

@@ -2,10 +2,10 @@
 
 use crate::nest::Nests;
 
-/// Parsers of a tuple that are applied once each, in any order; made by `permutation`.
+/// The parser that `permutation` returns: it applies each parser of a tuple once, in any order.
 pub type Permutation<List> = OnceEach<<List as Nests>::Nested>;
 
-/// A tuple's parsers, nested.
+/// The nested parsers of a tuple.
 #[derive(Drop)]
 pub struct OnceEach<N> {
     pub members: N,

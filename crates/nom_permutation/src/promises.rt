@@ -1,5 +1,5 @@
-//! What a permutation promises beside what every parser does. The function does nothing: its contract is
-//! the promise.
+//! The promises of a permutation, in addition to those of every parser. The function does nothing: its
+//! contract is the promise.
 ghost use Rattle.nom_permutation.specs.Once.{AcceptsEachOrder, AppliesEachOnce};
 ghost use Rattle.nom_permutation.specs.Permutation.{once_each_of};
 
@@ -8,8 +8,10 @@ use crate::permutations::OnceEach;
 use nom_internal::flat::Flat;
 use nom_traits::input::Items;
 
-/// What a permutation accepts, its members accept in turn, each once: at each turn the first that isn't
-/// applied yet and accepts, and at the end all are applied. And what they so accept, it accepts.
+/// A permutation accepts exactly the inputs that its members accept in turn, each once.
+///
+/// At each turn, the first member that isn't applied yet and accepts is applied. At the end all members are
+/// applied.
 pub fn applies_each_once<I: Items, N: Nested<I>>(_parser: &OnceEach<N>)
 where
     N::Outputs: Flat,

@@ -14,7 +14,7 @@ use nom_internal::choice::close;
 use nom_internal::flat::{Flat, made_flat};
 use nom_traits::input::Items;
 
-/// Round by round, each of the members once, with their outputs made flat.
+/// Applies each member once, round by round, and returns their outputs as a flat tuple.
 #[inline(always)]
 pub fn rounds<I: Items, N: Nested<I>, OM: OutputMode>(
     members: &mut N,

@@ -1,4 +1,4 @@
-//! The places of a permutation's members, and how a round fills them.
+//! The places of a permutation's members, and the way a round fills them.
 ghost use Rattle.std.specs.Prelude.{◌≡◌, true, false, Option};
 ghost use Rattle.nom_internal.specs.Prelude.{modes};
 ghost use Rattle.nom_permutation.specs.Tries.{Fills, TriesFirst, TriesNext, Tries};
@@ -10,17 +10,17 @@ use nom_internal::choice::join;
 use nom_internal::parser::Parser;
 use nom_traits::input::Items;
 
-/// A member's place: it waits, or it is applied, with its output where outputs are built.
+/// A member's place: waiting, or applied with its output if outputs are built.
 #[derive(Drop)]
 pub enum Slot<O> {
     Waiting,
     Applied(Option<O>),
 }
 
-/// What a round answers: the rest after the member that it applied.
+/// The answer of a round: the rest after the member that it applied.
 pub type Round<I, E> = Result<I, Err<E, Option<E>>>;
 
-/// Puts what is accepted into its place.
+/// Puts an accepted output into its place.
 #[inline(always)]
 fn fill<I, O: Drop, E>(answer: PResult<I, O, E>, slot: &mut Slot<O>) -> Round<I, E>
     ensures { Fills slot.old answer slot.new result }
@@ -34,7 +34,7 @@ fn fill<I, O: Drop, E>(answer: PResult<I, O, E>, slot: &mut Slot<O>) -> Round<I,
     }
 }
 
-/// The first try of a round.
+/// Runs the first try of a round.
 #[inline(always)]
 fn try_first<I: Items, P: Parser<I>, OM: OutputMode>(
     slot: &mut Slot<P::Output>,
@@ -50,7 +50,7 @@ fn try_first<I: Items, P: Parser<I>, OM: OutputMode>(
     fill(answer, slot)
 }
 
-/// A try after refusals with an error.
+/// Runs a try after refusals, whose error is `error`.
 #[inline(always)]
 fn try_next<I: Items, P: Parser<I>, OM: OutputMode>(
     error: Option<P::Error>,
@@ -68,7 +68,7 @@ fn try_next<I: Items, P: Parser<I>, OM: OutputMode>(
     fill(answer, slot)
 }
 
-/// Whether a member isn't applied yet.
+/// Returns whether a member isn't applied yet.
 #[inline(always)]
 fn is_waiting<O>(slot: &Slot<O>) -> bool
     ensures waiting { result ≡ true → slot.now ≡ Waiting }
@@ -80,7 +80,7 @@ fn is_waiting<O>(slot: &Slot<O>) -> bool
     }
 }
 
-/// One member's part in a round, which is `None` before its first try.
+/// Runs one member's part in a round. The round is `None` before its first try.
 #[inline(always)]
 pub fn try_slot<I: Items, P: Parser<I>, OM: OutputMode>(
     round: Option<Round<I, P::Error>>,
@@ -117,7 +117,7 @@ pub fn try_slot<I: Items, P: Parser<I>, OM: OutputMode>(
     }
 }
 
-/// What a place holds, if its member is applied.
+/// Returns the output that a place holds, if its member is applied.
 #[inline(always)]
 pub fn taken<O: Drop>(slot: Slot<O>) -> Option<O>
     ensures { (b : Option O) → slot ≡ Applied b → result ≡ b }

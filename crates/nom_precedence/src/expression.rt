@@ -18,7 +18,7 @@ use nom_operators::operation::{Assoc, Operation};
 use std::alloc::Allocator;
 use std::marker::PhantomData;
 
-/// Terms with operators between them, made by `precedence`.
+/// The parser that `precedence` returns: terms with operators between them.
 #[derive(Drop)]
 pub struct Precedence<'l, A, P, F, Q, C, B, G> {
     pub alloc: A,
@@ -104,8 +104,9 @@ impl<
         (P.steady s.0 k.0) (F.steady s.1 k.1) (Q.steady s.2 k.2) (C.steady s.3 k.3) };
 }
 
-/// A first term, to whose refusal `Precedence` is added at the start, and then pairs, with the value of
-/// them all; or one is stuck.
+/// Parses a first term and then pairs, and returns the value of them all, or that one is stuck.
+///
+/// `Precedence` is added at the start to a refusal of the first term.
 fn read<
     OM: OutputMode,
     I: Input,

@@ -1,5 +1,6 @@
-//! Operator precedence: terms with operators between them, by levels. It stands on `nom`, as a crate of a user's
-//! would, and on the trees of operators.
+//! Operator precedence: terms with operators between them, by levels.
+//!
+//! It builds on `nom`, as a user's crate would, and on the trees of operators.
 #![tactic(auto)]
 
 ghost use Rattle.std.specs.Prelude.{◌≡◌};
@@ -14,23 +15,26 @@ pub use nom_operators::operation::{Assoc, Operation};
 pub use nom_operators::{operation, promises};
 use std::marker::PhantomData;
 
-/// An expression: a term, and then pairs of a binary operator and a term, with the value that `fold` makes of
-/// their tree.
+/// Parses an expression, and returns the value that `fold` makes of its tree.
 ///
-/// A term is prefixes, an operand and postfixes, each as many as are accepted; `fail` stands for those that there
-/// aren't. `binary` gives an operator with its level, and entry k of `levels` says how operators of level k are
-/// grouped: a greater level binds looser. Postfixes bind tightest, from left to right; then prefixes, the nearest to
-/// the operand first; then binary operators. Among these the root of the tree is the last one of the loosest
-/// level for `Left`, and the first one for `Right`, and both sides are trees in the same way.
+/// An expression is a term, and then pairs of a binary operator and a term. A term is any number of prefixes,
+/// an operand, and any number of postfixes. Use `fail` for prefixes, postfixes or operators that don't exist.
 ///
-/// A term is refused where its operand is. Of the first term, `append` adds `Precedence` at the start; where an
-/// operator or the term after it is refused, the expression ends before that operator. A level outside `levels`
-/// is a failure with `Precedence` at the operator. A prefix or a postfix that consumes nothing is a refusal with
-/// `Precedence` at its place, and an operator and its term that together consume nothing one at the operator.
+/// `binary` returns an operator with its level. Entry k of `levels` says how operators of level k are
+/// grouped. A greater level binds looser. Postfixes bind tightest, from left to right. Prefixes come next,
+/// the nearest to the operand first, and then binary operators. The root of the tree is the last binary
+/// operator of the loosest level for `Left`, and the first one for `Right`. Both sides are trees in the same
+/// way.
 ///
-/// Where outputs aren't built, `fold` isn't called, nothing is grown, and of outputs only those of `binary` are
-/// built. Else memory may run out where prefixes or operators are kept that wait for what follows them. The stack
-/// of the program is bounded, whatever the input.
+/// A term is refused if its operand is. For the first term, `append` adds `Precedence` at the start. If an
+/// operator or the term after it is refused, the expression ends before that operator. A level outside
+/// `levels` is a failure with `Precedence` at the operator. A prefix or a postfix that consumes nothing is
+/// refused with `Precedence` at its place. An operator and its term that together consume nothing are refused
+/// with `Precedence` at the operator.
+///
+/// If outputs aren't built, `fold` isn't called, nothing grows, and only the outputs of `binary` are built.
+/// Otherwise memory may run out for kept prefixes or operators that wait for what follows them. The program's
+/// stack is bounded, whatever the input.
 pub fn precedence<'l, A, P, F, Q, C, B, G>(
     alloc: A,
     levels: &'l [Assoc],

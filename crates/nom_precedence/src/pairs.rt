@@ -19,7 +19,7 @@ use nom_operators::operation::{Assoc, Operation};
 use nom_operators::waiting::{Held, close_all, put};
 use std::alloc::Allocator;
 
-/// An operator with its level, which is built in every mode; a level that isn't there is a failure.
+/// Parses an operator with its level, which is built in every mode. A level that doesn't exist is a failure.
 fn operator<OM: OutputMode, I: Input, B: Drop, C: Parser<I, Output = (usize, B)>>(
     binary: &mut C,
     levels: &[Assoc],
@@ -44,7 +44,7 @@ fn operator<OM: OutputMode, I: Input, B: Drop, C: Parser<I, Output = (usize, B)>
     }
 }
 
-/// An operator's output with that of its term, where both are built.
+/// Joins an operator's output with that of its term, if both are built.
 #[inline(always)]
 fn both<B: Drop, O: Drop>(operator: (usize, B), value: Option<O>) -> Option<((usize, B), O)>
     ensures { BuiltFrom true (λ x o. o ≡ (operator, x)) value result }
@@ -55,7 +55,7 @@ fn both<B: Drop, O: Drop>(operator: (usize, B), value: Option<O>) -> Option<((us
     }
 }
 
-/// An operator and a term.
+/// Parses an operator and a term.
 fn pair<
     OM: OutputMode,
     I: Input,
@@ -103,7 +103,7 @@ fn pair<
     }
 }
 
-/// What is held of the value of a first term, where it is built.
+/// Returns the held state for the value of a first term, if it is built.
 #[inline(always)]
 fn begun<O, B>(first: Option<O>) -> Option<Held<O, B>>
     ensures { BuiltFrom true (λ x k. (k.value ≡ x) × (k.innermost ≡ None)) first result }
@@ -117,8 +117,9 @@ fn begun<O, B>(first: Option<O>) -> Option<Held<O, B>>
     }
 }
 
-/// What is held after an operator and the value of its term, where they are built. None where there is no memory for
-/// an operator that waits.
+/// Returns the held state after an operator and the value of its term, if they are built.
+///
+/// It returns `None` if there is no memory for an operator that waits.
 #[inline(always)]
 fn grown<P: Drop, Q: Drop, B: Drop, O: Drop, A: Allocator, G: Fn(Operation<P, Q, B, O>) -> O>(
     held: Option<Held<O, B>>,
@@ -146,7 +147,7 @@ fn grown<P: Drop, Q: Drop, B: Drop, O: Drop, A: Allocator, G: Fn(Operation<P, Q,
     }
 }
 
-/// The value where all operators that wait are joined, where it is built.
+/// Joins all operators that wait, and returns the value, if it is built.
 #[inline(always)]
 fn finished<P: Drop, Q: Drop, B: Drop, O: Drop, A: Allocator, G: Fn(Operation<P, Q, B, O>) -> O>(
     held: Option<Held<O, B>>,
@@ -164,8 +165,10 @@ fn finished<P: Drop, Q: Drop, B: Drop, O: Drop, A: Allocator, G: Fn(Operation<P,
     }
 }
 
-/// Pairs, one after another, until the operator or the term of one is refused, with the value of a first term and
-/// of them; or one is stuck.
+/// Parses pairs until the operator or the term of one is refused, and returns the value of a first term and
+/// them.
+///
+/// It returns `Stuck` if one is stuck.
 pub fn pairs<
     OM: OutputMode,
     I: Input,

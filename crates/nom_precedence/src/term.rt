@@ -14,7 +14,7 @@ use nom_operators::operation::Operation;
 use std::alloc::Allocator;
 use std::marker::PhantomData;
 
-/// A value under postfixes: each is applied to it in turn.
+/// A value under postfixes, each of which is applied to it in turn.
 #[derive(Drop)]
 pub struct Applied<'a, P, B, O, G> {
     pub value: Option<O>,
@@ -46,7 +46,7 @@ impl<'a, P: Drop, Q: Drop, B: Drop, O: Drop, G: Fn(Operation<P, Q, B, O>) -> O> 
     }
 }
 
-/// The operand's value under postfixes to come, where it is built.
+/// Returns the operand's value under postfixes to come, if it is built.
 #[inline(always)]
 fn held<'a, P, B, O, G>(operand: Option<O>, fold: &'a G) -> Option<Applied<'a, P, B, O, G>>
     ensures { BuiltFrom true (IsHeld (λ k. k.value) (λ k. k.fold.now) fold.now) operand result }
@@ -61,7 +61,7 @@ fn held<'a, P, B, O, G>(operand: Option<O>, fold: &'a G) -> Option<Applied<'a, P
     }
 }
 
-/// The value under the postfixes, where it is built.
+/// Returns the value under the postfixes, if it is built.
 #[inline(always)]
 fn value_of<'a, P: Drop, B: Drop, O: Drop, G>(applied: Option<Applied<'a, P, B, O, G>>) -> Option<O>
     ensures { MatchOption applied.entry (result ≡ None) (λ k. result ≡ k.value) }
@@ -72,7 +72,7 @@ fn value_of<'a, P: Drop, B: Drop, O: Drop, G>(applied: Option<Applied<'a, P, B, 
     }
 }
 
-/// The value under prefixes, the last of them first.
+/// Returns the value under prefixes, the last of them first.
 fn under<P: Drop, Q: Drop, B: Drop, O: Drop, A: Allocator, G: Fn(Operation<P, Q, B, O>) -> O>(
     mut prefixes: Vec<P, A>,
     value: O,
@@ -88,7 +88,7 @@ fn under<P: Drop, Q: Drop, B: Drop, O: Drop, A: Allocator, G: Fn(Operation<P, Q,
     value
 }
 
-/// The value of a term, where it is built.
+/// Returns the value of a term, if it is built.
 #[inline(always)]
 fn finished<P: Drop, Q: Drop, B: Drop, O: Drop, A: Allocator, G: Fn(Operation<P, Q, B, O>) -> O>(
     prefixes: Vec<P, A>,
@@ -104,7 +104,7 @@ fn finished<P: Drop, Q: Drop, B: Drop, O: Drop, A: Allocator, G: Fn(Operation<P,
     }
 }
 
-/// An operand, and postfixes.
+/// Parses an operand and postfixes.
 fn tail<
     OM: OutputMode,
     I: Input,
@@ -137,7 +137,7 @@ fn tail<
     }
 }
 
-/// A term: prefixes, an operand, postfixes.
+/// Parses a term: prefixes, an operand, postfixes.
 pub fn term<
     OM: OutputMode,
     I: Input,

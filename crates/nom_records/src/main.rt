@@ -1,5 +1,5 @@
-//! `nom_records FILE [CUT ..]`: the report on a file of records, given in the parts that the cuts (offsets in
-//! bytes) make of it.
+//! `nom_records FILE [CUT ..]`: the report on a file of records, given in parts divided at the cuts (offsets
+//! in bytes).
 #![tactic(auto)]
 
 use nom_records_run::report::Records;

@@ -7,10 +7,10 @@ ghost use Rattle.nom_run.specs.Stream.{one_more};
 use std::io;
 use std::io::{Read, Write};
 
-/// A reader or a writer of std that is reached by `read_once` and `write_once` alone, which count their calls.
+/// A reader or a writer of std that only `read_once` and `write_once` call. They count their calls.
 ///
-/// A trait of std says nothing of how often it is called, so that each of the two calls the reader or the writer just
-/// once is read in its one line, and not proved.
+/// A trait of std says nothing about how often it is called. The body of each of the two shows that it makes
+/// exactly one call; this isn't proved.
 #[derive(Drop)]
 pub struct Called<T> {
     inner: T,
@@ -18,7 +18,7 @@ pub struct Called<T> {
 }
 
 impl<T> Called<T> {
-    /// Counts from 0.
+    /// Returns a value whose count starts at 0.
     pub fn new(inner: T) -> Self
         ensures held { result.inner ≡ inner }
         ensures none { result.calls ≡ 0 }
@@ -26,7 +26,7 @@ impl<T> Called<T> {
         Called { inner, calls: 0 }
     }
 
-    /// How many calls were made; the count stays at the greatest `u64`.
+    /// Returns the number of calls. The count stays at the greatest `u64`.
     pub fn calls(&self) -> u64
         ensures { result ≡ self.now.calls }
     {
@@ -48,7 +48,7 @@ impl<T> Called<T> {
 }
 
 impl<T: Read> Called<T> {
-    /// One call of `read`.
+    /// Calls `read` once.
     pub fn read_once(&mut self, room: &mut [u8]) -> io::Result<usize>
         ensures bound { ReadsAtMost result room.new }
         ensures bytes { ReadConsumes (T.remaining self.old.inner) (T.remaining self.new.inner) result room.new }
@@ -60,7 +60,7 @@ impl<T: Read> Called<T> {
 }
 
 impl<T: Write> Called<T> {
-    /// One call of `write`.
+    /// Calls `write` once.
     pub fn write_once(&mut self, bytes: &[u8]) -> io::Result<usize>
         ensures bound { WritesAtMost result bytes.now }
         ensures bytes { WriteAppends (T.contents self.old.inner) (T.contents self.new.inner) result bytes.now }

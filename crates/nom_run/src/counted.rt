@@ -6,19 +6,21 @@ use crate::error::Fault;
 use crate::stream::{Sink, Source};
 use std::io::{Read, Write};
 
-/// A reader or a writer of std, with the counts of its calls and of those that failed. Each call of `read` or `write` is
-/// one of the reader or the writer, and an interrupted one has failed. The counts stay at the greatest `u64`.
+/// A reader or a writer of std, with the counts of its calls and of its failed calls.
+///
+/// Each call of `read` or `write` is one call of the reader or the writer. An interrupted call has failed.
+/// The counts stay at the greatest `u64`.
 #[derive(Drop)]
 pub struct Counted<T> {
     pub called: Called<T>,
-    /// How many calls gave an error.
+    /// The number of calls that returned an error.
     pub failed: u64,
-    /// How many calls took none of the bytes that they were offered.
+    /// The number of calls that took none of the offered bytes.
     pub stalled: u64,
 }
 
 impl<T> Counted<T> {
-    /// Counts from 0.
+    /// Returns a value whose counts start at 0.
     pub fn new(inner: T) -> Self
         ensures held { result.called.inner ≡ inner }
         ensures none_called { result.called.calls ≡ 0 }

@@ -1,10 +1,10 @@
-//! What can go wrong.
+//! The errors of a run.
 
 /// A read or a write that failed.
 #[derive(Clone, Copy, Debug, PartialEq, Eq)]
 pub struct Fault;
 
-/// Why there is no status.
+/// The reason why there is no status.
 #[derive(Clone, Copy, Debug, PartialEq, Eq)]
 pub enum RunError {
     /// A read failed.
@@ -13,6 +13,6 @@ pub enum RunError {
     Write,
     /// Memory ran out.
     OutOfMemory,
-    /// The cuts, or the words that should write them, are wrong.
+    /// The cuts are wrong, or the words that should define them.
     Usage,
 }

@@ -1,5 +1,7 @@
-//! The engine of programs that report on a file: a source is read to its end, reported on, in the parts that cuts
-//! make of it, and the text of the report is written to a sink.
+//! The engine of programs that report on a file.
+//!
+//! It reads a source to its end, and reports on it, given in parts divided at the cuts. It writes the text of
+//! the report to a sink.
 #![tactic(auto)]
 
 pub mod called;

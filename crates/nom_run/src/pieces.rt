@@ -1,4 +1,4 @@
-//! A text that is written in pieces, however long it is.
+//! A text that is written in pieces, whatever its length.
 ghost use Rattle.std.specs.Prelude.{◌≡◌, ◌++◌, ◌+◌, ◌≤◌, ℕ, List, [], length, IfOk, IfErr, vec_len};
 ghost use Rattle.std.specs.Io.KnownBytes.{Appends};
 ghost use Rattle.nom_run.specs.Pieces.{BeganText, HasRoom, WroteBut};
@@ -14,7 +14,7 @@ use std::alloc::Allocator;
 // So many bytes are written at once.
 const FULL: usize = 65536;
 
-/// Room for bytes that aren't written yet. It is all the memory that is taken.
+/// Returns room for bytes that aren't written yet. No other memory is taken.
 pub fn make_room<A: Allocator>(alloc: A) -> Result<Vec<u8, A>, OutOfMemory>
     ensures { IfOk result (λ room. HasRoom room × (room.items ≡ [])) }
 {
@@ -24,7 +24,7 @@ pub fn make_room<A: Allocator>(alloc: A) -> Result<Vec<u8, A>, OutOfMemory>
     }
 }
 
-/// Writes what isn't written yet.
+/// Writes the bytes that aren't written yet.
 pub fn flush<A: Allocator, W: Sink>(sink: &mut W, room: &mut Vec<u8, A>) -> Result<(), RunError>
     requires { HasRoom room.old }
     ensures room { HasRoom room.new }
@@ -42,7 +42,7 @@ pub fn flush<A: Allocator, W: Sink>(sink: &mut W, room: &mut Vec<u8, A>) -> Resu
     Ok(())
 }
 
-/// Adds bytes. Those for which there is no room are written, after those before them.
+/// Adds bytes. If there is no room for them, they are written after those before them.
 pub fn put<A: Allocator, W: Sink>(
     sink: &mut W,
     room: &mut Vec<u8, A>,
@@ -86,7 +86,7 @@ fn keep<A: Allocator>(room: &mut Vec<u8, A>, bytes: &[u8])
     }
 }
 
-/// How an item is written.
+/// The way an item is written.
 pub trait InPieces<T> {
     ghost lines: { Self → T → List ℕ };
 

@@ -1,7 +1,8 @@
-//! Programs `NAME FILE [CUT ..]` that report on a file, given in the parts that the cuts (offsets in bytes) make
-//! of it.
+//! Programs `NAME FILE [CUT ..]` that report on a file, given in parts divided at the cuts (offsets in
+//! bytes).
 //!
-//! Where there is no report one line tells why, and the status is 3; after a write that failed nothing more is written.
+//! If there is no report, one line shows the reason, and the status is 3. After a failed write nothing more
+//! is written.
 ghost use Rattle.std.specs.Prelude.{◌≡◌, ◌<◌, ⊤, length, map, IfOk, IfErr, string_bytes};
 ghost use Rattle.nom_run.specs.Lines.{BeganReport, Told, WroteReport, WroteText, fault_text};
 ghost use Rattle.nom_run.specs.Asked.{Asks, IsWrong};
@@ -115,7 +116,8 @@ fn fault(error: RunError) -> &'static str
     }
 }
 
-/// Writes the line that tells why there is no report; answers the status. After a write that failed nothing is written.
+/// Writes the line that shows why there is no report, and returns the status. After a failed write it writes
+/// nothing.
 pub fn tell_fault<W: Sink>(sink: &mut W, error: RunError) -> u8
     ensures status { result ≡ 3 }
     ensures wrote { WroteText (W.held sink.old) (W.held sink.new) (W.failures sink.old) (W.failures sink.new)
@@ -126,8 +128,9 @@ pub fn tell_fault<W: Sink>(sink: &mut W, error: RunError) -> u8
     NO_REPORT
 }
 
-/// Writes the report on the file that the command line names, or the line that tells why there is none; answers
-/// the status.
+/// Writes the report on the file that the command line names, and returns the status.
+///
+/// If there is no report, it writes the line that shows the reason.
 pub fn status_of<R: Report, W: Sink>(
     rt: &(impl Env + Files + Alloc<A = Global>),
     report: &R,

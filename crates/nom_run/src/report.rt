@@ -1,4 +1,4 @@
-//! Reports on bytes, and what is common to them.
+//! Reports on bytes, and their common parts.
 ghost use Rattle.std.specs.Prelude.{◌≡◌, ◌++◌, ℕ, ◌<◌, ◌≤◌, List, IfOk, IfErr, length, slice_index, string_bytes};
 ghost use Rattle.nom_run.specs.Report.{IsBuilt, IsTold, IsToldStop};
 ghost use Rattle.nom_run.specs.Stream.{BeganSuch, MatchRunError, NoWriteFailed, NoneAbove, WriteFailed, WroteSuch};
@@ -12,15 +12,15 @@ use nom_error::answer::{Err, IResult, OutOfMemory};
 use nom_error::value::Error;
 use std::alloc::Allocator;
 
-/// What a program tells of the bytes of a file.
+/// A report of a program on the bytes of a file.
 pub trait Report {
     // Whether a text and a status are the report on bytes, given in the parts that cuts make of them.
     ghost is_report: { List ℕ → List ℕ → List ℕ → ℕ → Type 0 };
 
-    /// Writes the text of the report on `bytes`, given in the parts that `cuts` (offsets in bytes) make of them, and answers
-    /// the status.
+    /// Writes the text of the report on `bytes`, and returns the status.
     ///
-    /// Where memory runs out nothing was written. A failed write is not tried again.
+    /// The bytes are given in parts divided at `cuts` (offsets in bytes). If memory runs out, nothing was
+    /// written. A failed write is not tried again.
     fn write<A: Allocator + Copy, W: Sink>(
         &self,
         alloc: A,
@@ -36,7 +36,7 @@ pub trait Report {
             (sink.new ≡ sink.old) ⊥) };
 }
 
-/// Writes a text that was built whole, and answers its status.
+/// Writes a text that was built whole, and returns its status.
 pub fn write_built<A: Allocator, W: Sink>(
     built: Result<(String<A>, u8), OutOfMemory>,
     sink: &mut W,
@@ -58,7 +58,7 @@ pub fn write_built<A: Allocator, W: Sink>(
     }
 }
 
-/// Which lines a report has of an item that a grammar gives.
+/// The lines that a report has for an item of a grammar.
 pub trait Lines<T> {
     ghost lines: { Self → T → List ℕ };
 
@@ -97,7 +97,7 @@ fn add_accepted<A: Allocator + Copy, T, L: Lines<T>>(
     add_rest(text, rest)
 }
 
-/// The text and the status for an answer on a beginning of a length, at the cut of an index.
+/// Returns the text and the status for an answer on a beginning of length `beginning`, at the cut of `index`.
 pub fn tell<'a, A: Allocator + Copy, T: Drop, L: Lines<T>>(
     alloc: A,
     report: &L,
@@ -117,7 +117,7 @@ pub fn tell<'a, A: Allocator + Copy, T: Drop, L: Lines<T>>(
     }
 }
 
-/// The length of the beginning at the cut of an index; the number of cuts stands for the whole.
+/// Returns the length of the beginning at the cut of an index. The number of cuts means the whole.
 pub fn beginning_len(whole: usize, cuts: &[usize], index: usize) -> usize
     ensures at_cut { index < length cuts.now → result ≡ slice_index cuts.now index }
     ensures at_end { length cuts.now ≤ index → result ≡ whole }

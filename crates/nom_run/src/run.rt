@@ -67,7 +67,7 @@ fn read_all<A: Allocator, S: Source>(source: &mut S, bytes: &mut Vec<u8, A>) -> 
 
 /// Writes the text, in as many calls as it takes.
 ///
-/// A failed call is not tried again, and a write that takes no byte is a failure: both are `Write`.
+/// A failed call is not tried again, and a write that takes no byte is a failure. Both are `Write`.
 pub fn write_all<W: Sink>(sink: &mut W, text: &[u8]) -> Result<(), RunError>
     ensures none { text.now ≡ [] → sink.new ≡ sink.old }
     ensures stalls { IfOk result (λ _. W.stalls sink.new ≡ W.stalls sink.old) }
@@ -90,13 +90,14 @@ pub fn write_all<W: Sink>(sink: &mut W, text: &[u8]) -> Result<(), RunError>
     Ok(())
 }
 
-/// Reads the source to its end and writes the report on what it gave, in the parts that the cuts
-/// (offsets in bytes) make of it; answers the status.
+/// Reads the source to its end, writes the report on its bytes, and returns the status.
 ///
-/// `Usage` where a cut is below the one before, before anything is read, or above the length, after
-/// reading. A failed call is not tried again, and a write that takes no byte is a failure. All memory that the report
-/// takes is taken before its first byte is written. `OutOfMemory` only where something could grow: some bytes were read,
-/// or the source came to its end and there is a report to build.
+/// The bytes are given in parts divided at the cuts (offsets in bytes). A cut below the one before is
+/// `Usage`, before anything is read. A cut above the length is `Usage`, after reading.
+///
+/// A failed call is not tried again, and a write that takes no byte is a failure. All memory of the report is
+/// taken before its first byte is written. `OutOfMemory` is answered only if something could grow. Either
+/// some bytes were read, or the source came to its end and there is a report to build.
 pub fn run<A: Allocator + Copy, R: Report, S: Source, W: Sink>(
     alloc: A,
     report: &R,

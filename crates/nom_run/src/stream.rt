@@ -1,4 +1,4 @@
-//! Where bytes come from and where they go, one call at a time.
+//! Sources and sinks of bytes, one call at a time.
 ghost use Rattle.std.specs.Prelude.{◌≡◌, ℕ, ◌+◌, ◌<◌, ◌≤◌, List, Option, length};
 ghost use Rattle.std.specs.Io.{ReadsAtMost, WritesAtMost};
 ghost use Rattle.std.specs.Io.KnownBytes.{ReadConsumes, WriteAppends};
@@ -6,7 +6,7 @@ ghost use Rattle.nom_run.specs.Stream.{CountsErr, CountsStall, one_more};
 
 use crate::error::Fault;
 
-/// Bytes that come in.
+/// A source of bytes.
 pub trait Source {
     // How many calls were made, of what gives or takes the bytes; it stays at the greatest `u64`.
     ghost calls: { Self → ℕ };
@@ -17,8 +17,9 @@ pub trait Source {
     // The bytes that reads will give from here on, where they are known.
     ghost left: { Self → Option (List ℕ) };
 
-    /// Reads some bytes into the front of `room` and tells how many. None read into room that isn't
-    /// empty is the end.
+    /// Reads some bytes into the start of `room`, and returns their number.
+    ///
+    /// If no byte is read into nonempty room, the source has ended.
     fn read(&mut self, room: &mut [u8]) -> Result<usize, Fault>
         ensures bound { ReadsAtMost result room.new }
         ensures bytes { ReadConsumes (left self.old) (left self.new) result room.new }
@@ -26,7 +27,7 @@ pub trait Source {
         ensures counts { CountsErr (failures self.old) (failures self.new) result };
 }
 
-/// Bytes that go out.
+/// A sink for bytes.
 pub trait Sink {
     // How many calls were made, of what gives or takes the bytes; it stays at the greatest `u64`.
     ghost calls: { Self → ℕ };
@@ -40,7 +41,7 @@ pub trait Sink {
     // The bytes that were written, where they are known.
     ghost held: { Self → Option (List ℕ) };
 
-    /// Writes some bytes of the front of `bytes` and tells how many.
+    /// Writes some bytes from the start of `bytes`, and returns their number.
     fn write(&mut self, bytes: &[u8]) -> Result<usize, Fault>
         ensures bound { WritesAtMost result bytes.now }
         ensures bytes { WriteAppends (held self.old) (held self.new) result bytes.now }

@@ -1,5 +1,6 @@
-//! The lines of a report. Each function adds one to a text; after `OutOfMemory` the text may hold a
-//! part of it.
+//! The lines of a report.
+//!
+//! Each function adds one to a text. After `OutOfMemory` the text may hold a part of it.
 ghost use Rattle.std.specs.Prelude.{◌≡◌, ◌++◌, ◌/◌, ◌%◌, [], ◌∷◌, IfOk, codes, string_bytes};
 ghost use Rattle.std.specs.Fmt.{decimal};
 ghost use Rattle.nom_internal.specs.Prelude.{size_of};
@@ -10,8 +11,9 @@ use nom_error::kind::ErrorKind;
 use std::alloc::Allocator;
 use std::fmt::Write;
 
-/// Adds `decided at` and the index of the cut at which the answer was decided; the number of cuts
-/// stands for the whole.
+/// Adds `decided at` and the index of the cut at which the answer was decided.
+///
+/// The number of cuts means the whole.
 pub fn add_decided<A: Allocator + Copy>(
     text: &mut String<A>,
     index: usize,
@@ -22,7 +24,7 @@ pub fn add_decided<A: Allocator + Copy>(
     Ok(())
 }
 
-/// Adds `rest` and how many bytes are left.
+/// Adds `rest` and the number of bytes that are left.
 pub fn add_rest<A: Allocator + Copy>(text: &mut String<A>, count: usize) -> Result<(), OutOfMemory>
     ensures { IfOk result (λ _. string_bytes text.new ≡ string_bytes text.old ++ rest_text count) }
 {
@@ -30,7 +32,7 @@ pub fn add_rest<A: Allocator + Copy>(text: &mut String<A>, count: usize) -> Resu
     Ok(())
 }
 
-/// Adds `error`, the kind of a refusal, and the offset in bytes at which it lies.
+/// Adds `error`, the kind of a refusal, and its offset in bytes.
 pub fn add_error<A: Allocator + Copy>(
     text: &mut String<A>,
     kind: ErrorKind,
@@ -43,7 +45,7 @@ pub fn add_error<A: Allocator + Copy>(
     Ok(())
 }
 
-/// Adds `failure`, the kind of a failure, and the offset in bytes at which it lies.
+/// Adds `failure`, the kind of a failure, and its offset in bytes.
 pub fn add_failure<A: Allocator + Copy>(
     text: &mut String<A>,
     kind: ErrorKind,
@@ -56,7 +58,7 @@ pub fn add_failure<A: Allocator + Copy>(
     Ok(())
 }
 
-/// Adds `need` and how much more is needed, or `more` where that isn't known.
+/// Adds `need` and how much more is needed, or `more` if that isn't known.
 pub fn add_need<A: Allocator + Copy>(
     text: &mut String<A>,
     needed: Needed,
@@ -89,7 +91,7 @@ pub fn add_hex<A: Allocator + Copy>(text: &mut String<A>, bytes: &[u8]) -> Resul
     Ok(())
 }
 
-/// Adds a text as it is.
+/// Adds a text unchanged.
 pub fn add_words<A: Allocator + Copy>(text: &mut String<A>, words: &str) -> Result<(), OutOfMemory>
     ensures { IfOk result (λ _. string_bytes text.new ≡ string_bytes text.old ++ words.now) }
 {
@@ -120,7 +122,7 @@ fn add_count<A: Allocator + Copy>(
     Ok(())
 }
 
-/// Adds a line for bytes: their name, with the space after it, their count, and the bytes in base 16 where there
+/// Adds a line for bytes: their name with the space after it, their count, and the bytes in base 16 if there
 /// are any.
 pub fn add_bytes<A: Allocator + Copy>(
     text: &mut String<A>,

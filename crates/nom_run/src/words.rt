@@ -1,4 +1,4 @@
-//! Cuts, as words write them.
+//! Cuts, as words define them.
 ghost use Rattle.std.specs.Prelude.{◌≡◌, ◌++◌, [], ◌∷◌, map, IfOk, IfErr, MatchOption};
 ghost use Rattle.nom_run.specs.Stream.{MatchRunError};
 ghost use Rattle.nom_run.specs.Words.{IsNumber, word_number, Numbers, BadWord, StartsWithNumbers};
@@ -24,8 +24,10 @@ fn add_cut<A: Allocator>(cuts: &mut Vec<usize, A>, cut: usize) -> Result<(), Out
     Ok(())
 }
 
-/// The numbers that the words write. `Usage` where one isn't one or more decimal digits, doesn't fit,
-/// or writes a number below the one before. `OutOfMemory` only after a word whose number could be added.
+/// Returns the numbers that the words spell.
+///
+/// The answer is `Usage` if a word isn't one or more decimal digits, doesn't fit, or spells a number below
+/// the one before. It is `OutOfMemory` only after a word whose number could be added.
 pub fn read_cuts<A: Allocator + Copy>(alloc: A, words: &[&str]) -> Result<Vec<usize, A>, RunError>
     ensures numbers { IfOk result (λ v. Numbers (map (λ w. w.now) words.now) v.items) }
     ensures error { IfErr result (λ e. MatchRunError e ⊥ ⊥ (StartsWithNumbers (map (λ w. w.now) words.now)) (BadWord (map (λ w. w.now) words.now))) }

@@ -1,4 +1,4 @@
-//! Parsers made of parsers in sequence.
+//! Parsers that run other parsers in sequence.
 #![tactic(auto)]
 
 ghost use Rattle.std.specs.Prelude.{◌≡◌};
@@ -8,7 +8,9 @@ mod parts;
 pub use crate::parts::{Preceded, Terminated};
 use nom_internal::sequence::And;
 
-/// One parser after another, with both outputs.
+/// Runs `first` and then `second`, and returns both outputs.
+///
+/// `pair(tag("ab"), tag("cd"))` on `"abcde"` returns `("ab", "cd")` and leaves `"e"`.
 #[inline(always)]
 pub fn pair<F, G>(first: F, second: G) -> And<F, G>
     ensures first { result.first ≡ first }
@@ -17,7 +19,10 @@ pub fn pair<F, G>(first: F, second: G) -> And<F, G>
     And { first, second }
 }
 
-/// One parser after another, with the second's output; of the first nothing is built.
+/// Runs `first` and then `second`, and returns the output of `second`.
+///
+/// The output of `first` isn't built. `preceded(tag("ab"), tag("cd"))` on `"abcde"` returns `"cd"` and leaves
+/// `"e"`.
 #[inline(always)]
 pub fn preceded<F, G>(first: F, second: G) -> Preceded<F, G>
     ensures first { result.first ≡ first }
@@ -26,7 +31,10 @@ pub fn preceded<F, G>(first: F, second: G) -> Preceded<F, G>
     Preceded { first, second }
 }
 
-/// One parser after another, with the first's output; of the second nothing is built.
+/// Runs `first` and then `second`, and returns the output of `first`.
+///
+/// The output of `second` isn't built. `terminated(tag("ab"), tag("cd"))` on `"abcde"` returns `"ab"` and
+/// leaves `"e"`.
 #[inline(always)]
 pub fn terminated<F, G>(first: F, second: G) -> Terminated<F, G>
     ensures first { result.first ≡ first }
@@ -35,7 +43,10 @@ pub fn terminated<F, G>(first: F, second: G) -> Terminated<F, G>
     Terminated { first, second }
 }
 
-/// Two parsers with another between them, with the outputs of the two; of the separator nothing is built.
+/// Runs `first`, `sep` and `second`, and returns the outputs of `first` and `second`.
+///
+/// The output of the separator isn't built. `separated_pair(tag("a"), tag(","), tag("b"))` on `"a,bc"`
+/// returns `("a", "b")` and leaves `"c"`.
 #[inline(always)]
 pub fn separated_pair<F, G, H>(first: F, sep: G, second: H) -> And<F, Preceded<G, H>>
     ensures first { result.first ≡ first }
@@ -45,7 +56,10 @@ pub fn separated_pair<F, G, H>(first: F, sep: G, second: H) -> And<F, Preceded<G
     pair(first, preceded(sep, second))
 }
 
-/// A parser between two others, with its output; of the others nothing is built.
+/// Runs `first`, `second` and `third`, and returns the output of `second`.
+///
+/// The outputs of the other two aren't built. `delimited(tag("("), tag("a"), tag(")"))` on `"(a)b"` returns
+/// `"a"` and leaves `"b"`.
 #[inline(always)]
 pub fn delimited<F, G, H>(first: F, second: G, third: H) -> Preceded<F, Terminated<G, H>>
     ensures first { result.first ≡ first }

@@ -9,7 +9,7 @@ use nom_error::mode::{Check, OutputM, OutputMode};
 use nom_internal::parser::{Parser, StreamParser};
 use nom_traits::input::Items;
 
-/// One parser after another, with the second's output; made by `preceded`.
+/// The parser that `preceded` returns.
 #[derive(Drop)]
 pub struct Preceded<F, G> {
     pub first: F,
@@ -53,7 +53,7 @@ impl<I: Items, F: StreamParser<I> + Drop, G: StreamParser<I, Error = F::Error> +
     ghost steady = { λ s k. preceded_steady I.lawful (F.steady s.0 k.0) (G.steady s.1 k.1) };
 }
 
-/// One parser after another, with the first's output; made by `terminated`.
+/// The parser that `terminated` returns.
 #[derive(Drop)]
 pub struct Terminated<F, G> {
     pub first: F,

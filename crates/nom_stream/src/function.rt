@@ -13,18 +13,19 @@ use nom_traits::rests::CutRest;
 use nom_traits::view::Viewed;
 use std::marker::PhantomData;
 
-/// A function as the parser of items; made by `item_func`.
+/// The parser of items that `item_func` returns: a function.
 #[derive(Drop)]
 pub struct ItemFunc<F, O> {
     pub f: F,
     pub of: PhantomData<O>,
 }
 
-/// A function as the parser of items, as `stream_func`: one that parses by `parse`, so that it asks for more bytes where these
-/// don't decide.
+/// Returns a parser of items that calls the function `f`, as `stream_func` does.
 ///
-/// It asks that the function may be called with all bytes, and nothing else; its laws ask what those of `stream_func` do. The
-/// function isn't told where the data ends: an item that it can't decide there is `Stop::Incomplete`.
+/// The function parses by `parse`. It therefore needs more bytes if the present ones don't decide. It must
+/// accept calls with any bytes; nothing else is required of it. The laws require what those of `stream_func`
+/// do. The function doesn't know where the data ends: an item that it can't decide there is
+/// `Stop::Incomplete`.
 #[inline(always)]
 pub fn item_func<O, F: Fn(&[u8]) -> IResult<&[u8], O>>(f: F) -> ItemFunc<F, O>
     ensures { result.f ≡ f }

@@ -1,4 +1,4 @@
-//! What an item is.
+//! The grammar of an item.
 ghost use Rattle.std.specs.Prelude.{◌≡◌, ℕ, List};
 ghost use Rattle.std.specs.Borrow.{Bor};
 ghost use Rattle.nom_error.specs.declared.value.Error.{Error};
@@ -11,13 +11,15 @@ use nom_error::value::Error;
 use nom_internal::parser::StreamParser;
 use nom_traits::input::Items;
 
-/// A parser of items, and what is made of each. An item owns what it holds, or holds lengths and offsets of its bytes:
-/// what borrows from the input is used within `item`.
+/// A parser of items, and the value of each.
+///
+/// An item owns its content, or holds lengths and offsets of its bytes. Values that borrow from the input are
+/// used within `item`.
 pub trait Grammar {
-    /// What is made of an item.
+    /// The value of an item.
     type Item: Drop;
 
-    /// What of the grammar its meaning depends on.
+    /// The part of the grammar on which its meaning depends.
     ghost State: { Type 0 };
 
     ghost state: { Self → State };
@@ -25,11 +27,12 @@ pub trait Grammar {
     /// The parse trees of items.
     ghost Tree: { Type 0 };
 
-    /// The grammar over bytes: what it means, and which item a tree stands for.
+    /// The grammar over bytes: its meaning, and the item that a tree represents.
     ghost grammar: { State → Grammars.Grammar (Bor (List ℕ)) Tree Self.Item (Error (Bor (List ℕ))) };
 
-    /// Parses one item at the start of the input, by whether more input may come. The laws of the meaning come with the
-    /// answer: `parse_item` gives them for every stream parser.
+    /// Parses one item at the start of the input. `more` says whether more input may come.
+    ///
+    /// The laws of the meaning come with the answer. `parse_item` provides them for every stream parser.
     fn item<'a>(&mut self, input: &'a [u8], more: bool) -> IResult<&'a [u8], Self::Item>
         requires runs { (grammar (state self.old)).meaning.Runs }
         ensures parses { ParsesItem (grammar (state self.old)) more input.entry result }
@@ -42,8 +45,9 @@ fn laws_of<I: Items, P: StreamParser<I>>(_parser: &P)
     ensures steady { (P.grammar (P.state _parser.now)).meaning.IsSound → IsSteady I.model (P.grammar (P.state _parser.now)).meaning }
 {}
 
-/// What a stream parser answers at an input, by whether more may come: the body of `Grammar::item` for any parser of this
-/// library.
+/// Returns the answer of a stream parser at an input. `more` says whether more input may come.
+///
+/// It is the body of `Grammar::item` for any parser of this library.
 #[inline(always)]
 pub fn parse_item<'a, P: StreamParser<&'a [u8], Error = Error<&'a [u8]>> + Drop>(
     mut parser: P,

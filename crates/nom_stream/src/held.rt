@@ -10,8 +10,9 @@ use std::alloc::Allocator;
 use std::io;
 use std::io::Read;
 
-/// The bytes that were read and aren't used yet: those of the buffer from `start` up to `end`. After these it has
-/// room for more, and before them those that were used.
+/// The bytes that were read and aren't used yet: those of the buffer from `start` up to `end`.
+///
+/// The buffer has room for more bytes after them. Before them it has those that were used.
 #[derive(Drop)]
 pub struct Held<A: Allocator> {
     pub bytes: Vec<u8, A>,
@@ -23,7 +24,7 @@ pub struct Held<A: Allocator> {
 const SMALL: usize = 4096;
 
 impl<A: Allocator> Held<A> {
-    /// None yet.
+    /// Returns a buffer that holds no bytes.
     pub fn new(alloc: A) -> Self
         ensures within { IsWithin result }
         ensures none { held_of result ≡ [] }
@@ -36,7 +37,7 @@ impl<A: Allocator> Held<A> {
         }
     }
 
-    /// How many there are.
+    /// Returns the number of held bytes.
     #[inline(always)]
     pub fn len(&self) -> usize
         requires { IsWithin self.now }
@@ -45,7 +46,7 @@ impl<A: Allocator> Held<A> {
         self.end - self.start
     }
 
-    /// The bytes.
+    /// Returns the held bytes.
     #[inline(always)]
     pub fn as_slice(&self) -> &[u8]
         requires { IsWithin self.now }
@@ -54,7 +55,7 @@ impl<A: Allocator> Held<A> {
         &self.bytes[self.start..self.end]
     }
 
-    /// The last bytes that were used.
+    /// Returns the last `count` used bytes.
     pub fn last(&self, count: usize) -> &[u8]
         requires within { IsWithin self.now }
         requires count { count ≤ self.now.start }
@@ -63,7 +64,7 @@ impl<A: Allocator> Held<A> {
         &self.bytes[self.start - count..self.start]
     }
 
-    /// The first bytes are used.
+    /// Marks the first `count` bytes as used.
     #[inline(always)]
     pub fn consume(&mut self, count: usize)
         requires within { IsWithin self.old }
@@ -76,8 +77,10 @@ impl<A: Allocator> Held<A> {
         self.start += count;
     }
 
-    /// All but the last bytes are used: that many are left. The start follows from the end, which stays, with no step by way
-    /// of the bytes that are used: the next parse waits for it.
+    /// Marks all but the last `left` bytes as used.
+    ///
+    /// The start is computed from the end, which stays, without a step by way of the used bytes. The next
+    /// parse waits for it.
     #[inline(always)]
     pub fn leave(&mut self, left: usize)
         requires within { IsWithin self.old }
@@ -90,7 +93,7 @@ impl<A: Allocator> Held<A> {
         self.start = self.end - left;
     }
 
-    /// Moves the bytes to the front, over those that are used.
+    /// Moves the bytes to the front of the buffer, over the used ones.
     pub fn settle(&mut self)
         requires { IsWithin self.old }
         ensures within { IsWithin self.new }
@@ -107,7 +110,7 @@ impl<A: Allocator> Held<A> {
         self.end = end - start;
     }
 
-    /// Makes room for that many more bytes after them. The buffer never gets shorter.
+    /// Makes room for `count` more bytes after the held ones. The buffer never gets shorter.
     pub fn make_room(&mut self, count: usize) -> Result<(), OutOfMemory>
         requires within { IsWithin self.old }
         requires fits { self.old.end + count < 2 ^ 64 }
@@ -133,8 +136,9 @@ impl<A: Allocator> Held<A> {
         }
     }
 
-    /// Makes room for that many more bytes after them, and may move them to the front. The buffer gets longer than `most` only
-    /// where these bytes make it so.
+    /// Makes room for `count` more bytes after the held ones, and may move these to the front of the buffer.
+    ///
+    /// The buffer gets longer than `most` only if the held bytes and the new ones require it.
     #[inline(always)]
     pub fn find_room(&mut self, count: usize, most: usize) -> Result<(), OutOfMemory>
         requires within { IsWithin self.old }
@@ -174,7 +178,7 @@ impl<A: Allocator> Held<A> {
         }
     }
 
-    /// One read of that many bytes at the most, after them; made again where it is interrupted.
+    /// Makes one read of at most `count` bytes, after the held ones. An interrupted read is made again.
     pub fn read_from<R: Read>(&mut self, source: &mut Reader<R>, count: usize) -> io::Result<usize>
         requires within { IsWithin self.old }
         requires room { self.old.end + count ≤ vec_len self.old.bytes }
@@ -198,7 +202,7 @@ impl<A: Allocator> Held<A> {
         }
     }
 
-    /// The bytes, without those that are used.
+    /// Returns the held bytes, without the used ones.
     pub fn into_vec(mut self) -> Vec<u8, A>
         requires { IsWithin self }
         ensures { result.items ≡ held_of self }

@@ -1,5 +1,6 @@
-//! Items from a reader, one after another: each byte is read once, what is decided is parsed once, and no more is held
-//! than a limit says.
+//! Items from a reader, one after another.
+//!
+//! Each byte is read once, and decided bytes are parsed once. No more is held than a limit allows.
 #![tactic(auto)]
 
 pub mod function;

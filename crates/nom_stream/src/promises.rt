@@ -1,5 +1,5 @@
-//! What the items of every stream promise, where their grammar is sound. These functions do nothing: their contracts are the
-//! promises.
+//! The promises of the items of every stream, if their grammar is sound. These functions do nothing: their
+//! contracts are the promises.
 ghost use Rattle.nom_stream.specs.Repeats.{ParsesFew};
 ghost use Rattle.nom_stream.specs.Wholes.{AnswersWhole, BytesOfWhole, ItemsOfWhole};
 
@@ -9,11 +9,14 @@ use crate::stream::Stream;
 use std::alloc::Allocator;
 use std::io::Read;
 
-/// For every way in which a reader gives its bytes: an answer of `next_item` tells the outcome of the grammar at all
-/// the bytes that no item had, which are those that are held and those that the reader has left. An item is the
-/// one that is accepted there, with as many bytes; a refusal is one, and so is a failure, unless it is that what is
-/// lacking of a beginning is too large; `Incomplete` is told where all is held and more is needed; and `None` where
-/// nothing is left.
+/// An answer of `next_item` reports the outcome of the grammar at all the bytes that no item had.
+///
+/// Those bytes are the held ones and the ones that the reader has left. This is true however the reader
+/// delivers its bytes.
+///
+/// An item is the one that is accepted there, with as many bytes. A refusal is a refusal there. A failure is
+/// one too, unless it means that the missing part of a beginning is too large. `Incomplete` means that all is
+/// held and more is needed. `None` means that nothing is left.
 pub fn answers_of_whole<R: Read, A: Allocator + Copy, G: Grammar>(
     _stream: &Stream<R, A>,
     _grammar: &G,
@@ -22,9 +25,12 @@ pub fn answers_of_whole<R: Read, A: Allocator + Copy, G: Grammar>(
     ensures { AnswersWhole A R.remaining (G.grammar (G.state _grammar.now)) }
 {}
 
-/// For every way in which a reader gives its bytes: the items that calls of `next_item` give, one after another, are
-/// those that `iterator` gives of the whole (`AreItems`), in order, each where the one before ended. The offset counts
-/// their bytes. Calls that gave no item, as where a read failed or memory ran out, change nothing.
+/// Successive calls of `next_item` return the items that `iterator` returns for the whole (`AreItems`), in
+/// order.
+///
+/// Each item begins where the one before ended. This is true however the reader delivers its bytes. The
+/// offset counts the bytes of the items. Calls that returned no item change nothing, for example if a read
+/// failed or memory ran out.
 pub fn items_of_whole<R: Read, A: Allocator + Copy, G: Grammar>(
     _stream: &Stream<R, A>,
     _grammar: &G,
@@ -33,8 +39,10 @@ pub fn items_of_whole<R: Read, A: Allocator + Copy, G: Grammar>(
     ensures { ItemsOfWhole A R.remaining (G.grammar (G.state _grammar.now)) }
 {}
 
-/// For every way in which a reader gives its bytes: those of an item, which `last` lends after the call that gave it, are
-/// the first ones of all the bytes that no item had before.
+/// The bytes of an item are the first ones of all the bytes that no item had before.
+///
+/// `last` borrows them after the call that returned the item. This is true however the reader delivers its
+/// bytes.
 pub fn bytes_of_whole<R: Read, A: Allocator + Copy, G: Grammar>(
     _stream: &Stream<R, A>,
     _grammar: &G,
@@ -42,9 +50,11 @@ pub fn bytes_of_whole<R: Read, A: Allocator + Copy, G: Grammar>(
     ensures { BytesOfWhole A R.remaining (G.grammar (G.state _grammar.now)) }
 {}
 
-/// With patience, for every way in which a reader gives its bytes, and whatever a parser asks for: the parses that left an
-/// item undecided, each before as many bytes were read as were wanted (`AreFillings`), were together of at most as many bytes
-/// as are held then.
+/// With patience, the parses that left an item undecided took together at most as many bytes as are held
+/// then.
+///
+/// After each such parse, as many bytes were read as were wanted (`AreFillings`). This is true however the
+/// reader delivers its bytes, and whatever a parser needs.
 pub fn parses_few<G: Grammar>(_settings: &Settings, _grammar: &G)
     ensures { ParsesFew (G.grammar (G.state _grammar.now)) _settings.now }
 {}

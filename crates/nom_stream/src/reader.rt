@@ -8,16 +8,18 @@ ghost use Rattle.nom_stream.specs.Readers.{CountsCall, CountsRead, OneFault};
 use std::io;
 use std::io::{ErrorKind, Read};
 
-/// A reader of std, with the count of its reads that failed. An interrupted read hasn't failed: it is made again.
+/// A reader of std, with the count of its failed reads.
 ///
-/// A trait of std says nothing of how often it is called, nor of its errors. So that `call` calls the reader just once is read
-/// in its first line, and not proved.
+/// An interrupted read hasn't failed: it is made again.
+///
+/// A trait of std says nothing about how often it is called, nor about its errors. The first line of `call`
+/// shows that it calls the reader exactly once; this isn't proved.
 #[derive(Drop)]
 pub struct Reader<R> {
     pub inner: R,
-    /// How many reads failed; it stays at the greatest `u64`.
+    /// The number of failed reads. It stays at the greatest `u64`.
     pub faults: u64,
-    /// The error of the last one.
+    /// The error of the last failed read.
     pub last_fault: Option<io::Error>,
 }
 
@@ -29,7 +31,7 @@ fn is_interrupted(error: io::Error) -> bool
 }
 
 impl<R> Reader<R> {
-    /// Counts from 0.
+    /// Returns a reader whose count starts at 0.
     pub fn new(inner: R) -> Self
         ensures inner { result.inner ≡ inner }
         ensures none { (result.faults ≡ 0) × (result.last_fault ≡ None) }
@@ -41,7 +43,7 @@ impl<R> Reader<R> {
         }
     }
 
-    /// The reader.
+    /// Returns the inner reader.
     pub fn into_inner(self) -> R
         ensures { result ≡ self.inner }
     {
@@ -78,7 +80,9 @@ impl<R: Read> Reader<R> {
         }
     }
 
-    /// One read, made again where it is interrupted. One that is interrupted 2^64 - 1 times has failed.
+    /// Makes one read, and makes it again if it is interrupted.
+    ///
+    /// A read that is interrupted 2^64 - 1 times has failed.
     pub fn read(&mut self, room: &mut [u8]) -> io::Result<usize>
         ensures bound { ReadsAtMost result room.new }
         ensures bytes { ReadConsumes (R.remaining self.old.inner) (R.remaining self.new.inner) result room.new }

@@ -1,4 +1,4 @@
-//! One item from what is held.
+//! One item from the held bytes.
 ghost use Rattle.std.specs.Prelude.{◌≡◌, MatchOption};
 ghost use Rattle.nom_stream.specs.Held.{held_of, IsWithin};
 ghost use Rattle.nom_stream.specs.Items.{IsStopped, HoldsLast, IsUndecided, Stays, Takes};
@@ -12,18 +12,18 @@ use nom_error::value::Error;
 use nom_traits::input::Items;
 use std::alloc::Allocator;
 
-/// What one parse of what is held gives.
+/// The result of one parse of the held bytes.
 #[derive(Drop)]
 pub enum Taken<T> {
-    /// An item of some bytes, which aren't held any more.
+    /// An item with the number of its bytes, which are no longer held.
     Item(usize, T),
     /// An item of no bytes.
     Nothing,
     /// The bytes don't decide.
     Undecided(Needed),
-    /// A refusal, with the kind of its error, and the length of the input that the error holds.
+    /// A refusal, with the kind of its error and the length of the input that the error holds.
     Refused(ErrorKind, usize),
-    /// A failure, likewise.
+    /// A failure, with the kind of its error and the length of the input that the error holds.
     Failed(ErrorKind, usize),
     /// Memory ran out in the parser.
     OutOfMemory,
@@ -41,7 +41,9 @@ fn stopped<T>(stop: Err<Error<&[u8]>>) -> Taken<T>
     }
 }
 
-/// Parses what is held, by whether more may come, and takes the bytes of an accepted item; nothing else is taken.
+/// Parses the held bytes, and takes the bytes of an accepted item.
+///
+/// `more` says whether more bytes may come. Nothing else is taken.
 #[inline(always)]
 pub fn take<A: Allocator, G: Grammar>(
     held: &mut Held<A>,
@@ -74,7 +76,7 @@ pub fn take<A: Allocator, G: Grammar>(
     }
 }
 
-/// What is needed where the bytes don't decide.
+/// Returns what is needed, if the bytes don't decide.
 #[inline(always)]
 pub fn needed_of<T>(taken: &Taken<T>) -> Option<Needed>
     ensures { MatchOption result (IsUndecided taken.now → ⊥) (λ k. taken.now ≡ Undecided k) }

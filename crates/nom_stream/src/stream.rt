@@ -16,7 +16,7 @@ use std::alloc::Allocator;
 use std::io;
 use std::io::Read;
 
-/// Why bytes couldn't be read.
+/// The reason why bytes couldn't be read.
 #[derive(Clone, Copy, Debug)]
 pub enum Unread {
     /// A read failed.
@@ -25,19 +25,22 @@ pub enum Unread {
     OutOfMemory,
 }
 
-/// Why there is no item. Nothing that was read is lost: it is held, and the item begins at the stream's offset.
+/// The reason why there is no item.
+///
+/// No byte that was read is lost. It is held, and the item begins at the stream's offset.
 #[derive(Clone, Copy, Debug)]
 pub enum Stop {
-    /// The item was refused, with the kind of the error, and the length of the input that the error holds: of what was
-    /// held, or of a part of it that a parser cut off, as `length_value` does.
+    /// The item was refused, with the kind of the error and the length of the input that the error holds.
+    ///
+    /// The error's input is the held bytes, or a part of them that a parser cut off, as `length_value` does.
     Refused(ErrorKind, usize),
-    /// The item failed, likewise.
+    /// The item failed, with the kind of the error and the length of the input that the error holds.
     Failed(ErrorKind, usize),
-    /// The item has no bytes, so that there would be no end of such items.
+    /// The item has no bytes. Such items would never end.
     Nothing,
     /// The data ended within the item.
     Incomplete(Needed),
-    /// As many bytes are held as may be, and the item isn't decided by them.
+    /// As many bytes are held as may be, and they don't decide the item.
     TooLong,
     /// A read failed, other than by an interruption. The call can be made again.
     Fault(io::Error),
@@ -51,17 +54,19 @@ pub struct Stream<R, A: Allocator> {
     pub source: Reader<R>,
     pub held: Held<A>,
     pub settings: Settings,
-    /// How many bytes the items had so far; it stays at the greatest `u64`.
+    /// The number of bytes of the items so far. It stays at the greatest `u64`.
     pub offset: u64,
-    /// Whether the reader has come to its end.
+    /// Whether the reader has reached its end.
     pub ended: bool,
-    /// The error of a read that failed after others had given bytes, and that wasn't told, since these decided. It is told
-    /// before anything else is read.
+    /// The error of a failed read that isn't reported yet.
+    ///
+    /// The read failed after others had given bytes, and these decided. The error is reported before anything
+    /// else is read.
     pub untold: Option<io::Error>,
 }
 
 impl<R: Read, A: Allocator + Copy> Stream<R, A> {
-    /// A stream from where a reader stands.
+    /// Returns a stream that starts at the reader's present place.
     pub fn new(alloc: A, source: R, settings: Settings) -> Self
         ensures open { IsOpen R.remaining result }
         ensures source { (result.source.inner ≡ source) × (result.source.faults ≡ 0) }
@@ -213,11 +218,13 @@ impl<R: Read, A: Allocator + Copy> Stream<R, A> {
         self.finish(needed, grammar)
     }
 
-    /// The next item, with how many bytes it has; none at the end of the data.
+    /// Returns the next item with the number of its bytes, or `None` at the end of the data.
     ///
-    /// What is held is parsed. Where it isn't decided more is read, and it is parsed again. An item's bytes aren't held
-    /// any more, but `last` lends them until the next call. After a `Stop` all is held, and the call can be made again. At a
-    /// fault what is held doesn't decide, nor where there is no room for more. At the end no more is read.
+    /// It parses the held bytes. If they don't decide, it reads more and parses again. An item's bytes are no
+    /// longer held, but `last` borrows them until the next call. At the end no more is read.
+    ///
+    /// After a `Stop` all bytes are held, and the call can be made again. At a fault the held bytes don't
+    /// decide; the same is true if there is no room for more.
     #[inline(always)]
     pub fn next_item<G: Grammar>(
         &mut self,
@@ -259,7 +266,7 @@ impl<R: Read, A: Allocator + Copy> Stream<R, A> {
         }
     }
 
-    /// The bytes of the last item, by how many they are.
+    /// Returns the bytes of the last item; `used` is how many they are.
     pub fn last(&self, used: usize) -> &[u8]
         requires open { IsOpen R.remaining self.now }
         requires used { used ≤ self.now.held.start }
@@ -268,7 +275,7 @@ impl<R: Read, A: Allocator + Copy> Stream<R, A> {
         self.held.last(used)
     }
 
-    /// The bytes that were read and that no item had.
+    /// Returns the bytes that were read and that no item had.
     pub fn held(&self) -> &[u8]
         requires { IsOpen R.remaining self.now }
         ensures { result.now ≡ held_of self.now.held }
@@ -276,7 +283,7 @@ impl<R: Read, A: Allocator + Copy> Stream<R, A> {
         self.held.as_slice()
     }
 
-    /// The reader, and the bytes that were read and that no item had.
+    /// Returns the reader, and the bytes that were read and that no item had.
     pub fn into_parts(self) -> (R, Vec<u8, A>)
         requires { IsOpen R.remaining self }
         ensures source { result.0 ≡ self.source.inner }

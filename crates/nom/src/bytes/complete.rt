@@ -1,4 +1,4 @@
-//! The parsers of `bytes` in the complete mode, whatever mode is asked for.
+//! The parsers of `bytes` in complete mode, whatever mode is requested.
 
 pub use nom_bytes::complete::{
     is_a, is_not, tag, tag_no_case, take, take_till, take_till1, take_until, take_until1,

@@ -1,4 +1,4 @@
-//! The parsers of `character` in the complete mode, whatever mode is asked for.
+//! The parsers of `character` in complete mode, whatever mode is requested.
 
 pub use nom_character::complete::{
     alpha0, alpha1, alphanumeric0, alphanumeric1, anychar, bin_digit0, bin_digit1, char, crlf,

@@ -1,4 +1,4 @@
-//! The parsers of `number` in the complete mode, whatever mode is asked for.
+//! The parsers of `number` in complete mode, whatever mode is requested.
 
 pub use nom_number::complete::{
     be_i8, be_i16, be_i24, be_i32, be_i64, be_i128, be_u8, be_u16, be_u24, be_u32, be_u64, be_u128,
