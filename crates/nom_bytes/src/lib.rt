@@ -25,7 +25,8 @@ use std::marker::PhantomData;
 
 /// Returns the first `count` items: bytes of a byte slice, characters of a text.
 ///
-/// If the input has fewer items, streaming needs the missing ones, and complete refuses with `Eof`.
+/// If the input has fewer items, streaming needs the missing ones, of an unknown amount for a text, and complete
+/// refuses with `Eof`.
 #[inline(always)]
 pub fn take<C: ToUsize + Drop, I, E>(count: C) -> Take<I, E>
     ensures { result.count ≡ C.size count }
@@ -68,7 +69,7 @@ pub fn tag_no_case<T: Copy, I, E>(tag: T) -> TagNoCase<T, I, E>
 
 /// Returns the items before the first occurrence of `tag`. The occurrence stays in the rest.
 ///
-/// If `tag` doesn't occur, streaming needs more, and complete refuses with `TakeUntil`.
+/// If `tag` doesn't occur, streaming needs more, of an unknown amount, and complete refuses with `TakeUntil`.
 #[inline(always)]
 pub fn take_until<T: Copy, I, E>(tag: T) -> TakeUntil<T, I, E>
     ensures { result.tag ≡ tag }
