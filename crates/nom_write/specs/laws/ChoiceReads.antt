@@ -7,10 +7,11 @@ use Rattle.nom_branch.specs.Alternatives.{alt_of}
 use Rattle.nom_combinator.specs.Contexts.{context_of}
 use Rattle.nom_error.specs.Errors.{Contexts}
 use Rattle.nom_combinator.specs.Verdicts.{OptOutput, cut_of, opt_of, opt_outcome}
-use Rattle.nom_write.specs.declared.writer.WriteError.{WriteError}
-use Rattle.nom_write.specs.Choices.{Apart, Either, IsUnfit}
+use Rattle.nom_write.specs.declared.error.WriteError.{WriteError}
+use Rattle.nom_write.specs.Choices.{Apart, Either, EitherFails, IsUnfit}
 use Rattle.nom_write.specs.Options.{OptForm}
 use Rattle.nom_write.specs.Reads.{Anything, NoItem, Reads, ReadsBefore}
+use Rattle.nom_write.specs.Written.{Space}
 
 -- a part, with what its outcome becomes: of an acceptance one of that length
 module _ {I P T : Type 0} (w : Model I ℕ) (becomes : Outcome P → Outcome T) (label : P → T) (keeps : (n : ℕ) (u : P) → becomes (Accept n u) ≡ Accept n
@@ -33,7 +34,7 @@ become_refused w becomes F xs i o known e none a =
 
 module _ {I P Q O E : Type 0} {w : Model I ℕ} (Joins : E → E → E → Type 0) (Grows : Type 0) {g : Grammar I P O E} {h : Grammar I Q O E} where
   -- one of two
-  pub either_reads : {FirstForm SecondForm : O → List ℕ → Type 0} {FirstFails : O → (room start : ℕ) → WriteError → Type 0} {First Second : List ℕ → Type 0} →
+  pub either_reads : {FirstForm SecondForm : O → List ℕ → Type 0} {FirstFails : O → Space → WriteError → Type 0} {First Second : List ℕ → Type 0} →
       Apart w g.meaning (λ xs. (v : O) × SecondForm v xs) → Reads w g FirstForm First → Reads w h SecondForm Second →
       Reads w (either_of Joins Grows g h) (λ v. Either (FirstForm v) (FirstFails v) (SecondForm v)) (λ rest. First rest × Second rest)
   either_reads {FirstForm} {SecondForm} {FirstFails} {First} {Second} apart p q = record { reads = reads }
@@ -72,6 +73,20 @@ module _ {I P Q O E : Type 0} {w : Model I ℕ} (Joins : E → E → E → Type 
             read = λ i rest o known e k a. r.read i rest o known e k
                 (subst (λ z. GoesOnRefused (Next s i) z o) (refuses s v xs f.1 i rest a.first known e a.answered) a.goes_on);
           }
+
+-- a first that can't write a value and a second that can't are a choice that can't
+either_grouped : (A B C : List ℕ → Type 0) (AFails BFails : Space → WriteError → Type 0) (xs : List ℕ) → Either A AFails (Either B BFails C) xs →
+    Either (Either A AFails B) (EitherFails AFails BFails) C xs
+either_grouped A B C AFails BFails xs (inl a) = inl (inl a)
+either_grouped A B C AFails BFails xs (inr (u, inl b)) = inl (inr (u, b))
+either_grouped A B C AFails BFails xs (inr (u, inr (v, c))) = inr ((v.0, v.1, inr (u, v.2), v.3), c)
+
+pub either_regrouped : {I V O E : Type 0} {w : Model I ℕ} {g : Grammar I V O E} {A B C : O → List ℕ → Type 0} {AFails BFails : O → Space → WriteError → Type 0}
+    {Follow : List ℕ → Type 0} → Reads w g (λ v. Either (Either (A v) (AFails v) (B v)) (EitherFails (AFails v) (BFails v)) (C v)) Follow →
+    Reads w g (λ v. Either (A v) (AFails v) (Either (B v) (BFails v) (C v))) Follow
+either_regrouped {A = A} {B} {C} {AFails} {BFails} p = record {
+  reads = λ v xs f. p.reads v xs (either_grouped (A v) (B v) (C v) (AFails v) (BFails v) xs f);
+}
 
 -- what both refuse their choice refuses
 pub either_apart : {I P Q E : Type 0} {w : Model I ℕ} (Joins : E → E → E → Type 0)
