@@ -1,5 +1,5 @@
 //! Choices: a form of the first branch, or where that can't write a value one of the next.
-ghost use Rattle.nom_write.specs.Choices.{Apart, Either, EitherFails};
+ghost use Rattle.nom_write.specs.Choices.{Either, EitherFails, Refuses};
 ghost use Rattle.nom_write.specs.laws.ChoiceReads.{alt_reads, either_apart, either_reads, either_regrouped};
 
 use crate::error::WriteError;
@@ -13,7 +13,7 @@ use std::marker::PhantomData;
 
 /// The first, or where it can't be written the second.
 #[derive(Drop)]
-pub(crate) struct FirstFit<F, G>(pub F, pub G);
+struct FirstFit<F, G>(F, G);
 
 impl<F: Piece, G: Piece> Piece for FirstFit<F, G> {
     ghost Form = { λ o. Either (F.Form o.0) (F.Fails o.0) (G.Form o.1) };
@@ -50,7 +50,7 @@ impl<
     ghost MayFollow = { λ p rest. F.MayFollow p.first rest × G.MayFollow p.second rest };
 
     ghost CanWrite = { λ p. F.CanWrite p.first × G.CanWrite p.second ×
-        Apart I.model (F.grammar (F.state p.first)).meaning (λ xs. (v : F.Output) × G.Form p.second v xs) };
+        Refuses I.model (F.grammar (F.state p.first)) (G.Form p.second) };
 
     #[inline]
     fn write<X: Sink>(&self, value: &F::Output, out: &mut X) -> Result<(), WriteError> {
@@ -61,7 +61,7 @@ impl<
         .put(out)
     }
 
-    ghost reads = { λ p k c. either_reads F.Error.errors.joined F.Error.errors.grows c.2 (F.reads p.first k.0 c.0) (G.reads p.second k.1 c.1) };
+    ghost reads = { λ p k c. either_reads F.Error.errors c.2 (F.reads p.first k.0 c.0) (G.reads p.second k.1 c.1) };
 }
 
 impl<I: Items<Item = u8>, P: Writer<I>, Q: Writer<I, Error = P::Error, Output = P::Output>> Writer<
@@ -74,7 +74,7 @@ impl<I: Items<Item = u8>, P: Writer<I>, Q: Writer<I, Error = P::Error, Output = 
     ghost MayFollow = { λ p rest. (P.MayFollow p.parsers.0 rest) × Q.MayFollow p.parsers.1 rest };
 
     ghost CanWrite = { λ p. (P.CanWrite p.parsers.0 × Q.CanWrite p.parsers.1) ×
-        (Apart I.model (P.grammar (P.state p.parsers.0)).meaning (λ xs. (v : P.Output) × Q.Form p.parsers.1 v xs)) };
+        (Refuses I.model (P.grammar (P.state p.parsers.0)) (Q.Form p.parsers.1)) };
 
     #[inline]
     fn write<X: Sink>(&self, value: &P::Output, out: &mut X) -> Result<(), WriteError> {
@@ -85,8 +85,8 @@ impl<I: Items<Item = u8>, P: Writer<I>, Q: Writer<I, Error = P::Error, Output = 
         .put(out)
     }
 
-    ghost reads = { λ p k c. alt_reads P.Error.errors (either_reads P.Error.errors.joined P.Error.errors.grows c.1 (P.reads p.parsers.0 k.0 c.0.0)
-        (Q.reads p.parsers.1 k.1 c.0.1)) };
+    ghost reads = { λ p k c. alt_reads P.Error.errors (either_reads P.Error.errors c.1 (P.reads p.parsers.0 k.0 c.0.0) (Q.reads p.parsers.1 k.1
+        c.0.1)) };
 }
 
 impl<
@@ -103,9 +103,9 @@ impl<
     ghost MayFollow = { λ p rest. ((P.MayFollow p.parsers.0 rest) × Q.MayFollow p.parsers.1 rest) × R.MayFollow p.parsers.2 rest };
 
     ghost CanWrite = { λ p. (P.CanWrite p.parsers.0 × Q.CanWrite p.parsers.1 × R.CanWrite p.parsers.2) ×
-        (Apart I.model (P.grammar (P.state p.parsers.0)).meaning (λ xs. (v : P.Output) × Q.Form p.parsers.1 v xs)) ×
-        (Apart I.model (P.grammar (P.state p.parsers.0)).meaning (λ xs. (v : P.Output) × R.Form p.parsers.2 v xs) ×
-        Apart I.model (Q.grammar (Q.state p.parsers.1)).meaning (λ xs. (v : P.Output) × R.Form p.parsers.2 v xs)) };
+        (Refuses I.model (P.grammar (P.state p.parsers.0)) (Q.Form p.parsers.1)) ×
+        (Refuses I.model (P.grammar (P.state p.parsers.0)) (R.Form p.parsers.2) ×
+        Refuses I.model (Q.grammar (Q.state p.parsers.1)) (R.Form p.parsers.2)) };
 
     #[inline]
     fn write<X: Sink>(&self, value: &P::Output, out: &mut X) -> Result<(), WriteError> {
@@ -119,9 +119,8 @@ impl<
         .put(out)
     }
 
-    ghost reads = { λ p k c. alt_reads P.Error.errors (either_regrouped (either_reads P.Error.errors.joined P.Error.errors.grows (either_apart
-        P.Error.errors.joined P.Error.errors.grows c.2.0 c.2.1) (either_reads P.Error.errors.joined P.Error.errors.grows c.1 (P.reads p.parsers.0
-        k.0.0 c.0.0) (Q.reads p.parsers.1 k.0.1 c.0.1)) (R.reads p.parsers.2 k.1 c.0.2))) };
+    ghost reads = { λ p k c. alt_reads P.Error.errors (either_regrouped (either_reads P.Error.errors (either_apart P.Error.errors c.2.0 c.2.1)
+        (either_reads P.Error.errors c.1 (P.reads p.parsers.0 k.0.0 c.0.0) (Q.reads p.parsers.1 k.0.1 c.0.1)) (R.reads p.parsers.2 k.1 c.0.2))) };
 }
 
 impl<
@@ -141,12 +140,12 @@ impl<
         p.parsers.3 rest };
 
     ghost CanWrite = { λ p. (P.CanWrite p.parsers.0 × Q.CanWrite p.parsers.1 × R.CanWrite p.parsers.2 × S.CanWrite p.parsers.3) ×
-        (Apart I.model (P.grammar (P.state p.parsers.0)).meaning (λ xs. (v : P.Output) × Q.Form p.parsers.1 v xs)) ×
-        (Apart I.model (P.grammar (P.state p.parsers.0)).meaning (λ xs. (v : P.Output) × R.Form p.parsers.2 v xs) ×
-        Apart I.model (Q.grammar (Q.state p.parsers.1)).meaning (λ xs. (v : P.Output) × R.Form p.parsers.2 v xs)) ×
-        (Apart I.model (P.grammar (P.state p.parsers.0)).meaning (λ xs. (v : P.Output) × S.Form p.parsers.3 v xs) ×
-        Apart I.model (Q.grammar (Q.state p.parsers.1)).meaning (λ xs. (v : P.Output) × S.Form p.parsers.3 v xs) ×
-        Apart I.model (R.grammar (R.state p.parsers.2)).meaning (λ xs. (v : P.Output) × S.Form p.parsers.3 v xs)) };
+        (Refuses I.model (P.grammar (P.state p.parsers.0)) (Q.Form p.parsers.1)) ×
+        (Refuses I.model (P.grammar (P.state p.parsers.0)) (R.Form p.parsers.2) ×
+        Refuses I.model (Q.grammar (Q.state p.parsers.1)) (R.Form p.parsers.2)) ×
+        (Refuses I.model (P.grammar (P.state p.parsers.0)) (S.Form p.parsers.3) ×
+        Refuses I.model (Q.grammar (Q.state p.parsers.1)) (S.Form p.parsers.3) ×
+        Refuses I.model (R.grammar (R.state p.parsers.2)) (S.Form p.parsers.3)) };
 
     #[inline]
     fn write<X: Sink>(&self, value: &P::Output, out: &mut X) -> Result<(), WriteError> {
@@ -163,11 +162,10 @@ impl<
         .put(out)
     }
 
-    ghost reads = { λ p k c. alt_reads P.Error.errors (either_regrouped (either_regrouped (either_reads P.Error.errors.joined P.Error.errors.grows
-        (either_apart P.Error.errors.joined P.Error.errors.grows (either_apart P.Error.errors.joined P.Error.errors.grows c.3.0 c.3.1) c.3.2)
-        (either_reads P.Error.errors.joined P.Error.errors.grows (either_apart P.Error.errors.joined P.Error.errors.grows c.2.0 c.2.1) (either_reads
-        P.Error.errors.joined P.Error.errors.grows c.1 (P.reads p.parsers.0 k.0.0.0 c.0.0) (Q.reads p.parsers.1 k.0.0.1 c.0.1)) (R.reads p.parsers.2
-        k.0.1 c.0.2)) (S.reads p.parsers.3 k.1 c.0.3)))) };
+    ghost reads = { λ p k c. alt_reads P.Error.errors (either_regrouped (either_regrouped (either_reads P.Error.errors (either_apart P.Error.errors
+        (either_apart P.Error.errors c.3.0 c.3.1) c.3.2) (either_reads P.Error.errors (either_apart P.Error.errors c.2.0 c.2.1) (either_reads
+        P.Error.errors c.1 (P.reads p.parsers.0 k.0.0.0 c.0.0) (Q.reads p.parsers.1 k.0.0.1 c.0.1)) (R.reads p.parsers.2 k.0.1 c.0.2)) (S.reads
+        p.parsers.3 k.1 c.0.3)))) };
 }
 
 impl<
@@ -189,16 +187,16 @@ impl<
 
     ghost CanWrite = { λ p. (P.CanWrite p.parsers.0 × Q.CanWrite p.parsers.1 × R.CanWrite p.parsers.2 × S.CanWrite p.parsers.3 × T.CanWrite
         p.parsers.4) ×
-        (Apart I.model (P.grammar (P.state p.parsers.0)).meaning (λ xs. (v : P.Output) × Q.Form p.parsers.1 v xs)) ×
-        (Apart I.model (P.grammar (P.state p.parsers.0)).meaning (λ xs. (v : P.Output) × R.Form p.parsers.2 v xs) ×
-        Apart I.model (Q.grammar (Q.state p.parsers.1)).meaning (λ xs. (v : P.Output) × R.Form p.parsers.2 v xs)) ×
-        (Apart I.model (P.grammar (P.state p.parsers.0)).meaning (λ xs. (v : P.Output) × S.Form p.parsers.3 v xs) ×
-        Apart I.model (Q.grammar (Q.state p.parsers.1)).meaning (λ xs. (v : P.Output) × S.Form p.parsers.3 v xs) ×
-        Apart I.model (R.grammar (R.state p.parsers.2)).meaning (λ xs. (v : P.Output) × S.Form p.parsers.3 v xs)) ×
-        (Apart I.model (P.grammar (P.state p.parsers.0)).meaning (λ xs. (v : P.Output) × T.Form p.parsers.4 v xs) ×
-        Apart I.model (Q.grammar (Q.state p.parsers.1)).meaning (λ xs. (v : P.Output) × T.Form p.parsers.4 v xs) ×
-        Apart I.model (R.grammar (R.state p.parsers.2)).meaning (λ xs. (v : P.Output) × T.Form p.parsers.4 v xs) ×
-        Apart I.model (S.grammar (S.state p.parsers.3)).meaning (λ xs. (v : P.Output) × T.Form p.parsers.4 v xs)) };
+        (Refuses I.model (P.grammar (P.state p.parsers.0)) (Q.Form p.parsers.1)) ×
+        (Refuses I.model (P.grammar (P.state p.parsers.0)) (R.Form p.parsers.2) ×
+        Refuses I.model (Q.grammar (Q.state p.parsers.1)) (R.Form p.parsers.2)) ×
+        (Refuses I.model (P.grammar (P.state p.parsers.0)) (S.Form p.parsers.3) ×
+        Refuses I.model (Q.grammar (Q.state p.parsers.1)) (S.Form p.parsers.3) ×
+        Refuses I.model (R.grammar (R.state p.parsers.2)) (S.Form p.parsers.3)) ×
+        (Refuses I.model (P.grammar (P.state p.parsers.0)) (T.Form p.parsers.4) ×
+        Refuses I.model (Q.grammar (Q.state p.parsers.1)) (T.Form p.parsers.4) ×
+        Refuses I.model (R.grammar (R.state p.parsers.2)) (T.Form p.parsers.4) ×
+        Refuses I.model (S.grammar (S.state p.parsers.3)) (T.Form p.parsers.4)) };
 
     #[inline]
     fn write<X: Sink>(&self, value: &P::Output, out: &mut X) -> Result<(), WriteError> {
@@ -218,13 +216,11 @@ impl<
         .put(out)
     }
 
-    ghost reads = { λ p k c. alt_reads P.Error.errors (either_regrouped (either_regrouped (either_regrouped (either_reads P.Error.errors.joined
-        P.Error.errors.grows (either_apart P.Error.errors.joined P.Error.errors.grows (either_apart P.Error.errors.joined P.Error.errors.grows
-        (either_apart P.Error.errors.joined P.Error.errors.grows c.4.0 c.4.1) c.4.2) c.4.3) (either_reads P.Error.errors.joined P.Error.errors.grows
-        (either_apart P.Error.errors.joined P.Error.errors.grows (either_apart P.Error.errors.joined P.Error.errors.grows c.3.0 c.3.1) c.3.2)
-        (either_reads P.Error.errors.joined P.Error.errors.grows (either_apart P.Error.errors.joined P.Error.errors.grows c.2.0 c.2.1) (either_reads
-        P.Error.errors.joined P.Error.errors.grows c.1 (P.reads p.parsers.0 k.0.0.0.0 c.0.0) (Q.reads p.parsers.1 k.0.0.0.1 c.0.1)) (R.reads
-        p.parsers.2 k.0.0.1 c.0.2)) (S.reads p.parsers.3 k.0.1 c.0.3)) (T.reads p.parsers.4 k.1 c.0.4))))) };
+    ghost reads = { λ p k c. alt_reads P.Error.errors (either_regrouped (either_regrouped (either_regrouped (either_reads P.Error.errors (either_apart
+        P.Error.errors (either_apart P.Error.errors (either_apart P.Error.errors c.4.0 c.4.1) c.4.2) c.4.3) (either_reads P.Error.errors (either_apart
+        P.Error.errors (either_apart P.Error.errors c.3.0 c.3.1) c.3.2) (either_reads P.Error.errors (either_apart P.Error.errors c.2.0 c.2.1)
+        (either_reads P.Error.errors c.1 (P.reads p.parsers.0 k.0.0.0.0 c.0.0) (Q.reads p.parsers.1 k.0.0.0.1 c.0.1)) (R.reads p.parsers.2 k.0.0.1
+        c.0.2)) (S.reads p.parsers.3 k.0.1 c.0.3)) (T.reads p.parsers.4 k.1 c.0.4))))) };
 }
 
 impl<
@@ -248,21 +244,21 @@ impl<
 
     ghost CanWrite = { λ p. (P.CanWrite p.parsers.0 × Q.CanWrite p.parsers.1 × R.CanWrite p.parsers.2 × S.CanWrite p.parsers.3 × T.CanWrite
         p.parsers.4 × U.CanWrite p.parsers.5) ×
-        (Apart I.model (P.grammar (P.state p.parsers.0)).meaning (λ xs. (v : P.Output) × Q.Form p.parsers.1 v xs)) ×
-        (Apart I.model (P.grammar (P.state p.parsers.0)).meaning (λ xs. (v : P.Output) × R.Form p.parsers.2 v xs) ×
-        Apart I.model (Q.grammar (Q.state p.parsers.1)).meaning (λ xs. (v : P.Output) × R.Form p.parsers.2 v xs)) ×
-        (Apart I.model (P.grammar (P.state p.parsers.0)).meaning (λ xs. (v : P.Output) × S.Form p.parsers.3 v xs) ×
-        Apart I.model (Q.grammar (Q.state p.parsers.1)).meaning (λ xs. (v : P.Output) × S.Form p.parsers.3 v xs) ×
-        Apart I.model (R.grammar (R.state p.parsers.2)).meaning (λ xs. (v : P.Output) × S.Form p.parsers.3 v xs)) ×
-        (Apart I.model (P.grammar (P.state p.parsers.0)).meaning (λ xs. (v : P.Output) × T.Form p.parsers.4 v xs) ×
-        Apart I.model (Q.grammar (Q.state p.parsers.1)).meaning (λ xs. (v : P.Output) × T.Form p.parsers.4 v xs) ×
-        Apart I.model (R.grammar (R.state p.parsers.2)).meaning (λ xs. (v : P.Output) × T.Form p.parsers.4 v xs) ×
-        Apart I.model (S.grammar (S.state p.parsers.3)).meaning (λ xs. (v : P.Output) × T.Form p.parsers.4 v xs)) ×
-        (Apart I.model (P.grammar (P.state p.parsers.0)).meaning (λ xs. (v : P.Output) × U.Form p.parsers.5 v xs) ×
-        Apart I.model (Q.grammar (Q.state p.parsers.1)).meaning (λ xs. (v : P.Output) × U.Form p.parsers.5 v xs) ×
-        Apart I.model (R.grammar (R.state p.parsers.2)).meaning (λ xs. (v : P.Output) × U.Form p.parsers.5 v xs) ×
-        Apart I.model (S.grammar (S.state p.parsers.3)).meaning (λ xs. (v : P.Output) × U.Form p.parsers.5 v xs) ×
-        Apart I.model (T.grammar (T.state p.parsers.4)).meaning (λ xs. (v : P.Output) × U.Form p.parsers.5 v xs)) };
+        (Refuses I.model (P.grammar (P.state p.parsers.0)) (Q.Form p.parsers.1)) ×
+        (Refuses I.model (P.grammar (P.state p.parsers.0)) (R.Form p.parsers.2) ×
+        Refuses I.model (Q.grammar (Q.state p.parsers.1)) (R.Form p.parsers.2)) ×
+        (Refuses I.model (P.grammar (P.state p.parsers.0)) (S.Form p.parsers.3) ×
+        Refuses I.model (Q.grammar (Q.state p.parsers.1)) (S.Form p.parsers.3) ×
+        Refuses I.model (R.grammar (R.state p.parsers.2)) (S.Form p.parsers.3)) ×
+        (Refuses I.model (P.grammar (P.state p.parsers.0)) (T.Form p.parsers.4) ×
+        Refuses I.model (Q.grammar (Q.state p.parsers.1)) (T.Form p.parsers.4) ×
+        Refuses I.model (R.grammar (R.state p.parsers.2)) (T.Form p.parsers.4) ×
+        Refuses I.model (S.grammar (S.state p.parsers.3)) (T.Form p.parsers.4)) ×
+        (Refuses I.model (P.grammar (P.state p.parsers.0)) (U.Form p.parsers.5) ×
+        Refuses I.model (Q.grammar (Q.state p.parsers.1)) (U.Form p.parsers.5) ×
+        Refuses I.model (R.grammar (R.state p.parsers.2)) (U.Form p.parsers.5) ×
+        Refuses I.model (S.grammar (S.state p.parsers.3)) (U.Form p.parsers.5) ×
+        Refuses I.model (T.grammar (T.state p.parsers.4)) (U.Form p.parsers.5)) };
 
     #[inline]
     fn write<X: Sink>(&self, value: &P::Output, out: &mut X) -> Result<(), WriteError> {
@@ -286,13 +282,10 @@ impl<
     }
 
     ghost reads = { λ p k c. alt_reads P.Error.errors (either_regrouped (either_regrouped (either_regrouped (either_regrouped (either_reads
-        P.Error.errors.joined P.Error.errors.grows (either_apart P.Error.errors.joined P.Error.errors.grows (either_apart P.Error.errors.joined
-        P.Error.errors.grows (either_apart P.Error.errors.joined P.Error.errors.grows (either_apart P.Error.errors.joined P.Error.errors.grows c.5.0
-        c.5.1) c.5.2) c.5.3) c.5.4) (either_reads P.Error.errors.joined P.Error.errors.grows (either_apart P.Error.errors.joined P.Error.errors.grows
-        (either_apart P.Error.errors.joined P.Error.errors.grows (either_apart P.Error.errors.joined P.Error.errors.grows c.4.0 c.4.1) c.4.2) c.4.3)
-        (either_reads P.Error.errors.joined P.Error.errors.grows (either_apart P.Error.errors.joined P.Error.errors.grows (either_apart
-        P.Error.errors.joined P.Error.errors.grows c.3.0 c.3.1) c.3.2) (either_reads P.Error.errors.joined P.Error.errors.grows (either_apart
-        P.Error.errors.joined P.Error.errors.grows c.2.0 c.2.1) (either_reads P.Error.errors.joined P.Error.errors.grows c.1 (P.reads p.parsers.0
+        P.Error.errors (either_apart P.Error.errors (either_apart P.Error.errors (either_apart P.Error.errors (either_apart P.Error.errors c.5.0
+        c.5.1) c.5.2) c.5.3) c.5.4) (either_reads P.Error.errors (either_apart P.Error.errors (either_apart P.Error.errors (either_apart
+        P.Error.errors c.4.0 c.4.1) c.4.2) c.4.3) (either_reads P.Error.errors (either_apart P.Error.errors (either_apart P.Error.errors c.3.0 c.3.1)
+        c.3.2) (either_reads P.Error.errors (either_apart P.Error.errors c.2.0 c.2.1) (either_reads P.Error.errors c.1 (P.reads p.parsers.0
         k.0.0.0.0.0 c.0.0) (Q.reads p.parsers.1 k.0.0.0.0.1 c.0.1)) (R.reads p.parsers.2 k.0.0.0.1 c.0.2)) (S.reads p.parsers.3 k.0.0.1 c.0.3))
         (T.reads p.parsers.4 k.0.1 c.0.4)) (U.reads p.parsers.5 k.1 c.0.5)))))) };
 }
@@ -319,27 +312,27 @@ impl<
 
     ghost CanWrite = { λ p. (P.CanWrite p.parsers.0 × Q.CanWrite p.parsers.1 × R.CanWrite p.parsers.2 × S.CanWrite p.parsers.3 × T.CanWrite
         p.parsers.4 × U.CanWrite p.parsers.5 × V.CanWrite p.parsers.6) ×
-        (Apart I.model (P.grammar (P.state p.parsers.0)).meaning (λ xs. (v : P.Output) × Q.Form p.parsers.1 v xs)) ×
-        (Apart I.model (P.grammar (P.state p.parsers.0)).meaning (λ xs. (v : P.Output) × R.Form p.parsers.2 v xs) ×
-        Apart I.model (Q.grammar (Q.state p.parsers.1)).meaning (λ xs. (v : P.Output) × R.Form p.parsers.2 v xs)) ×
-        (Apart I.model (P.grammar (P.state p.parsers.0)).meaning (λ xs. (v : P.Output) × S.Form p.parsers.3 v xs) ×
-        Apart I.model (Q.grammar (Q.state p.parsers.1)).meaning (λ xs. (v : P.Output) × S.Form p.parsers.3 v xs) ×
-        Apart I.model (R.grammar (R.state p.parsers.2)).meaning (λ xs. (v : P.Output) × S.Form p.parsers.3 v xs)) ×
-        (Apart I.model (P.grammar (P.state p.parsers.0)).meaning (λ xs. (v : P.Output) × T.Form p.parsers.4 v xs) ×
-        Apart I.model (Q.grammar (Q.state p.parsers.1)).meaning (λ xs. (v : P.Output) × T.Form p.parsers.4 v xs) ×
-        Apart I.model (R.grammar (R.state p.parsers.2)).meaning (λ xs. (v : P.Output) × T.Form p.parsers.4 v xs) ×
-        Apart I.model (S.grammar (S.state p.parsers.3)).meaning (λ xs. (v : P.Output) × T.Form p.parsers.4 v xs)) ×
-        (Apart I.model (P.grammar (P.state p.parsers.0)).meaning (λ xs. (v : P.Output) × U.Form p.parsers.5 v xs) ×
-        Apart I.model (Q.grammar (Q.state p.parsers.1)).meaning (λ xs. (v : P.Output) × U.Form p.parsers.5 v xs) ×
-        Apart I.model (R.grammar (R.state p.parsers.2)).meaning (λ xs. (v : P.Output) × U.Form p.parsers.5 v xs) ×
-        Apart I.model (S.grammar (S.state p.parsers.3)).meaning (λ xs. (v : P.Output) × U.Form p.parsers.5 v xs) ×
-        Apart I.model (T.grammar (T.state p.parsers.4)).meaning (λ xs. (v : P.Output) × U.Form p.parsers.5 v xs)) ×
-        (Apart I.model (P.grammar (P.state p.parsers.0)).meaning (λ xs. (v : P.Output) × V.Form p.parsers.6 v xs) ×
-        Apart I.model (Q.grammar (Q.state p.parsers.1)).meaning (λ xs. (v : P.Output) × V.Form p.parsers.6 v xs) ×
-        Apart I.model (R.grammar (R.state p.parsers.2)).meaning (λ xs. (v : P.Output) × V.Form p.parsers.6 v xs) ×
-        Apart I.model (S.grammar (S.state p.parsers.3)).meaning (λ xs. (v : P.Output) × V.Form p.parsers.6 v xs) ×
-        Apart I.model (T.grammar (T.state p.parsers.4)).meaning (λ xs. (v : P.Output) × V.Form p.parsers.6 v xs) ×
-        Apart I.model (U.grammar (U.state p.parsers.5)).meaning (λ xs. (v : P.Output) × V.Form p.parsers.6 v xs)) };
+        (Refuses I.model (P.grammar (P.state p.parsers.0)) (Q.Form p.parsers.1)) ×
+        (Refuses I.model (P.grammar (P.state p.parsers.0)) (R.Form p.parsers.2) ×
+        Refuses I.model (Q.grammar (Q.state p.parsers.1)) (R.Form p.parsers.2)) ×
+        (Refuses I.model (P.grammar (P.state p.parsers.0)) (S.Form p.parsers.3) ×
+        Refuses I.model (Q.grammar (Q.state p.parsers.1)) (S.Form p.parsers.3) ×
+        Refuses I.model (R.grammar (R.state p.parsers.2)) (S.Form p.parsers.3)) ×
+        (Refuses I.model (P.grammar (P.state p.parsers.0)) (T.Form p.parsers.4) ×
+        Refuses I.model (Q.grammar (Q.state p.parsers.1)) (T.Form p.parsers.4) ×
+        Refuses I.model (R.grammar (R.state p.parsers.2)) (T.Form p.parsers.4) ×
+        Refuses I.model (S.grammar (S.state p.parsers.3)) (T.Form p.parsers.4)) ×
+        (Refuses I.model (P.grammar (P.state p.parsers.0)) (U.Form p.parsers.5) ×
+        Refuses I.model (Q.grammar (Q.state p.parsers.1)) (U.Form p.parsers.5) ×
+        Refuses I.model (R.grammar (R.state p.parsers.2)) (U.Form p.parsers.5) ×
+        Refuses I.model (S.grammar (S.state p.parsers.3)) (U.Form p.parsers.5) ×
+        Refuses I.model (T.grammar (T.state p.parsers.4)) (U.Form p.parsers.5)) ×
+        (Refuses I.model (P.grammar (P.state p.parsers.0)) (V.Form p.parsers.6) ×
+        Refuses I.model (Q.grammar (Q.state p.parsers.1)) (V.Form p.parsers.6) ×
+        Refuses I.model (R.grammar (R.state p.parsers.2)) (V.Form p.parsers.6) ×
+        Refuses I.model (S.grammar (S.state p.parsers.3)) (V.Form p.parsers.6) ×
+        Refuses I.model (T.grammar (T.state p.parsers.4)) (V.Form p.parsers.6) ×
+        Refuses I.model (U.grammar (U.state p.parsers.5)) (V.Form p.parsers.6)) };
 
     #[inline]
     fn write<X: Sink>(&self, value: &P::Output, out: &mut X) -> Result<(), WriteError> {
@@ -366,18 +359,14 @@ impl<
     }
 
     ghost reads = { λ p k c. alt_reads P.Error.errors (either_regrouped (either_regrouped (either_regrouped (either_regrouped (either_regrouped
-        (either_reads P.Error.errors.joined P.Error.errors.grows (either_apart P.Error.errors.joined P.Error.errors.grows (either_apart
-        P.Error.errors.joined P.Error.errors.grows (either_apart P.Error.errors.joined P.Error.errors.grows (either_apart P.Error.errors.joined
-        P.Error.errors.grows (either_apart P.Error.errors.joined P.Error.errors.grows c.6.0 c.6.1) c.6.2) c.6.3) c.6.4) c.6.5) (either_reads
-        P.Error.errors.joined P.Error.errors.grows (either_apart P.Error.errors.joined P.Error.errors.grows (either_apart P.Error.errors.joined
-        P.Error.errors.grows (either_apart P.Error.errors.joined P.Error.errors.grows (either_apart P.Error.errors.joined P.Error.errors.grows c.5.0
-        c.5.1) c.5.2) c.5.3) c.5.4) (either_reads P.Error.errors.joined P.Error.errors.grows (either_apart P.Error.errors.joined P.Error.errors.grows
-        (either_apart P.Error.errors.joined P.Error.errors.grows (either_apart P.Error.errors.joined P.Error.errors.grows c.4.0 c.4.1) c.4.2) c.4.3)
-        (either_reads P.Error.errors.joined P.Error.errors.grows (either_apart P.Error.errors.joined P.Error.errors.grows (either_apart
-        P.Error.errors.joined P.Error.errors.grows c.3.0 c.3.1) c.3.2) (either_reads P.Error.errors.joined P.Error.errors.grows (either_apart
-        P.Error.errors.joined P.Error.errors.grows c.2.0 c.2.1) (either_reads P.Error.errors.joined P.Error.errors.grows c.1 (P.reads p.parsers.0
-        k.0.0.0.0.0.0 c.0.0) (Q.reads p.parsers.1 k.0.0.0.0.0.1 c.0.1)) (R.reads p.parsers.2 k.0.0.0.0.1 c.0.2)) (S.reads p.parsers.3 k.0.0.0.1
-        c.0.3)) (T.reads p.parsers.4 k.0.0.1 c.0.4)) (U.reads p.parsers.5 k.0.1 c.0.5)) (V.reads p.parsers.6 k.1 c.0.6))))))) };
+        (either_reads P.Error.errors (either_apart P.Error.errors (either_apart P.Error.errors (either_apart P.Error.errors (either_apart
+        P.Error.errors (either_apart P.Error.errors c.6.0 c.6.1) c.6.2) c.6.3) c.6.4) c.6.5) (either_reads P.Error.errors (either_apart P.Error.errors
+        (either_apart P.Error.errors (either_apart P.Error.errors (either_apart P.Error.errors c.5.0 c.5.1) c.5.2) c.5.3) c.5.4) (either_reads
+        P.Error.errors (either_apart P.Error.errors (either_apart P.Error.errors (either_apart P.Error.errors c.4.0 c.4.1) c.4.2) c.4.3) (either_reads
+        P.Error.errors (either_apart P.Error.errors (either_apart P.Error.errors c.3.0 c.3.1) c.3.2) (either_reads P.Error.errors (either_apart
+        P.Error.errors c.2.0 c.2.1) (either_reads P.Error.errors c.1 (P.reads p.parsers.0 k.0.0.0.0.0.0 c.0.0) (Q.reads p.parsers.1 k.0.0.0.0.0.1
+        c.0.1)) (R.reads p.parsers.2 k.0.0.0.0.1 c.0.2)) (S.reads p.parsers.3 k.0.0.0.1 c.0.3)) (T.reads p.parsers.4 k.0.0.1 c.0.4)) (U.reads
+        p.parsers.5 k.0.1 c.0.5)) (V.reads p.parsers.6 k.1 c.0.6))))))) };
 }
 
 impl<
@@ -406,34 +395,34 @@ impl<
 
     ghost CanWrite = { λ p. (P.CanWrite p.parsers.0 × Q.CanWrite p.parsers.1 × R.CanWrite p.parsers.2 × S.CanWrite p.parsers.3 × T.CanWrite
         p.parsers.4 × U.CanWrite p.parsers.5 × V.CanWrite p.parsers.6 × W.CanWrite p.parsers.7) ×
-        (Apart I.model (P.grammar (P.state p.parsers.0)).meaning (λ xs. (v : P.Output) × Q.Form p.parsers.1 v xs)) ×
-        (Apart I.model (P.grammar (P.state p.parsers.0)).meaning (λ xs. (v : P.Output) × R.Form p.parsers.2 v xs) ×
-        Apart I.model (Q.grammar (Q.state p.parsers.1)).meaning (λ xs. (v : P.Output) × R.Form p.parsers.2 v xs)) ×
-        (Apart I.model (P.grammar (P.state p.parsers.0)).meaning (λ xs. (v : P.Output) × S.Form p.parsers.3 v xs) ×
-        Apart I.model (Q.grammar (Q.state p.parsers.1)).meaning (λ xs. (v : P.Output) × S.Form p.parsers.3 v xs) ×
-        Apart I.model (R.grammar (R.state p.parsers.2)).meaning (λ xs. (v : P.Output) × S.Form p.parsers.3 v xs)) ×
-        (Apart I.model (P.grammar (P.state p.parsers.0)).meaning (λ xs. (v : P.Output) × T.Form p.parsers.4 v xs) ×
-        Apart I.model (Q.grammar (Q.state p.parsers.1)).meaning (λ xs. (v : P.Output) × T.Form p.parsers.4 v xs) ×
-        Apart I.model (R.grammar (R.state p.parsers.2)).meaning (λ xs. (v : P.Output) × T.Form p.parsers.4 v xs) ×
-        Apart I.model (S.grammar (S.state p.parsers.3)).meaning (λ xs. (v : P.Output) × T.Form p.parsers.4 v xs)) ×
-        (Apart I.model (P.grammar (P.state p.parsers.0)).meaning (λ xs. (v : P.Output) × U.Form p.parsers.5 v xs) ×
-        Apart I.model (Q.grammar (Q.state p.parsers.1)).meaning (λ xs. (v : P.Output) × U.Form p.parsers.5 v xs) ×
-        Apart I.model (R.grammar (R.state p.parsers.2)).meaning (λ xs. (v : P.Output) × U.Form p.parsers.5 v xs) ×
-        Apart I.model (S.grammar (S.state p.parsers.3)).meaning (λ xs. (v : P.Output) × U.Form p.parsers.5 v xs) ×
-        Apart I.model (T.grammar (T.state p.parsers.4)).meaning (λ xs. (v : P.Output) × U.Form p.parsers.5 v xs)) ×
-        (Apart I.model (P.grammar (P.state p.parsers.0)).meaning (λ xs. (v : P.Output) × V.Form p.parsers.6 v xs) ×
-        Apart I.model (Q.grammar (Q.state p.parsers.1)).meaning (λ xs. (v : P.Output) × V.Form p.parsers.6 v xs) ×
-        Apart I.model (R.grammar (R.state p.parsers.2)).meaning (λ xs. (v : P.Output) × V.Form p.parsers.6 v xs) ×
-        Apart I.model (S.grammar (S.state p.parsers.3)).meaning (λ xs. (v : P.Output) × V.Form p.parsers.6 v xs) ×
-        Apart I.model (T.grammar (T.state p.parsers.4)).meaning (λ xs. (v : P.Output) × V.Form p.parsers.6 v xs) ×
-        Apart I.model (U.grammar (U.state p.parsers.5)).meaning (λ xs. (v : P.Output) × V.Form p.parsers.6 v xs)) ×
-        (Apart I.model (P.grammar (P.state p.parsers.0)).meaning (λ xs. (v : P.Output) × W.Form p.parsers.7 v xs) ×
-        Apart I.model (Q.grammar (Q.state p.parsers.1)).meaning (λ xs. (v : P.Output) × W.Form p.parsers.7 v xs) ×
-        Apart I.model (R.grammar (R.state p.parsers.2)).meaning (λ xs. (v : P.Output) × W.Form p.parsers.7 v xs) ×
-        Apart I.model (S.grammar (S.state p.parsers.3)).meaning (λ xs. (v : P.Output) × W.Form p.parsers.7 v xs) ×
-        Apart I.model (T.grammar (T.state p.parsers.4)).meaning (λ xs. (v : P.Output) × W.Form p.parsers.7 v xs) ×
-        Apart I.model (U.grammar (U.state p.parsers.5)).meaning (λ xs. (v : P.Output) × W.Form p.parsers.7 v xs) ×
-        Apart I.model (V.grammar (V.state p.parsers.6)).meaning (λ xs. (v : P.Output) × W.Form p.parsers.7 v xs)) };
+        (Refuses I.model (P.grammar (P.state p.parsers.0)) (Q.Form p.parsers.1)) ×
+        (Refuses I.model (P.grammar (P.state p.parsers.0)) (R.Form p.parsers.2) ×
+        Refuses I.model (Q.grammar (Q.state p.parsers.1)) (R.Form p.parsers.2)) ×
+        (Refuses I.model (P.grammar (P.state p.parsers.0)) (S.Form p.parsers.3) ×
+        Refuses I.model (Q.grammar (Q.state p.parsers.1)) (S.Form p.parsers.3) ×
+        Refuses I.model (R.grammar (R.state p.parsers.2)) (S.Form p.parsers.3)) ×
+        (Refuses I.model (P.grammar (P.state p.parsers.0)) (T.Form p.parsers.4) ×
+        Refuses I.model (Q.grammar (Q.state p.parsers.1)) (T.Form p.parsers.4) ×
+        Refuses I.model (R.grammar (R.state p.parsers.2)) (T.Form p.parsers.4) ×
+        Refuses I.model (S.grammar (S.state p.parsers.3)) (T.Form p.parsers.4)) ×
+        (Refuses I.model (P.grammar (P.state p.parsers.0)) (U.Form p.parsers.5) ×
+        Refuses I.model (Q.grammar (Q.state p.parsers.1)) (U.Form p.parsers.5) ×
+        Refuses I.model (R.grammar (R.state p.parsers.2)) (U.Form p.parsers.5) ×
+        Refuses I.model (S.grammar (S.state p.parsers.3)) (U.Form p.parsers.5) ×
+        Refuses I.model (T.grammar (T.state p.parsers.4)) (U.Form p.parsers.5)) ×
+        (Refuses I.model (P.grammar (P.state p.parsers.0)) (V.Form p.parsers.6) ×
+        Refuses I.model (Q.grammar (Q.state p.parsers.1)) (V.Form p.parsers.6) ×
+        Refuses I.model (R.grammar (R.state p.parsers.2)) (V.Form p.parsers.6) ×
+        Refuses I.model (S.grammar (S.state p.parsers.3)) (V.Form p.parsers.6) ×
+        Refuses I.model (T.grammar (T.state p.parsers.4)) (V.Form p.parsers.6) ×
+        Refuses I.model (U.grammar (U.state p.parsers.5)) (V.Form p.parsers.6)) ×
+        (Refuses I.model (P.grammar (P.state p.parsers.0)) (W.Form p.parsers.7) ×
+        Refuses I.model (Q.grammar (Q.state p.parsers.1)) (W.Form p.parsers.7) ×
+        Refuses I.model (R.grammar (R.state p.parsers.2)) (W.Form p.parsers.7) ×
+        Refuses I.model (S.grammar (S.state p.parsers.3)) (W.Form p.parsers.7) ×
+        Refuses I.model (T.grammar (T.state p.parsers.4)) (W.Form p.parsers.7) ×
+        Refuses I.model (U.grammar (U.state p.parsers.5)) (W.Form p.parsers.7) ×
+        Refuses I.model (V.grammar (V.state p.parsers.6)) (W.Form p.parsers.7)) };
 
     #[inline]
     fn write<X: Sink>(&self, value: &P::Output, out: &mut X) -> Result<(), WriteError> {
@@ -463,20 +452,14 @@ impl<
     }
 
     ghost reads = { λ p k c. alt_reads P.Error.errors (either_regrouped (either_regrouped (either_regrouped (either_regrouped (either_regrouped
-        (either_regrouped (either_reads P.Error.errors.joined P.Error.errors.grows (either_apart P.Error.errors.joined P.Error.errors.grows
-        (either_apart P.Error.errors.joined P.Error.errors.grows (either_apart P.Error.errors.joined P.Error.errors.grows (either_apart
-        P.Error.errors.joined P.Error.errors.grows (either_apart P.Error.errors.joined P.Error.errors.grows (either_apart P.Error.errors.joined
-        P.Error.errors.grows c.7.0 c.7.1) c.7.2) c.7.3) c.7.4) c.7.5) c.7.6) (either_reads P.Error.errors.joined P.Error.errors.grows (either_apart
-        P.Error.errors.joined P.Error.errors.grows (either_apart P.Error.errors.joined P.Error.errors.grows (either_apart P.Error.errors.joined
-        P.Error.errors.grows (either_apart P.Error.errors.joined P.Error.errors.grows (either_apart P.Error.errors.joined P.Error.errors.grows c.6.0
-        c.6.1) c.6.2) c.6.3) c.6.4) c.6.5) (either_reads P.Error.errors.joined P.Error.errors.grows (either_apart P.Error.errors.joined
-        P.Error.errors.grows (either_apart P.Error.errors.joined P.Error.errors.grows (either_apart P.Error.errors.joined P.Error.errors.grows
-        (either_apart P.Error.errors.joined P.Error.errors.grows c.5.0 c.5.1) c.5.2) c.5.3) c.5.4) (either_reads P.Error.errors.joined
-        P.Error.errors.grows (either_apart P.Error.errors.joined P.Error.errors.grows (either_apart P.Error.errors.joined P.Error.errors.grows
-        (either_apart P.Error.errors.joined P.Error.errors.grows c.4.0 c.4.1) c.4.2) c.4.3) (either_reads P.Error.errors.joined P.Error.errors.grows
-        (either_apart P.Error.errors.joined P.Error.errors.grows (either_apart P.Error.errors.joined P.Error.errors.grows c.3.0 c.3.1) c.3.2)
-        (either_reads P.Error.errors.joined P.Error.errors.grows (either_apart P.Error.errors.joined P.Error.errors.grows c.2.0 c.2.1) (either_reads
-        P.Error.errors.joined P.Error.errors.grows c.1 (P.reads p.parsers.0 k.0.0.0.0.0.0.0 c.0.0) (Q.reads p.parsers.1 k.0.0.0.0.0.0.1 c.0.1))
-        (R.reads p.parsers.2 k.0.0.0.0.0.1 c.0.2)) (S.reads p.parsers.3 k.0.0.0.0.1 c.0.3)) (T.reads p.parsers.4 k.0.0.0.1 c.0.4)) (U.reads
+        (either_regrouped (either_reads P.Error.errors (either_apart P.Error.errors (either_apart P.Error.errors (either_apart P.Error.errors
+        (either_apart P.Error.errors (either_apart P.Error.errors (either_apart P.Error.errors c.7.0 c.7.1) c.7.2) c.7.3) c.7.4) c.7.5) c.7.6)
+        (either_reads P.Error.errors (either_apart P.Error.errors (either_apart P.Error.errors (either_apart P.Error.errors (either_apart
+        P.Error.errors (either_apart P.Error.errors c.6.0 c.6.1) c.6.2) c.6.3) c.6.4) c.6.5) (either_reads P.Error.errors (either_apart P.Error.errors
+        (either_apart P.Error.errors (either_apart P.Error.errors (either_apart P.Error.errors c.5.0 c.5.1) c.5.2) c.5.3) c.5.4) (either_reads
+        P.Error.errors (either_apart P.Error.errors (either_apart P.Error.errors (either_apart P.Error.errors c.4.0 c.4.1) c.4.2) c.4.3) (either_reads
+        P.Error.errors (either_apart P.Error.errors (either_apart P.Error.errors c.3.0 c.3.1) c.3.2) (either_reads P.Error.errors (either_apart
+        P.Error.errors c.2.0 c.2.1) (either_reads P.Error.errors c.1 (P.reads p.parsers.0 k.0.0.0.0.0.0.0 c.0.0) (Q.reads p.parsers.1 k.0.0.0.0.0.0.1
+        c.0.1)) (R.reads p.parsers.2 k.0.0.0.0.0.1 c.0.2)) (S.reads p.parsers.3 k.0.0.0.0.1 c.0.3)) (T.reads p.parsers.4 k.0.0.0.1 c.0.4)) (U.reads
         p.parsers.5 k.0.0.1 c.0.5)) (V.reads p.parsers.6 k.0.1 c.0.6)) (W.reads p.parsers.7 k.1 c.0.7)))))))) };
 }

@@ -1,5 +1,5 @@
 -- What is read of parts in sequence: what is written of the second, with all that may follow it, may follow the first.
-use Rattle.std.specs.Prelude.{◌≡◌, ℕ, ◌+◌, Bool, List, ◌++◌, refl}
+use Rattle.std.specs.Prelude.{◌≡◌, ℕ, ◌+◌, List, ◌++◌, refl}
 use Rattle.std.proofs.Common.{sym, ◌∙◌, ap, subst, append_assoc}
 use Rattle.nom_internal.specs.Prelude.{Model, InputLaws, items_len, items_len-append, IsSuffixOf, Grammar, Outcome, Accept, GoesOn, Then, after}
 use Rattle.nom_internal.specs.Prelude.{PairOutput, pair_of}
