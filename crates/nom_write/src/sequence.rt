@@ -1,5 +1,5 @@
 //! Parts in sequence.
-ghost use Rattle.std.specs.Prelude.{◌≡◌, ◌+◌, ℕ, List, ◌++◌, ◌⊎◌, length};
+ghost use Rattle.std.specs.Prelude.{◌≡◌, ℕ, List, ◌++◌, length};
 ghost use Rattle.nom_write.specs.Written.{LacksRoom};
 ghost use Rattle.nom_write.specs.Parts.{Both, BothFail, Meets};
 ghost use Rattle.nom_write.specs.laws.SequenceReads.{pair_reads, preceded_reads, terminated_reads};
