@@ -1,6 +1,7 @@
-//! Operators: which of them wait for their right operand, and what they make of their operands. Those between values
-//! have levels (`waiting`); or they stand before, after and between operands, each with its precedence (`pending`). The
-//! tree of what stands in an expression is told by a rule of its own, for each of the two.
+//! Operators: which of them wait for their right operand, and how they join their operands.
+//!
+//! `waiting` is for binary operators with levels, `pending` for operators before, after and between operands, each with
+//! its precedence. For each of the two a separate rule defines the tree of an expression.
 #![tactic(auto)]
 
 pub mod operation;

@@ -1,5 +1,5 @@
 //! Operators before, after and between operands, each with its precedence: which of them wait for their right operand,
-//! and what they make of their operands. A refusal of the fold takes the place of the value.
+//! and how they join their operands. If the fold refuses, its error takes the place of the value.
 ghost use Rattle.std.specs.Prelude.{◌≡◌, ◌∷◌, ◌++◌, IfSome, [], List, map};
 ghost use Rattle.nom_operators.specs.Evaluations.{IsValueOf, PostfixGives, term_symbols};
 ghost use Rattle.nom_operators.specs.Groups.{is_left};
@@ -23,8 +23,8 @@ pub enum Pending<P, B, R> {
     Left(R, Binary<B>),
 }
 
-/// The value of what was read after the innermost operator that waits, and that operator, if any waits. Those outside
-/// it stand in a list, the next one last.
+/// The value read after the innermost operator that waits, and that operator, if any. The operators outside it are in
+/// a list, the next one last.
 #[derive(Drop)]
 pub struct Partial<P, B, R> {
     pub value: R,
@@ -39,7 +39,7 @@ pub struct Term<P, O, Q, A: Allocator> {
     pub postfixes: Vec<Unary<Q>, A>,
 }
 
-/// A first term. None where there is no memory for its prefixes.
+/// Starts with a term. Returns None if there is no memory for its prefixes.
 #[inline(always)]
 pub fn begin<
     P: Drop,
@@ -63,8 +63,8 @@ pub fn begin<
     read_term(None, outer, term, fold)
 }
 
-/// A binary operator, and a term: the operands that it ends are folded, and then it waits. None where there is no
-/// memory for what waits.
+/// Adds a binary operator and a term: folds the operands that it ends, and lets it wait. Returns None if there is no
+/// memory for it.
 #[inline(always)]
 pub fn put_term<
     P: Drop,
@@ -105,7 +105,7 @@ pub fn put_term<
     }
 }
 
-/// The value of all that was read, or the first refusal of the fold.
+/// Returns the value of everything read, or the first refusal of the fold.
 #[inline(always)]
 pub fn value_of_all<
     P: Drop,
@@ -135,7 +135,7 @@ pub fn value_of_all<
     value
 }
 
-/// A term after what waits: its prefixes wait too, and its postfixes end the operands before them.
+/// Adds a term: its prefixes wait too, and its postfixes end the operands before them.
 #[inline(always)]
 fn read_term<
     P: Drop,
@@ -170,7 +170,7 @@ fn read_term<
     }
 }
 
-/// Prefixes that wait, in their order: the innermost operator then, if any waits. None where there is no memory.
+/// Adds prefixes that wait, in order, and returns the innermost operator. Returns None if there is no memory.
 #[inline(always)]
 fn wait_all<P: Drop, B: Drop, R: Drop, A: Allocator>(
     innermost: Option<Pending<P, B, R>>,
@@ -193,7 +193,7 @@ fn wait_all<P: Drop, B: Drop, R: Drop, A: Allocator>(
     Some(inner)
 }
 
-/// An operand, and postfixes, each of which ends operands before it and is applied to them.
+/// Adds an operand and postfixes. Each postfix ends operands before it and is applied to them.
 #[inline(always)]
 fn apply_all<
     P: Drop,
@@ -232,8 +232,7 @@ fn apply_all<
     }
 }
 
-/// A postfix after an operand: the operands that it ends are folded, and it is applied. What was made, and the innermost
-/// operator that is left.
+/// Adds a postfix: folds the operands that it ends, and applies it. Returns the result and the innermost operator left.
 #[inline(always)]
 fn apply<
     P: Drop,
@@ -261,7 +260,7 @@ fn apply<
     (fold_postfix(fold, operand, postfix), under)
 }
 
-/// Folds the operands that an operator ends: what was made of them, and the innermost operator that is left.
+/// Folds the operands that an operator ends. Returns the result and the innermost operator left.
 #[inline(always)]
 fn end_operands<
     P: Drop,
@@ -299,7 +298,7 @@ fn end_operands<
     (value, None)
 }
 
-/// Whether an operator is grouped from the left.
+/// Returns whether an operator is grouped from the left.
 #[inline(always)]
 fn from_left(assoc: Assoc) -> bool
     ensures { result ≡ is_left assoc }
@@ -310,7 +309,7 @@ fn from_left(assoc: Assoc) -> bool
     }
 }
 
-/// Whether an operator ends the right operand of one that waits.
+/// Returns whether an operator ends the right operand of one that waits.
 #[inline(always)]
 fn ends<P, B, R>(pending: &Pending<P, B, R>, precedence: usize, from_left: bool) -> bool
     ensures { result ≡ ends_operand precedence from_left (level_of_pending pending.now) }
@@ -323,7 +322,7 @@ fn ends<P, B, R>(pending: &Pending<P, B, R>, precedence: usize, from_left: bool)
     }
 }
 
-/// The precedence of an operator that waits.
+/// Returns the precedence of an operator that waits.
 #[inline(always)]
 fn level_of<P, B, R>(pending: &Pending<P, B, R>) -> usize
     ensures { result ≡ level_of_pending pending.now }
@@ -334,7 +333,7 @@ fn level_of<P, B, R>(pending: &Pending<P, B, R>) -> usize
     }
 }
 
-/// What an operator that waits makes of the value on its right. A refusal stays, that of its left operand first.
+/// Applies an operator that waits to the value on its right. A refusal stays, that of its left operand first.
 #[inline(always)]
 fn fold_pending<
     P: Drop,
@@ -362,7 +361,7 @@ fn fold_pending<
     }
 }
 
-/// What a postfix makes of the value before it. A refusal stays.
+/// Applies a postfix to the value before it. A refusal stays.
 #[inline(always)]
 fn fold_postfix<
     P: Drop,

@@ -1,4 +1,4 @@
-//! Operators with their precedence.
+//! Operators with their precedences.
 ghost use Rattle.nom_operators.specs.OperatorViews.{binary_view, unary_view};
 
 use crate::operation::Assoc;
@@ -12,7 +12,7 @@ pub struct Unary<V> {
 }
 
 /// An operator between two operands. A lesser precedence binds tighter, and `assoc` says how it is grouped beside
-/// others of its precedence.
+/// others of the same precedence.
 #[derive(Debug, Drop)]
 pub struct Binary<V> {
     pub value: V,

@@ -1,4 +1,4 @@
-//! What holds of all expressions.
+//! Promises about all expressions.
 ghost use Rattle.nom_operators.specs.Trees.{HasOneTree};
 ghost use Rattle.nom_operators.specs.Groups.{groups_left};
 ghost use Rattle.nom_operators.specs.OperatorTrees.{HasNoOther};

@@ -1,4 +1,4 @@
-//! The operators that wait for their right side, and the values that they join.
+//! Operators that wait for their right side, and the values that they join.
 ghost use Rattle.std.specs.Prelude.{◌≡◌, ◌≤◌, ℕ, [], IfSome, IsTrue, None, false, true, reverse, vec_len, vec_capacity};
 ghost use Rattle.nom_operators.specs.Closes.{Closes, GoesUnder, UnderInnermost};
 ghost use Rattle.nom_operators.specs.Groups.{groups_left};
@@ -9,16 +9,16 @@ ghost use Rattle.nom_operators.specs.declared.operation.Operation.TheVariants.{B
 use crate::operation::{Assoc, Operation};
 use std::alloc::Allocator;
 
-/// The value of what was read after the innermost operator that waits; and that operator, with what stands on its
-/// left and with its level, if any waits. Those outside it stand in a list, the next one last.
+/// The value read after the innermost operator that waits; and that operator with its left operand and its level, if
+/// any waits. The operators outside it are in a list, the next one last.
 #[derive(Drop)]
 pub struct Held<O, B> {
     pub value: O,
     pub innermost: Option<(O, (usize, B))>,
 }
 
-/// An operator with its level, and the value of the term after it: what ends before it is joined, and then it waits.
-/// None where there is no memory for the one that it goes under.
+/// Adds an operator with its level, and the value of the term after it: joins what ends before it, and lets it wait.
+/// Returns None if there is no memory for the operator outside it.
 #[inline(always)]
 pub fn put<P: Drop, Q: Drop, B: Drop, O: Drop, A: Allocator, G: Fn(Operation<P, Q, B, O>) -> O>(
     held: Held<O, B>,
@@ -47,7 +47,7 @@ pub fn put<P: Drop, Q: Drop, B: Drop, O: Drop, A: Allocator, G: Fn(Operation<P, 
     }
 }
 
-/// The value where all operators that wait are joined.
+/// Joins all operators that wait, and returns the value.
 #[inline(always)]
 pub fn close_all<
     P: Drop,
@@ -71,7 +71,7 @@ pub fn close_all<
     value
 }
 
-/// Joins what an operator of a level closes: what was joined last, and the innermost operator that is left.
+/// Joins what an operator of a level closes. Returns the value joined last and the innermost operator left.
 #[inline(always)]
 fn close<P: Drop, Q: Drop, B: Drop, O: Drop, A: Allocator, G: Fn(Operation<P, Q, B, O>) -> O>(
     innermost: Option<(O, (usize, B))>,
@@ -101,7 +101,7 @@ fn close<P: Drop, Q: Drop, B: Drop, O: Drop, A: Allocator, G: Fn(Operation<P, Q,
     (value, None)
 }
 
-/// Takes the innermost of those that stand in a list.
+/// Takes the innermost operator of a list.
 #[inline(always)]
 pub fn next<E: Drop, A: Allocator>(outer: &mut Vec<E, A>) -> Option<E>
     ensures next { reverse outer.old.items ≡ waiting result outer.new.items }
@@ -114,7 +114,7 @@ pub fn next<E: Drop, A: Allocator>(outer: &mut Vec<E, A>) -> Option<E>
     }
 }
 
-/// Puts what was the innermost, if there is one, into the list, and tells whether there was memory for it.
+/// Pushes the operator that was the innermost, if any, and returns whether there was memory for it.
 #[inline(always)]
 pub fn keep<E: Drop, A: Allocator>(outer: &mut Vec<E, A>, innermost: Option<E>) -> bool
     ensures kept { IsTrue result → reverse outer.new.items ≡ waiting innermost outer.old.items }
@@ -126,7 +126,7 @@ pub fn keep<E: Drop, A: Allocator>(outer: &mut Vec<E, A>, innermost: Option<E>) 
     }
 }
 
-/// Whether operators of a level are grouped from the left.
+/// Returns whether operators of a level are grouped from the left.
 #[inline(always)]
 fn is_left(levels: &[Assoc], level: usize) -> bool
     ensures { result ≡ groups_left levels.now level }
@@ -138,7 +138,7 @@ fn is_left(levels: &[Assoc], level: usize) -> bool
     }
 }
 
-/// Whether an operator of a level ends the right side of one of the level `innermost`.
+/// Returns whether an operator of a level ends the right side of one of the level `innermost`.
 #[inline(always)]
 fn closes(levels: &[Assoc], level: usize, innermost: usize) -> bool
     ensures closes { IsTrue result → Closes (groups_left levels.now) level innermost }
@@ -147,7 +147,7 @@ fn closes(levels: &[Assoc], level: usize, innermost: usize) -> bool
     innermost < level || (innermost == level && is_left(levels, level))
 }
 
-/// What the fold gives for an operator with what stands on its left, and for what stands on its right.
+/// Applies the fold to an operator, the value on its left and the value on its right.
 #[inline(always)]
 fn join<P: Drop, Q: Drop, B: Drop, O: Drop, G: Fn(Operation<P, Q, B, O>) -> O>(
     fold: &G,

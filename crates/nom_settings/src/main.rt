@@ -10,7 +10,7 @@ use std::process::ExitCode;
 use std::rt::Env;
 use std::{env, io};
 
-/// Whether the command line has words after the file's name. It has none where it can't be read.
+/// Returns whether the command line has words after the file's name. It has none if it can't be read.
 fn has_more(rt: &(impl Env + Alloc<A = Global>)) -> bool {
     match env::args(rt) {
         Ok(words) => words.count() > 2,

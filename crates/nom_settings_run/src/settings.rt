@@ -12,10 +12,10 @@ use nom::sequence::{pair, preceded, terminated};
 use nom::{IResult, Input, Parser};
 use std::alloc::Allocator;
 
-/// A section: its name, and its settings in their order, each a name and a value. All are slices of the input.
+/// A section: its name, and its settings in order, each a name and a value. All are slices of the input.
 pub type Section<I, A> = (I, Vec<(I, I), A>);
 
-/// Whether a character may stand in a value.
+/// Returns whether a character may be part of a value.
 fn is_value(c: char) -> bool
     ensures { result ≡ in_value c }
 {
@@ -31,8 +31,8 @@ fn is_value(c: char) -> bool
 /// end      = '\r'? '\n'
 /// ```
 ///
-/// After a `[`, or the name of a setting, what doesn't follow the grammar fails where it stands; what begins neither is
-/// refused with `Eof` where it begins.
+/// After a `[`, or the name of a setting, a fault of the grammar is a failure at its place. A line that begins neither is
+/// refused with `Eof` at its start.
 pub fn settings<A: Allocator + Copy, I: Input<Item = char>>(
     alloc: A,
     input: I,
