@@ -29,6 +29,8 @@ pub enum FoldError<X> {
 
 /// So that `?` passes on that memory ran out.
 impl<X> From<OutOfMemory> for FoldError<X> {
+    ghost use Rattle.nom_language.specs.declared.allocating.FoldError.{FoldError};
+
     ghost from_gives = { λ _ e. e ≡ FoldError.OutOfMemory };
 
     fn from(_error: OutOfMemory) -> FoldError<X> {
@@ -38,6 +40,8 @@ impl<X> From<OutOfMemory> for FoldError<X> {
 
 /// So that `?` passes a refused growth on.
 impl<X> From<AllocError> for FoldError<X> {
+    ghost use Rattle.nom_language.specs.declared.allocating.FoldError.{FoldError};
+
     ghost from_gives = { λ _ e. e ≡ FoldError.OutOfMemory };
 
     fn from(_error: AllocError) -> FoldError<X> {
@@ -47,6 +51,8 @@ impl<X> From<AllocError> for FoldError<X> {
 
 /// So that `?` passes on that a value could not be put on the heap, as by `Box::new`; the value is let go.
 impl<X, V: Drop> From<AllocFailed<V>> for FoldError<X> {
+    ghost use Rattle.nom_language.specs.declared.allocating.FoldError.{FoldError};
+
     ghost from_gives = { λ _ e. e ≡ FoldError.OutOfMemory };
 
     fn from(_error: AllocFailed<V>) -> FoldError<X> {

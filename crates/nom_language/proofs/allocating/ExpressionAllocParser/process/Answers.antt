@@ -26,8 +26,8 @@ returns-in-Ok-clause-shown g c =
     let binary = g.C.Parser.grammar (g.C.Parser.state c.args.self.now.pair.0) in
     runs_out_beside (judged_fit {R = Result g.row.O.Denot g.row.X.Denot} {Takes = λ _. Unit {0}} {Gives = Tells}
     (λ i. OfError (g.T.Error.FromExternalError.externals.of_external i Kind.Precedence))
-    (terms_meaning g.I.Items.model g.T.Error.ParseError.errors term.meaning binary.meaning) (record { takes = λ t p h. tt })
-    {r = Ok c.in-Ok.value} (c.emitted.ensures ∙ ap Some c.in-Ok.is) refl refl c.in_ok-end.ensures.shown
+    (terms_meaning g.I.Items.model g.T.Error.ParseError.errors term.meaning binary.meaning) {r = Ok c.in-Ok.value} (record { takes = λ t p h. tt })
+    (c.emitted.ensures ∙ ap Some c.in-Ok.is) refl refl c.in_ok-end.ensures.shown
     (λ t h. built_error g.OM.Output.Mode.BUILDS _ _ _ (λ y e. subst (λ z. IsEvaluated term.IsOutput binary.IsOutput
     (λ o. g.G.Fn.post c.args.self.now.fold (o, tt)) t (Ok z)) (sym e) h) c.built.ensures))
 
