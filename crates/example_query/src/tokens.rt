@@ -1,11 +1,12 @@
 //! The tokens. Each takes the white space after it.
 
-use crate::faults::{Answer, Text, refused};
+use crate::faults::{Answer, Text, named, refused, required};
 use crate::tree::Sign;
 use nom::Parser;
 use nom::bytes::{take_while, take_while1};
 use nom::character::{char, digit1, multispace0};
-use nom::combinator::{context, cut, opt, recognize};
+use nom::combinator::{cut, opt, recognize};
+use nom::error::context;
 use nom::sequence::{delimited, pair, terminated};
 
 /// White space.
@@ -24,29 +25,40 @@ fn in_word(c: char) -> bool {
 }
 
 /// Letters, digits and `_`.
-fn word<'a>(input: Text<'a>) -> Answer<'a, &'a str> {
-    let (rest, word) = terminated(take_while1(in_word), multispace0()).parse_complete(input)?;
-    Ok((rest, word.fragment()))
+fn word<'a>(input: Text<'a>) -> Answer<'a, Text<'a>> {
+    terminated(take_while1(in_word), multispace0()).parse_complete(input)
 }
 
 /// A word that has a meaning of its own.
-pub fn keyword<'a>(input: Text<'a>, wanted: &'static str) -> Answer<'a, &'a str> {
-    match word(input) {
-        Ok((rest, word)) if word == wanted => Ok((rest, word)),
-        _ => refused(input, wanted),
+pub fn keyword<'a>(input: Text<'a>, wanted: &'static str) -> Answer<'a, Text<'a>> {
+    let (rest, found) = named(input, wanted, word(input))?;
+    if found.fragment() == wanted {
+        Ok((rest, found))
+    } else {
+        refused(input, wanted)
     }
+}
+
+/// Whether a character is a decimal digit.
+fn is_digit(c: char) -> bool {
+    c.is_ascii_digit()
 }
 
 /// Whether a word is a name.
 fn is_name(word: &str) -> bool {
-    word != "and" && word != "or" && word != "not" && !word.starts_with(|c: char| c.is_ascii_digit())
+    match word {
+        "and" | "or" | "not" => false,
+        _ => !word.starts_with(is_digit),
+    }
 }
 
 /// A name.
 pub fn name<'a>(input: Text<'a>) -> Answer<'a, Text<'a>> {
-    match terminated(take_while1(in_word), multispace0()).parse_complete(input) {
-        Ok((rest, word)) if is_name(word.fragment()) => Ok((rest, word)),
-        _ => refused(input, "a name"),
+    let (rest, found) = named(input, "a name", word(input))?;
+    if is_name(found.fragment()) {
+        Ok((rest, found))
+    } else {
+        refused(input, "a name")
     }
 }
 
@@ -73,7 +85,9 @@ fn in_text(c: char) -> bool {
 /// A text. One that isn't closed in its line is a failure.
 pub fn text<'a>(input: Text<'a>) -> Answer<'a, &'a str> {
     let inside = delimited(char('"'), take_while(in_text), cut(char('"')));
-    let (rest, inside) = context("a text", terminated(inside, multispace0())).parse_complete(input)?;
+    let (rest, inside) = context("a text", terminated(inside, multispace0())).parse_complete(
+        input,
+    )?;
     Ok((rest, inside.fragment()))
 }
 
@@ -82,7 +96,26 @@ fn in_sign(c: char) -> bool {
     c == '=' || c == '!' || c == '<' || c == '>'
 }
 
+/// What a sign stands for.
+fn sign_of(written: &str) -> Option<Sign> {
+    match written {
+        "=" => Some(Sign::Equal),
+        "!=" => Some(Sign::NotEqual),
+        "<" => Some(Sign::Less),
+        "<=" => Some(Sign::AtMost),
+        ">" => Some(Sign::Greater),
+        ">=" => Some(Sign::AtLeast),
+        _ => None,
+    }
+}
+
 /// A sign of a comparison.
 pub fn sign<'a>(input: Text<'a>) -> Answer<'a, Sign> {
-    let (rest, written) = take_while1(in_sign)
+    let name = "=, !=, <, <=, > or >=";
+    let signs = terminated(take_while1(in_sign), multispace0());
+    let (rest, written) = context(name, signs).parse_complete(input)?;
+    match sign_of(written.fragment()) {
+        Some(sign) => Ok((rest, sign)),
+        None => refused(input, name),
+    }
 }
