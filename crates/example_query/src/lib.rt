@@ -21,5 +21,5 @@ mod tree;
 mod values;
 
 pub use crate::faults::{Answer, Fault, Text};
-pub use crate::query::{DEEPEST, explained, query};
+pub use crate::query::{DEEPEST, explain, query};
 pub use crate::tree::{Query, Sign, Value};

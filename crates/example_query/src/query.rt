@@ -155,7 +155,7 @@ pub fn query<'a, A: Allocator + Copy>(
 }
 
 /// The text of the report on a text of some name that is no query; none of a query.
-pub fn explained<A: Allocator + Copy>(
+pub fn explain<A: Allocator + Copy>(
     alloc: A,
     name: &str,
     text: &str,
