@@ -15,11 +15,11 @@
 #![tactic(auto)]
 
 mod faults;
-mod query;
+mod parsing;
 mod tokens;
 mod tree;
 mod values;
 
 pub use crate::faults::{Answer, Fault, Text};
-pub use crate::query::{DEEPEST, explain, query};
+pub use crate::parsing::{DEEPEST, explain, parse_query};
 pub use crate::tree::{Query, Sign, Value};

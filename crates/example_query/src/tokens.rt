@@ -1,11 +1,11 @@
 //! The tokens. Each takes the white space after it.
 
-use crate::faults::{Answer, Text, named, refused, required};
+use crate::faults::{Answer, Text, What, named, refused, required, words};
 use crate::tree::Sign;
 use nom::Parser;
 use nom::bytes::{take_while, take_while1};
 use nom::character::{char, digit1, multispace0};
-use nom::combinator::{cut, opt, recognize};
+use nom::combinator::{cut, map_opt, opt, recognize};
 use nom::error::context;
 use nom::sequence::{delimited, pair, terminated};
 
@@ -30,12 +30,12 @@ fn word<'a>(input: Text<'a>) -> Answer<'a, Text<'a>> {
 }
 
 /// A word that has a meaning of its own.
-pub fn keyword<'a>(input: Text<'a>, wanted: &'static str) -> Answer<'a, Text<'a>> {
-    let (rest, found) = named(input, wanted, word(input))?;
-    if found.fragment() == wanted {
+pub fn keyword<'a>(input: Text<'a>, what: What) -> Answer<'a, Text<'a>> {
+    let (rest, found) = named(input, what, word(input))?;
+    if found.fragment() == words(what) {
         Ok((rest, found))
     } else {
-        refused(input, wanted)
+        refused(input, what)
     }
 }
 
@@ -54,11 +54,11 @@ fn is_name(word: &str) -> bool {
 
 /// A name.
 pub fn name<'a>(input: Text<'a>) -> Answer<'a, Text<'a>> {
-    let (rest, found) = named(input, "a name", word(input))?;
+    let (rest, found) = named(input, What::Name, word(input))?;
     if is_name(found.fragment()) {
         Ok((rest, found))
     } else {
-        refused(input, "a name")
+        refused(input, What::Name)
     }
 }
 
@@ -73,7 +73,7 @@ pub fn number<'a>(input: Text<'a>) -> Answer<'a, i64> {
     let (rest, written) = digits(input)?;
     match i64::from_str_radix(written.fragment(), 10) {
         Ok(number) => Ok((rest, number)),
-        Err(_) => required(refused(input, "a number of 64 bits")),
+        Err(_) => required(refused(input, What::SmallNumber)),
     }
 }
 
@@ -97,8 +97,8 @@ fn in_sign(c: char) -> bool {
 }
 
 /// What a sign stands for.
-fn sign_of(written: &str) -> Option<Sign> {
-    match written {
+fn sign_of<'a>(written: Text<'a>) -> Option<Sign> {
+    match written.fragment() {
         "=" => Some(Sign::Equal),
         "!=" => Some(Sign::NotEqual),
         "<" => Some(Sign::Less),
@@ -111,11 +111,6 @@ fn sign_of(written: &str) -> Option<Sign> {
 
 /// A sign of a comparison.
 pub fn sign<'a>(input: Text<'a>) -> Answer<'a, Sign> {
-    let name = "=, !=, <, <=, > or >=";
-    let signs = terminated(take_while1(in_sign), multispace0());
-    let (rest, written) = context(name, signs).parse_complete(input)?;
-    match sign_of(written.fragment()) {
-        Some(sign) => Ok((rest, sign)),
-        None => refused(input, name),
-    }
+    let signs = map_opt(take_while1(in_sign), sign_of);
+    terminated(context("=, !=, <, <=, > or >=", signs), multispace0()).parse_complete(input)
 }

@@ -2,7 +2,6 @@
 
 use crate::faults::Text;
 use nom::Viewed;
-use std::alloc::Allocator;
 
 /// How two values are compared.
 #[derive(Clone, Copy, Debug, PartialEq, Eq)]
@@ -29,11 +28,11 @@ impl Viewed for Value<'_> {}
 
 /// A query. Names and texts are slices of its text.
 #[derive(Debug, Drop)]
-pub enum Query<'a, A: Allocator> {
+pub enum Query<'a> {
     Compared(Value<'a>, Sign, Value<'a>),
-    Not(Box<Query<'a, A>, A>),
-    And(Box<Query<'a, A>, A>, Box<Query<'a, A>, A>),
-    Or(Box<Query<'a, A>, A>, Box<Query<'a, A>, A>),
+    Not(Box<Query<'a>>),
+    And(Box<Query<'a>>, Box<Query<'a>>),
+    Or(Box<Query<'a>>, Box<Query<'a>>),
 }
 
-impl<A: Allocator> Viewed for Query<'_, A> {}
+impl Viewed for Query<'_> {}

@@ -1,10 +1,9 @@
 //! Comparisons, which have no other condition in them.
 
-use crate::faults::{Answer, Text, named, otherwise, required};
+use crate::faults::{Answer, Text, What, named, otherwise, required};
 use crate::tokens::{name, number, sign, text};
 use crate::tree::{Query, Value};
 use nom::Err;
-use std::alloc::Allocator;
 
 /// A name as a value.
 fn named_value<'a>(input: Text<'a>) -> Answer<'a, Value<'a>> {
@@ -41,7 +40,7 @@ fn value<'a>(input: Text<'a>) -> Answer<'a, Value<'a>> {
 }
 
 /// Two values and the sign between them.
-fn sides<'a, A: Allocator>(input: Text<'a>) -> Answer<'a, Query<'a, A>> {
+fn sides<'a>(input: Text<'a>) -> Answer<'a, Query<'a>> {
     let (rest, left) = value(input)?;
     let (rest, sign) = required(sign(rest))?;
     let (rest, right) = required(value(rest))?;
@@ -49,6 +48,6 @@ fn sides<'a, A: Allocator>(input: Text<'a>) -> Answer<'a, Query<'a, A>> {
 }
 
 /// A comparison.
-pub fn comparison<'a, A: Allocator>(input: Text<'a>) -> Answer<'a, Query<'a, A>> {
-    named(input, "a comparison", sides(input))
+pub fn comparison<'a>(input: Text<'a>) -> Answer<'a, Query<'a>> {
+    named(input, What::Comparison, sides(input))
 }

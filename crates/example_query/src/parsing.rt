@@ -1,6 +1,6 @@
 //! Queries: conditions with `not` before them, and `and` and `or` between them.
 
-use crate::faults::{Answer, Fault, Text, named, otherwise, refused, required};
+use crate::faults::{Answer, Fault, Text, What, named, otherwise, refused, required};
 use crate::tokens::{keyword, spaces, token};
 use crate::tree::Query;
 use crate::values::comparison;
@@ -12,7 +12,7 @@ use nom_language::precedence::{
     Assoc, FoldError, Operation, binary_op, precedence_alloc, unary_op,
 };
 use nom_report::render_from;
-use std::alloc::Allocator;
+use std::alloc::Global;
 
 /// What stands between two conditions.
 #[derive(Clone, Copy)]
@@ -23,25 +23,26 @@ enum Joint {
 
 impl Viewed for Joint {}
 
-fn not_word<'a>(input: Text<'a>) -> Answer<'a, Text<'a>> {
-    keyword(input, "not")
+fn not_word<'a>(input: Text<'a>) -> Answer<'a, ()> {
+    let (rest, _) = keyword(input, What::Not)?;
+    Ok((rest, ()))
 }
 
 fn and_word<'a>(input: Text<'a>) -> Answer<'a, Joint> {
-    let (rest, _) = keyword(input, "and")?;
+    let (rest, _) = keyword(input, What::And)?;
     Ok((rest, Joint::And))
 }
 
 fn or_word<'a>(input: Text<'a>) -> Answer<'a, Joint> {
-    let (rest, _) = keyword(input, "or")?;
+    let (rest, _) = keyword(input, What::Or)?;
     Ok((rest, Joint::Or))
 }
 
 /// The tree of an operation.
-fn joined<'a, A: Allocator + Copy>(
-    alloc: A,
-    operation: Operation<Text<'a>, (), Joint, Query<'a, A>>,
-) -> Result<Query<'a, A>, FoldError<()>> {
+fn joined<'a>(
+    alloc: Global,
+    operation: Operation<(), (), Joint, Query<'a>>,
+) -> Result<Query<'a>, FoldError<()>> {
     match operation {
         Operation::Prefix(_, x) => Ok(Query::Not(Box::new(alloc, x)?)),
         Operation::Postfix(x, _) => Ok(x),
@@ -54,25 +55,6 @@ fn joined<'a, A: Allocator + Copy>(
             Ok(Query::Or(left, Box::new(alloc, y)?))
         }
     }
-}
-
-/// Conditions, each as a function reads it. One that is missing is a failure, since it is wanted wherever it is tried.
-fn joined_by<'a, A: Allocator + Copy, F: Fn(Text<'a>) -> Answer<'a, Query<'a, A>> + Drop>(
-    alloc: A,
-    condition: F,
-    input: Text<'a>,
-) -> Answer<'a, Query<'a, A>> {
-    let and = binary_op(2, Assoc::Left, func(and_word));
-    let or = binary_op(3, Assoc::Left, func(or_word));
-    precedence_alloc(
-        alloc,
-        unary_op(1, func(not_word)),
-        fail(),
-        alt((and, or)),
-        cut(func(condition)),
-        |operation| joined(alloc, operation),
-    )
-    .parse_complete(input)
 }
 
 /// What could go on after a condition.
@@ -90,7 +72,7 @@ fn close<'a>(input: Text<'a>) -> Answer<'a, char> {
 
 /// The beginning of a bracket, or a `not`, which no function reads here.
 fn open<'a>(input: Text<'a>) -> Answer<'a, char> {
-    match refused(input, "not") {
+    match refused(input, What::Not) {
         Err(Err::Error(error)) => otherwise(error, token(input, '(')),
         answer => answer,
     }
@@ -105,13 +87,10 @@ fn end<'a>(input: Text<'a>) -> Answer<'a, Text<'a>> {
 }
 
 /// What stands in a bracket, up to its end.
-fn inside<'a, A: Allocator + Copy>(
-    alloc: A,
-    depth: usize,
-    input: Text<'a>,
-) -> Answer<'a, Query<'a, A>> {
+#[cycle(conditions)]
+fn inside<'a>(alloc: Global, depth: usize, input: Text<'a>) -> Answer<'a, Query<'a>> {
     if depth == 0 {
-        return refused(input, "fewer brackets in each other");
+        return refused(input, What::FewerBrackets);
     }
     let (rest, query) = conditions(alloc, depth - 1, input)?;
     let (rest, _) = close(rest)?;
@@ -119,35 +98,38 @@ fn inside<'a, A: Allocator + Copy>(
 }
 
 /// A condition, in which `depth` brackets may lie in each other.
-fn condition<'a, A: Allocator + Copy>(
-    alloc: A,
-    depth: usize,
-    input: Text<'a>,
-) -> Answer<'a, Query<'a, A>> {
+#[cycle(conditions)]
+fn condition<'a>(alloc: Global, depth: usize, input: Text<'a>) -> Answer<'a, Query<'a>> {
     match open(input) {
-        Ok((rest, _)) => named(input, "a bracket", required(inside(alloc, depth, rest))),
+        Ok((rest, _)) => named(input, What::Bracket, required(inside(alloc, depth, rest))),
         Err(Err::Error(error)) => otherwise(error, comparison(input)),
         Err(other) => Err(other),
     }
 }
 
-/// Conditions, in which `depth` brackets may lie in each other.
-fn conditions<'a, A: Allocator + Copy>(
-    alloc: A,
-    depth: usize,
-    input: Text<'a>,
-) -> Answer<'a, Query<'a, A>> {
-    joined_by(alloc, |text| condition(alloc, depth, text), input)
+/// Conditions, in which `depth` brackets may lie in each other. One that is missing is a failure, since it is wanted wherever it is
+/// tried.
+#[cycle(conditions)]
+fn conditions<'a>(alloc: Global, depth: usize, input: Text<'a>) -> Answer<'a, Query<'a>> {
+    let each = |text| condition(alloc, depth, text);
+    let and = binary_op(2, Assoc::Left, func(and_word));
+    let or = binary_op(3, Assoc::Left, func(or_word));
+    precedence_alloc(
+        alloc,
+        unary_op(1, func(not_word)),
+        fail(),
+        alt((and, or)),
+        cut(func(each)),
+        |operation| joined(alloc, operation),
+    )
+    .parse_complete(input)
 }
 
 /// How many brackets may lie in each other, which bounds the stack that a hostile text can take.
 pub const DEEPEST: usize = 100;
 
 /// The tree of a query, which is all of a text.
-pub fn query<'a, A: Allocator + Copy>(
-    alloc: A,
-    text: &'a str,
-) -> Result<Query<'a, A>, Err<Fault<'a>>> {
+pub fn parse_query<'a>(alloc: Global, text: &'a str) -> Result<Query<'a>, Err<Fault<'a>>> {
     let (input, _) = spaces(Located::new(text))?;
     let (rest, query) = conditions(alloc, DEEPEST, input)?;
     let _ = end(rest)?;
@@ -155,12 +137,8 @@ pub fn query<'a, A: Allocator + Copy>(
 }
 
 /// The text of the report on a text of some name that is no query; none of a query.
-pub fn explain<A: Allocator + Copy>(
-    alloc: A,
-    name: &str,
-    text: &str,
-) -> Result<Option<String<A>>, OutOfMemory> {
-    let error = match query(alloc, text) {
+pub fn explain(alloc: Global, name: &str, text: &str) -> Result<Option<String>, OutOfMemory> {
+    let error = match parse_query(alloc, text) {
         Ok(_) => return Ok(None),
         Err(Err::Error(error)) => error,
         Err(Err::Failure(error)) => error,
