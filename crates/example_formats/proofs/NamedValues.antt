@@ -6,6 +6,7 @@ use Rattle.std.specs.List.{All}
 use Rattle.nom_internal.specs.Prelude.{IResult, IsSuffixOf, IsBoundary, same_cut, items_len-append, rest_rest, Stops, Slice, IsModelledBy, first_place}
 use Rattle.nom_internal.specs.Prelude.{text_model, text_lawful, Outcome, Accept, Refuse, Stop, ParsesAnswer, ParseRanOut, Parsed, LeafAnswers, Then}
 use Rattle.nom_internal.specs.Prelude.{Fails, Needs}
+use Rattle.nom_internal.specs.Cases.{OnPart}
 use Rattle.nom_bytes.specs.ParsedRuns.{runs}
 use Rattle.nom_character_first.specs.FirstItem.{heads}
 use Rattle.example_formats.specs.Named.{IsNamed, in_name, in_value}
@@ -38,16 +39,29 @@ stops_as : {P Q : ℕ → Type 0} (xs : List ℕ) → ((c : ℕ) → P c → Q c
 stops_as [] f h = tt
 stops_as (x ∷ xs) f h = f x h
 
+-- what a part answers whose errors get a name: as the part does
+abbrev Renamed : {V : Type 0} → (Text → Outcome V → Type 0) → Text → Outcome V → Type 0
+Renamed Part i o = OnPart (λ j k. j ≡ k) Part (λ _ a. o ≡ a) i
+
+unnamed : {V : Type 0} (Part : Text → Outcome V → Type 0) (i : Text) (o : Outcome V) → Renamed Part i o → Part i o
+unnamed Part i o h = subst (λ j. Part j o) (sym h.at_is) (subst (Part h.at) (sym h.fact) h.answered)
+
 module _ (Names Values : ℕ → Bool → Type 0) (sign : ℕ) (is_sign : sign ≡ 61) (names : (c : ℕ) (b : Bool) → Names c b → b ≡ in_name c)
     (values : (c : ℕ) (b : Bool) → Values c b → b ≡ in_value c) where
+  abbrev NamePart : Text → Outcome (Slice text_model) → Type 0
+  NamePart = LeafAnswers (runs text_model Names None 1) false
+
   abbrev NameAnswers : Text → Outcome (Slice text_model) → Type 0
-  NameAnswers = LeafAnswers (runs text_model Names None 1) false
+  NameAnswers = Renamed NamePart
 
   abbrev SignAnswers : Text → Outcome ℕ → Type 0
   SignAnswers = LeafAnswers (heads text_model (λ x. x) (λ x b. b ≡ (x == sign)) (Some (len_utf8 sign))) false
 
+  abbrev ValuePart : Text → Outcome (Slice text_model) → Type 0
+  ValuePart = LeafAnswers (runs text_model Values None 1) false
+
   abbrev ValueAnswers : Text → Outcome (Slice text_model) → Type 0
-  ValueAnswers = LeafAnswers (runs text_model Values None 1) false
+  ValueAnswers = Renamed ValuePart
 
   abbrev AfterName : Text → Outcome (Slice text_model) → Type 0
   AfterName = Then text_model (λ u v. v) SignAnswers (λ _. ValueAnswers)
@@ -60,15 +74,16 @@ module _ (Names Values : ℕ → Bool → Type 0) (sign : ℕ) (is_sign : sign �
       AreBoth text_model (λ u v. v) SignAnswers (λ _. ValueAnswers) line.between line.second_length line.second → IsSuffixOf text_model i n j →
       IsModelledBy text_model t.0 d → IsModelledBy text_model t.1 v → IsNamed (chars i.now) (chars d.now) (chars v.now) (chars j.now)
   named_by i j d v n t line after r sd sv =
-      let name = run_read Names i d line.between line.first_length line.first line.first_accepts line.rest_is
+      let name = run_read Names i d line.between line.first_length line.first (unnamed NamePart i _ line.first_accepts) line.rest_is
       (subst (λ s. IsModelledBy text_model s d) (ap (λ x. x.0) line.tree_is) sd) in
       let at = after.first_accepts in
       let equals = after_head sign at.0 after.first_length at.1.rest line.between after.between at.1.whole at.2 at.3 after.rest_is in
-      let place = first_place text_model after.between after.second_length after.second after.second_accepts.0.first in
+      let run = unnamed ValuePart after.between _ after.second_accepts in
+      let place = first_place text_model after.between after.second_length after.second run.0.first in
       let before = rest_rest text_model text_lawful i line.first_length line.between after.first_length after.between line.rest_is after.rest_is in
       let rest = rest_between i after.between j n (line.first_length + after.first_length) after.second_length before r
       (omega (arith, line.length_is, after.length_is)) place in
-      let value = run_read Values after.between v j after.second_length after.second after.second_accepts rest
+      let value = run_read Values after.between v j after.second_length after.second run rest
       (subst (λ s. IsModelledBy text_model s v) (ap (λ x. x.1) line.tree_is ∙ after.tree_is) sv) in
       record {
         whole = name.whole ∙ ap (λ xs. chars d.now ++ xs) (equals ∙ (ap (λ c. c ∷ chars after.between.now) is_sign ∙ ap (λ xs. 61 ∷ xs) value.whole));

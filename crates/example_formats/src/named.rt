@@ -6,7 +6,7 @@ ghost use Rattle.example_formats.specs.Named.{IsNamed, in_name, in_value, line_o
 
 use nom::bytes::take_while1;
 use nom::character::char;
-use nom::error::ParseError;
+use nom::error::{ContextError, ParseError, context};
 use nom::sequence::separated_pair;
 use nom::{IResult, Parser};
 
@@ -32,13 +32,15 @@ fn is_value(c: char) -> bool
 /// value = (any character but the end of a line)+
 /// ```
 ///
-/// The end of the line, or of the input, is left. The error type is the caller's.
-pub fn named_value<'a, E: ParseError<&'a str>>(
+/// The end of the line, or of the input, is left. The error type is the caller's: a `Report` of `nom_report` says where a name
+/// or a value is missing.
+pub fn named_value<'a, E: ParseError<&'a str> + ContextError<&'a str>>(
     input: &'a str,
 ) -> IResult<&'a str, (&'a str, &'a str), E>
-    ensures grammar { Parses text_model (line_of E.errors) false input.entry result }
+    ensures grammar { Parses text_model (line_of E.errors E.contexts) false input.entry result }
     ensures named { IfOk result (λ a. IsNamed (chars input.now) (chars a.1.0.now) (chars a.1.1.now) (chars a.0.now)) }
 {
-    let mut line = separated_pair(take_while1(is_named), char('='), take_while1(is_value));
-    line.parse_complete(input)
+    let name = context("a name", take_while1(is_named));
+    let value = context("a value", take_while1(is_value));
+    separated_pair(name, char('='), value).parse_complete(input)
 }

@@ -1,2 +1,3 @@
+pub mod AllocationShown
 pub mod EvaluationShown
 pub mod LeftShown

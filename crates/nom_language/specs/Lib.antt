@@ -1,3 +1,4 @@
+pub mod Allocations
 pub mod Evaluated
 pub mod LeftFolds
 pub mod Operators

@@ -1,2 +1,3 @@
+pub mod AllocationLaws
 pub mod LanguageLaws
 pub mod PinnedLaws

@@ -121,7 +121,7 @@ where
 
 /// A first term, to whose refusal `Precedence` is added at the start, and then pairs, with the value of them all, or the
 /// first refusal of the fold.
-fn terms<
+pub(crate) fn terms<
     OM: OutputMode,
     I: Input,
     A: Allocator + Copy,
@@ -163,7 +163,7 @@ fn terms<
 
 /// A refusal with an error that is made of another, where errors are built.
 #[inline(always)]
-fn outside_refusal<M: Mode, I: Drop, X: Drop, E: FromExternalError<I, X> + Drop>(
+pub(crate) fn outside_refusal<M: Mode, I: Drop, X: Drop, E: FromExternalError<I, X> + Drop>(
     input: I,
     kind: ErrorKind,
     error: X,

@@ -2,6 +2,7 @@
 //! with its precedence, and a fold that may refuse. The value is that of the one tree that the precedences give.
 #![tactic(auto)]
 
+pub mod allocating;
 pub mod evaluation;
 pub mod expression;
 pub mod left;

@@ -1,6 +1,8 @@
 //! Operator precedence.
 ghost use Rattle.std.specs.Prelude.{◌≡◌};
 
+use crate::allocating::ExpressionAlloc;
+pub use crate::allocating::FoldError;
 use crate::expression::Expression;
 use crate::left::LeftAssoc;
 use crate::operator::{BinaryOp, UnaryOp};
@@ -70,6 +72,32 @@ pub fn precedence<A: Allocator + Copy, P, Q, C, F, G>(
 {
     let term = (many0(alloc, prefix), operand, many0(alloc, postfix));
     Expression {
+        alloc,
+        pair: (binary, term),
+        fold,
+    }
+}
+
+/// An expression as of `precedence`, whose fold may take memory, as for a tree with `Box`. It gives a value, refuses the
+/// expression by `FoldError::Refused`, or finds no memory: then the answer is `OutOfMemory`, which is no refusal, and that comes
+/// from the fold only where it said so. `?` makes `FoldError::OutOfMemory` of what `Box::new` and `push` of a `Vec` answer.
+#[inline(always)]
+pub fn precedence_alloc<A: Allocator + Copy, P, Q, C, F, G>(
+    alloc: A,
+    prefix: P,
+    postfix: Q,
+    binary: C,
+    operand: F,
+    fold: G,
+) -> ExpressionAlloc<A, C, (Many0<A, P>, F, Many0<A, Q>), G>
+    ensures prefix { result.pair.1.0.parser ≡ prefix }
+    ensures operand { result.pair.1.1 ≡ operand }
+    ensures postfix { result.pair.1.2.parser ≡ postfix }
+    ensures binary { result.pair.0 ≡ binary }
+    ensures fold { result.fold ≡ fold }
+{
+    let term = (many0(alloc, prefix), operand, many0(alloc, postfix));
+    ExpressionAlloc {
         alloc,
         pair: (binary, term),
         fold,

@@ -16,7 +16,7 @@ use std::alloc::Allocator;
 pub type Section<I, A> = (I, Vec<(I, I), A>);
 
 /// Returns whether a character may be part of a value.
-fn is_value(c: char) -> bool
+pub(crate) fn is_value(c: char) -> bool
     ensures { result ≡ in_value c }
 {
     c != '\r' && c != '\n'

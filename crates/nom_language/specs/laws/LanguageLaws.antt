@@ -30,10 +30,10 @@ module _ {I A V W E : Type 0} {w : Model I A} {first : Meaning I V E} {m : Meani
   growing_steady l = record { stays = l.stays }
 
 module _ {I A T C E : Type 0} {w : Model I A} (l : InputLaws w) (errs : Errors I E) {term : Meaning I T E} {binary : Meaning I C E} where
-  terms_lawful : IsLawful w term → IsLawful w binary → IsLawful w (terms_meaning w errs term binary)
+  pub terms_lawful : IsLawful w term → IsLawful w binary → IsLawful w (terms_meaning w errs term binary)
   terms_lawful p q = growing_lawful (sequence_lawful l (closed_lawful p) (items_lawful l errs (any_limits Kind.Precedence) (built_lawful (pair_lawful l q p))))
 
-  terms_steady : IsSteady w term → IsSteady w binary → IsSteady w (terms_meaning w errs term binary)
+  pub terms_steady : IsSteady w term → IsSteady w binary → IsSteady w (terms_meaning w errs term binary)
   terms_steady p q = growing_steady (sequence_steady l (closed_steady p) (items_steady l errs (any_limits Kind.Precedence) (built_steady (pair_steady l q p))))
 
 module _ {I A T C O X E : Type 0} {w : Model I A} (l : InputLaws w) (errs : Errors I E) (externals : Externals I X E) {CanFold : Type 0}
