@@ -1,17 +1,8 @@
-//! Answers whose errors are reports, of functions that go on by `?`: what combinators do for parsers.
+//! Answers of functions that go on by `?`: what combinators do for parsers. All are for any input and any error type that
+//! takes names.
 
 use nom::error::{ContextError, ErrorKind, ParseError};
-use nom::{Err, IResult, Located};
-use nom_report::Report;
-
-/// A text that knows its line and column.
-pub type Text<'a> = Located<&'a str>;
-
-/// Why a text is no query.
-pub type Fault<'a> = Report<Text<'a>>;
-
-/// What a part answers.
-pub type Answer<'a, T> = IResult<Text<'a>, T, Fault<'a>>;
+use nom::{Err, IResult};
 
 /// What has a name in reports.
 #[derive(Clone, Copy, Debug, PartialEq, Eq)]
@@ -41,15 +32,19 @@ pub fn words(what: What) -> &'static str {
 }
 
 /// An error that goes by a name where nothing was consumed, and else lies in what has the name.
-fn under<'a>(start: Text<'a>, what: What, error: Fault<'a>) -> Result<Fault<'a>, Err<Fault<'a>>> {
-    match Fault::add_context(start, words(what), error) {
+fn under<I: Drop, E: ContextError<I> + Drop>(start: I, what: What, error: E) -> Result<E, Err<E>> {
+    match E::add_context(start, words(what), error) {
         Ok(error) => Ok(error),
         Err(_) => Err(Err::OutOfMemory),
     }
 }
 
 /// The answer, as of `context`.
-pub fn named<'a, T: Drop>(start: Text<'a>, what: What, answer: Answer<'a, T>) -> Answer<'a, T> {
+pub fn named<I: Drop, T: Drop, E: ContextError<I> + Drop>(
+    start: I,
+    what: What,
+    answer: IResult<I, T, E>,
+) -> IResult<I, T, E> {
     match answer {
         Ok(accepted) => Ok(accepted),
         Err(Err::Error(error)) => Err(Err::Error(under(start, what, error)?)),
@@ -60,7 +55,7 @@ pub fn named<'a, T: Drop>(start: Text<'a>, what: What, answer: Answer<'a, T>) ->
 }
 
 /// The answer, as of `cut`: a refusal is a failure.
-pub fn required<'a, T: Drop>(answer: Answer<'a, T>) -> Answer<'a, T> {
+pub fn required<I: Drop, T: Drop, E: Drop>(answer: IResult<I, T, E>) -> IResult<I, T, E> {
     match answer {
         Ok(accepted) => Ok(accepted),
         Err(Err::Error(error)) => Err(Err::Failure(error)),
@@ -71,15 +66,21 @@ pub fn required<'a, T: Drop>(answer: Answer<'a, T>) -> Answer<'a, T> {
 }
 
 /// A refusal: what would have been accepted goes by a name.
-pub fn refused<'a, T: Drop>(input: Text<'a>, what: What) -> Answer<'a, T> {
-    match Fault::from_error_kind(input, ErrorKind::Fail) {
+pub fn refused<I: Copy + Drop, T: Drop, E: ParseError<I> + ContextError<I> + Drop>(
+    input: I,
+    what: What,
+) -> IResult<I, T, E> {
+    match E::from_error_kind(input, ErrorKind::Fail) {
         Ok(error) => Err(Err::Error(under(input, what, error)?)),
         Err(_) => Err(Err::OutOfMemory),
     }
 }
 
 /// The answer of a branch after one that was refused, as of `alt`: of two refusals the error tells both.
-pub fn otherwise<'a, T: Drop>(first: Fault<'a>, answer: Answer<'a, T>) -> Answer<'a, T> {
+pub fn otherwise<I: Drop, T: Drop, E: ParseError<I> + Drop>(
+    first: E,
+    answer: IResult<I, T, E>,
+) -> IResult<I, T, E> {
     match answer {
         Ok(accepted) => Ok(accepted),
         Err(Err::Error(second)) => match first.or(second) {

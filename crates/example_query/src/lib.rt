@@ -20,6 +20,5 @@ mod tokens;
 mod tree;
 mod values;
 
-pub use crate::faults::{Answer, Fault, Text};
 pub use crate::parsing::{DEEPEST, explain, parse_query};
-pub use crate::tree::{Query, Sign, Value};
+pub use crate::tree::{Query, Sign, Text, Value};

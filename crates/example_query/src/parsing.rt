@@ -1,17 +1,17 @@
 //! Queries: conditions with `not` before them, and `and` and `or` between them.
 
-use crate::faults::{Answer, Fault, Text, What, named, otherwise, refused, required};
+use crate::faults::{What, named, otherwise, refused, required};
 use crate::tokens::{keyword, spaces, token};
-use crate::tree::Query;
+use crate::tree::{Query, Text};
 use crate::values::comparison;
 use nom::branch::alt;
 use nom::combinator::{cut, eof, fail};
-use nom::error::context;
-use nom::{Err, Located, OutOfMemory, Parser, Viewed, func};
+use nom::error::{ContextError, FromExternalError, ParseError, context};
+use nom::{Err, IResult, Located, OutOfMemory, Parser, Viewed, func};
 use nom_language::precedence::{
     Assoc, FoldError, Operation, binary_op, precedence_alloc, unary_op,
 };
-use nom_report::render_from;
+use nom_report::{Report, render_from};
 use std::alloc::Global;
 
 /// What stands between two conditions.
@@ -23,17 +23,23 @@ enum Joint {
 
 impl Viewed for Joint {}
 
-fn not_word<'a>(input: Text<'a>) -> Answer<'a, ()> {
+fn not_word<'a, E: ParseError<Text<'a>> + ContextError<Text<'a>> + Drop>(
+    input: Text<'a>,
+) -> IResult<Text<'a>, (), E> {
     let (rest, _) = keyword(input, What::Not)?;
     Ok((rest, ()))
 }
 
-fn and_word<'a>(input: Text<'a>) -> Answer<'a, Joint> {
+fn and_word<'a, E: ParseError<Text<'a>> + ContextError<Text<'a>> + Drop>(
+    input: Text<'a>,
+) -> IResult<Text<'a>, Joint, E> {
     let (rest, _) = keyword(input, What::And)?;
     Ok((rest, Joint::And))
 }
 
-fn or_word<'a>(input: Text<'a>) -> Answer<'a, Joint> {
+fn or_word<'a, E: ParseError<Text<'a>> + ContextError<Text<'a>> + Drop>(
+    input: Text<'a>,
+) -> IResult<Text<'a>, Joint, E> {
     let (rest, _) = keyword(input, What::Or)?;
     Ok((rest, Joint::Or))
 }
@@ -58,12 +64,16 @@ fn joined<'a>(
 }
 
 /// What could go on after a condition.
-fn more<'a, T: Drop>(input: Text<'a>) -> Answer<'a, T> {
+fn more<'a, T: Drop, E: ParseError<Text<'a>> + ContextError<Text<'a>> + Drop>(
+    input: Text<'a>,
+) -> IResult<Text<'a>, T, E> {
     alt((context("and", fail()), context("or", fail()))).parse_complete(input)
 }
 
 /// The end of a bracket.
-fn close<'a>(input: Text<'a>) -> Answer<'a, char> {
+fn close<'a, E: ParseError<Text<'a>> + ContextError<Text<'a>> + Drop>(
+    input: Text<'a>,
+) -> IResult<Text<'a>, char, E> {
     match token(input, ')') {
         Err(Err::Error(error)) => otherwise(error, more(input)),
         answer => answer,
@@ -71,7 +81,9 @@ fn close<'a>(input: Text<'a>) -> Answer<'a, char> {
 }
 
 /// The beginning of a bracket, or a `not`, which no function reads here.
-fn open<'a>(input: Text<'a>) -> Answer<'a, char> {
+fn open<'a, E: ParseError<Text<'a>> + ContextError<Text<'a>> + Drop>(
+    input: Text<'a>,
+) -> IResult<Text<'a>, char, E> {
     match refused(input, What::Not) {
         Err(Err::Error(error)) => otherwise(error, token(input, '(')),
         answer => answer,
@@ -79,7 +91,9 @@ fn open<'a>(input: Text<'a>) -> Answer<'a, char> {
 }
 
 /// The end of a text.
-fn end<'a>(input: Text<'a>) -> Answer<'a, Text<'a>> {
+fn end<'a, E: ParseError<Text<'a>> + ContextError<Text<'a>> + Drop>(
+    input: Text<'a>,
+) -> IResult<Text<'a>, Text<'a>, E> {
     match eof(input) {
         Err(Err::Error(error)) => otherwise(error, more(input)),
         answer => answer,
@@ -88,7 +102,10 @@ fn end<'a>(input: Text<'a>) -> Answer<'a, Text<'a>> {
 
 /// What stands in a bracket, up to its end.
 #[cycle(conditions)]
-fn inside<'a>(alloc: Global, depth: usize, input: Text<'a>) -> Answer<'a, Query<'a>> {
+fn inside<
+    'a,
+    E: ParseError<Text<'a>> + ContextError<Text<'a>> + FromExternalError<Text<'a>, ()> + Drop,
+>(alloc: Global, depth: usize, input: Text<'a>) -> IResult<Text<'a>, Query<'a>, E> {
     if depth == 0 {
         return refused(input, What::FewerBrackets);
     }
@@ -99,7 +116,10 @@ fn inside<'a>(alloc: Global, depth: usize, input: Text<'a>) -> Answer<'a, Query<
 
 /// A condition, in which `depth` brackets may lie in each other.
 #[cycle(conditions)]
-fn condition<'a>(alloc: Global, depth: usize, input: Text<'a>) -> Answer<'a, Query<'a>> {
+fn condition<
+    'a,
+    E: ParseError<Text<'a>> + ContextError<Text<'a>> + FromExternalError<Text<'a>, ()> + Drop,
+>(alloc: Global, depth: usize, input: Text<'a>) -> IResult<Text<'a>, Query<'a>, E> {
     match open(input) {
         Ok((rest, _)) => named(input, What::Bracket, required(inside(alloc, depth, rest))),
         Err(Err::Error(error)) => otherwise(error, comparison(input)),
@@ -110,7 +130,10 @@ fn condition<'a>(alloc: Global, depth: usize, input: Text<'a>) -> Answer<'a, Que
 /// Conditions, in which `depth` brackets may lie in each other. One that is missing is a failure, since it is wanted wherever it is
 /// tried.
 #[cycle(conditions)]
-fn conditions<'a>(alloc: Global, depth: usize, input: Text<'a>) -> Answer<'a, Query<'a>> {
+fn conditions<
+    'a,
+    E: ParseError<Text<'a>> + ContextError<Text<'a>> + FromExternalError<Text<'a>, ()> + Drop,
+>(alloc: Global, depth: usize, input: Text<'a>) -> IResult<Text<'a>, Query<'a>, E> {
     let each = |text| condition(alloc, depth, text);
     let and = binary_op(2, Assoc::Left, func(and_word));
     let or = binary_op(3, Assoc::Left, func(or_word));
@@ -129,7 +152,7 @@ fn conditions<'a>(alloc: Global, depth: usize, input: Text<'a>) -> Answer<'a, Qu
 pub const DEEPEST: usize = 100;
 
 /// The tree of a query, which is all of a text.
-pub fn parse_query<'a>(alloc: Global, text: &'a str) -> Result<Query<'a>, Err<Fault<'a>>> {
+pub fn parse_query<'a>(alloc: Global, text: &'a str) -> Result<Query<'a>, Err<Report<Text<'a>>>> {
     let (input, _) = spaces(Located::new(text))?;
     let (rest, query) = conditions(alloc, DEEPEST, input)?;
     let _ = end(rest)?;

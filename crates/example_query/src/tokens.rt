@@ -1,21 +1,26 @@
 //! The tokens. Each takes the white space after it.
 
-use crate::faults::{Answer, Text, What, named, refused, required, words};
-use crate::tree::Sign;
-use nom::Parser;
+use crate::faults::{What, named, refused, required, words};
+use crate::tree::{Sign, Text};
 use nom::bytes::{take_while, take_while1};
 use nom::character::{char, digit1, multispace0};
 use nom::combinator::{cut, map_opt, opt, recognize};
-use nom::error::context;
+use nom::error::{ContextError, ParseError, context};
 use nom::sequence::{delimited, pair, terminated};
+use nom::{IResult, Parser};
 
 /// White space.
-pub fn spaces<'a>(input: Text<'a>) -> Answer<'a, Text<'a>> {
+pub fn spaces<'a, E: ParseError<Text<'a>> + ContextError<Text<'a>> + Drop>(
+    input: Text<'a>,
+) -> IResult<Text<'a>, Text<'a>, E> {
     multispace0().parse_complete(input)
 }
 
 /// A character.
-pub fn token<'a>(input: Text<'a>, wanted: char) -> Answer<'a, char> {
+pub fn token<'a, E: ParseError<Text<'a>> + ContextError<Text<'a>> + Drop>(
+    input: Text<'a>,
+    wanted: char,
+) -> IResult<Text<'a>, char, E> {
     terminated(char(wanted), multispace0()).parse_complete(input)
 }
 
@@ -25,12 +30,17 @@ fn in_word(c: char) -> bool {
 }
 
 /// Letters, digits and `_`.
-fn word<'a>(input: Text<'a>) -> Answer<'a, Text<'a>> {
+fn word<'a, E: ParseError<Text<'a>> + ContextError<Text<'a>> + Drop>(
+    input: Text<'a>,
+) -> IResult<Text<'a>, Text<'a>, E> {
     terminated(take_while1(in_word), multispace0()).parse_complete(input)
 }
 
 /// A word that has a meaning of its own.
-pub fn keyword<'a>(input: Text<'a>, what: What) -> Answer<'a, Text<'a>> {
+pub fn keyword<'a, E: ParseError<Text<'a>> + ContextError<Text<'a>> + Drop>(
+    input: Text<'a>,
+    what: What,
+) -> IResult<Text<'a>, Text<'a>, E> {
     let (rest, found) = named(input, what, word(input))?;
     if found.fragment() == words(what) {
         Ok((rest, found))
@@ -53,7 +63,9 @@ fn is_name(word: &str) -> bool {
 }
 
 /// A name.
-pub fn name<'a>(input: Text<'a>) -> Answer<'a, Text<'a>> {
+pub fn name<'a, E: ParseError<Text<'a>> + ContextError<Text<'a>> + Drop>(
+    input: Text<'a>,
+) -> IResult<Text<'a>, Text<'a>, E> {
     let (rest, found) = named(input, What::Name, word(input))?;
     if is_name(found.fragment()) {
         Ok((rest, found))
@@ -63,13 +75,17 @@ pub fn name<'a>(input: Text<'a>) -> Answer<'a, Text<'a>> {
 }
 
 /// The digits of a number, after their sign.
-fn digits<'a>(input: Text<'a>) -> Answer<'a, Text<'a>> {
+fn digits<'a, E: ParseError<Text<'a>> + ContextError<Text<'a>> + Drop>(
+    input: Text<'a>,
+) -> IResult<Text<'a>, Text<'a>, E> {
     let written = recognize(pair(opt(char('-')), digit1()));
     context("a number", terminated(written, multispace0())).parse_complete(input)
 }
 
 /// A number. One that is too large is a failure.
-pub fn number<'a>(input: Text<'a>) -> Answer<'a, i64> {
+pub fn number<'a, E: ParseError<Text<'a>> + ContextError<Text<'a>> + Drop>(
+    input: Text<'a>,
+) -> IResult<Text<'a>, i64, E> {
     let (rest, written) = digits(input)?;
     match i64::from_str_radix(written.fragment(), 10) {
         Ok(number) => Ok((rest, number)),
@@ -83,7 +99,9 @@ fn in_text(c: char) -> bool {
 }
 
 /// A text. One that isn't closed in its line is a failure.
-pub fn text<'a>(input: Text<'a>) -> Answer<'a, &'a str> {
+pub fn text<'a, E: ParseError<Text<'a>> + ContextError<Text<'a>> + Drop>(
+    input: Text<'a>,
+) -> IResult<Text<'a>, &'a str, E> {
     let inside = delimited(char('"'), take_while(in_text), cut(char('"')));
     let (rest, inside) = context("a text", terminated(inside, multispace0())).parse_complete(
         input,
@@ -110,7 +128,9 @@ fn sign_of<'a>(written: Text<'a>) -> Option<Sign> {
 }
 
 /// A sign of a comparison.
-pub fn sign<'a>(input: Text<'a>) -> Answer<'a, Sign> {
+pub fn sign<'a, E: ParseError<Text<'a>> + ContextError<Text<'a>> + Drop>(
+    input: Text<'a>,
+) -> IResult<Text<'a>, Sign, E> {
     let signs = map_opt(take_while1(in_sign), sign_of);
     terminated(context("=, !=, <, <=, > or >=", signs), multispace0()).parse_complete(input)
 }

@@ -1,7 +1,9 @@
 //! The trees of queries.
 
-use crate::faults::Text;
-use nom::Viewed;
+use nom::{Located, Viewed};
+
+/// A text that knows its line and column.
+pub type Text<'a> = Located<&'a str>;
 
 /// How two values are compared.
 #[derive(Clone, Copy, Debug, PartialEq, Eq)]

@@ -1,30 +1,39 @@
 //! Comparisons, which have no other condition in them.
 
-use crate::faults::{Answer, Text, What, named, otherwise, required};
+use crate::faults::{What, named, otherwise, required};
 use crate::tokens::{name, number, sign, text};
-use crate::tree::{Query, Value};
-use nom::Err;
+use crate::tree::{Query, Text, Value};
+use nom::error::{ContextError, ParseError};
+use nom::{Err, IResult};
 
 /// A name as a value.
-fn named_value<'a>(input: Text<'a>) -> Answer<'a, Value<'a>> {
+fn named_value<'a, E: ParseError<Text<'a>> + ContextError<Text<'a>> + Drop>(
+    input: Text<'a>,
+) -> IResult<Text<'a>, Value<'a>, E> {
     let (rest, name) = name(input)?;
     Ok((rest, Value::Name(name)))
 }
 
 /// A number as a value.
-fn number_value<'a>(input: Text<'a>) -> Answer<'a, Value<'a>> {
+fn number_value<'a, E: ParseError<Text<'a>> + ContextError<Text<'a>> + Drop>(
+    input: Text<'a>,
+) -> IResult<Text<'a>, Value<'a>, E> {
     let (rest, number) = number(input)?;
     Ok((rest, Value::Number(number)))
 }
 
 /// A text as a value.
-fn text_value<'a>(input: Text<'a>) -> Answer<'a, Value<'a>> {
+fn text_value<'a, E: ParseError<Text<'a>> + ContextError<Text<'a>> + Drop>(
+    input: Text<'a>,
+) -> IResult<Text<'a>, Value<'a>, E> {
     let (rest, text) = text(input)?;
     Ok((rest, Value::Text(text)))
 }
 
 /// A number or a text.
-fn constant<'a>(input: Text<'a>) -> Answer<'a, Value<'a>> {
+fn constant<'a, E: ParseError<Text<'a>> + ContextError<Text<'a>> + Drop>(
+    input: Text<'a>,
+) -> IResult<Text<'a>, Value<'a>, E> {
     match number_value(input) {
         Err(Err::Error(error)) => otherwise(error, text_value(input)),
         answer => answer,
@@ -32,7 +41,9 @@ fn constant<'a>(input: Text<'a>) -> Answer<'a, Value<'a>> {
 }
 
 /// A side of a comparison.
-fn value<'a>(input: Text<'a>) -> Answer<'a, Value<'a>> {
+fn value<'a, E: ParseError<Text<'a>> + ContextError<Text<'a>> + Drop>(
+    input: Text<'a>,
+) -> IResult<Text<'a>, Value<'a>, E> {
     match named_value(input) {
         Err(Err::Error(error)) => otherwise(error, constant(input)),
         answer => answer,
@@ -40,7 +51,9 @@ fn value<'a>(input: Text<'a>) -> Answer<'a, Value<'a>> {
 }
 
 /// Two values and the sign between them.
-fn sides<'a>(input: Text<'a>) -> Answer<'a, Query<'a>> {
+fn sides<'a, E: ParseError<Text<'a>> + ContextError<Text<'a>> + Drop>(
+    input: Text<'a>,
+) -> IResult<Text<'a>, Query<'a>, E> {
     let (rest, left) = value(input)?;
     let (rest, sign) = required(sign(rest))?;
     let (rest, right) = required(value(rest))?;
@@ -48,6 +61,8 @@ fn sides<'a>(input: Text<'a>) -> Answer<'a, Query<'a>> {
 }
 
 /// A comparison.
-pub fn comparison<'a>(input: Text<'a>) -> Answer<'a, Query<'a>> {
+pub fn comparison<'a, E: ParseError<Text<'a>> + ContextError<Text<'a>> + Drop>(
+    input: Text<'a>,
+) -> IResult<Text<'a>, Query<'a>, E> {
     named(input, What::Comparison, sides(input))
 }
