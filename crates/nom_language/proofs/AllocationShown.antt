@@ -11,7 +11,8 @@ use Rattle.nom_language.specs.declared.allocating.FoldError.TheVariants.{Refused
 use Rattle.nom_language.proofs.EvaluationShown.{runs_out_beside}
 
 -- what an expression means that is read by m
-abbrev read_meaning : {I V O X E : Type 0} → (V → Result O (FoldError X) → Type 0) → (I → X → E → Type 0) → Type 0 → Meaning I V E → Meaning I V E
+abbrev read_meaning : {I V O X E : Type 0} → (V → Result O (FoldError X) → Type 0) → (I → X → E → Type 0) → Type 0 → Meaning I V E →
+    Meaning I V E
 read_meaning {O = O} {X = X} Evaluates Makes Grows m = lacking_meaning (λ e. Evaluates e (Err OutOfMemory)) m
     (judged_meaning {R = Result O X} Evaluates (λ _. Unit {0}) Tells is_ok (λ k. OfError (Makes k)) Grows m)
 

@@ -12,7 +12,8 @@ use Rattle.nom_language.specs.declared.allocating.FoldError.{FoldError}
 use Rattle.nom_language.specs.declared.allocating.FoldError.TheVariants.{Refused, OutOfMemory}
 
 -- where a fold gives no value, it refuses, or memory ran out
-abbrev pub StopsFold : {X E : Type 0} → (X → E → Type 0) → (Grows : Type 0) → (builds : Bool) → FoldError X → Answer.Err E (Option E) Needed → Type 0
+abbrev pub StopsFold : {X E : Type 0} → (X → E → Type 0) → (Grows : Type 0) → (builds : Bool) → FoldError X →
+    Answer.Err E (Option E) Needed → Type 0
 StopsFold Makes Grows builds (Refused x) r = Refuses (Makes x) Grows builds r
 StopsFold Makes Grows builds OutOfMemory r = r ≡ Answer.Err.OutOfMemory
 
