@@ -30,10 +30,7 @@ fn setting<'a>(input: &'a str) -> IResult<&'a str, Entry<'a>, Fault<'a>> {
 }
 
 /// Parses a whole file.
-pub fn settings<'a>(
-    alloc: Global,
-    input: &'a str,
-) -> IResult<&'a str, Vec<Entry<'a>>, Fault<'a>> {
+pub fn settings<'a>(alloc: Global, input: &'a str) -> IResult<&'a str, Vec<Entry<'a>>, Fault<'a>> {
     let (input, (settings, _)) = many_till(alloc, func(setting), func(eof)).parse_complete(input)?;
     Ok((input, settings))
 }
