@@ -6,17 +6,13 @@ use nom::multi::length_data;
 use nom::number::{be_u8, be_u16, be_u32, be_u64, le_u16};
 use nom::sequence::preceded;
 use nom::{IResult, Parser};
-use nom_write::{WriteError, Writer};
-use std::alloc::Allocator;
+use nom_write::{Sink, WriteError, Writer};
 
 /// A version, a length, a number, flags, a name and a time.
 pub type Header<'a> = (u8, u16, u32, u16, &'a [u8], u64);
 
 /// Writes a header.
-pub fn write_header<A: Allocator>(
-    header: &Header<'_>,
-    out: &mut Vec<u8, A>,
-) -> Result<(), WriteError> {
+pub fn write_header<S: Sink>(header: &Header<'_>, out: &mut S) -> Result<(), WriteError> {
     let version = preceded(tag::<_, _, Error<&[u8]>>(&b"H"[..]), be_u8());
     let fields = (
         version,

@@ -7,7 +7,7 @@ use nom::multi::{LengthData, Many0, length_data, many0};
 use nom::number::{BeU8, be_u8};
 use nom::sequence::{Preceded, Terminated, preceded, terminated};
 use nom::{IResult, Parser};
-use nom_write::{WriteError, Writer};
+use nom_write::{Sink, WriteError, Writer};
 use std::alloc::Allocator;
 
 type Word<'a> = Tag<&'a [u8], &'a [u8], Error<&'a [u8]>>;
@@ -26,10 +26,10 @@ fn records<'a, M: Allocator + Copy>(alloc: M) -> Terminated<Many0<M, Record<'a>>
 }
 
 /// Writes records.
-pub fn write_records<'a, M: Allocator + Copy, A: Allocator>(
+pub fn write_records<'a, M: Allocator + Copy, S: Sink>(
     alloc: M,
     values: &Vec<&'a [u8], M>,
-    out: &mut Vec<u8, A>,
+    out: &mut S,
 ) -> Result<(), WriteError> {
     records(alloc).write(values, out)
 }

@@ -4,8 +4,9 @@ use Rattle.std.proofs.Common.{append_assoc, append-nil, length-append, arith, in
 use Rattle.std.proofs.Common.{take}
 use Rattle.std.proofs.Math.Seq.{take-append_seam}
 use Rattle.std.proofs.lemmas.List.{drop_more}
-use Rattle.nom_write.specs.declared.writer.WriteError.{WriteError}
+use Rattle.nom_write.specs.declared.error.WriteError.{WriteError}
 use Rattle.nom_write.specs.Lists.{Each, EachFail}
+use Rattle.nom_write.specs.Written.{Space, space_at}
 
 -- none are left past the end
 drop_none : {A : Type 0} (k : ℕ) (xs : List A) → length xs ≤ k → drop k xs ≡ []
@@ -14,13 +15,13 @@ drop_none zero (x ∷ xs) h = absurd (omega (arith, h))
 drop_none (suc k) [] h = refl
 drop_none (suc k) (x ∷ xs) h = drop_none k xs (omega (arith, h))
 
-module _ {O : Type 0} (Form : O → List ℕ → Type 0) (Fails : O → (room start : ℕ) → WriteError → Type 0) (vs : List O) where
+module _ {O : Type 0} (Form : O → List ℕ → Type 0) (Fails : O → Space → WriteError → Type 0) (lack : WriteError) (vs : List O) where
   -- what was added of the first k values: with forms of those that are left it is one of all, and where one of those fails, so do all
   pub record SoFar (k : ℕ) (old new : List ℕ) : Type 0 where
     pub added : List ℕ
     pub whole : new ≡ old ++ added
     pub forms : (ys : List ℕ) → Each Form (drop k vs) ys → Each Form vs (added ++ ys)
-    pub fails : (room : ℕ) (e : WriteError) → EachFail Form Fails (drop k vs) room (length new) e → EachFail Form Fails vs room (length old) e
+    pub fails : (room : ℕ) (e : WriteError) → EachFail Form Fails (drop k vs) (space_at lack room new) e → EachFail Form Fails vs (space_at lack room old) e
 
   pub none_added : (old : List ℕ) → SoFar 0 old old
   none_added old = record { added = []; whole = sym (append-nil old); forms = λ ys h. h; fails = λ room e h. h }
@@ -40,13 +41,13 @@ module _ {O : Type 0} (Form : O → List ℕ → Type 0) (Fails : O → (room st
               let next : Each Form (v ∷ drop (k + 1) vs) (b.0 ++ ys) = record { front = b.0; back = ys; whole = refl; first = b.2; second = h } in
               subst (λ zs. Each Form vs zs) (sym (append_assoc a.added b.0 ys)) (a.forms (b.0 ++ ys) (subst (λ us. Each Form us (b.0 ++ ys)) (sym here) next));
           fails = λ room e h.
-              a.fails room e (subst (λ us. EachFail Form Fails us room (length mid) e) (sym here)
-              (inr (b.0, b.2, subst (λ n. EachFail Form Fails (drop (k + 1) vs) room n e) longer h)));
+              a.fails room e (subst (λ us. EachFail Form Fails us (space_at lack room mid) e) (sym here)
+              (inr (b.0, b.2, subst (λ n. EachFail Form Fails (drop (k + 1) vs) (record { lack = lack; room = room; start = n }) e) longer h)));
         }
 
-    pub one_fails : (old mid : List ℕ) → SoFar k old mid → (room : ℕ) (e : WriteError) → Fails v room (length mid) e → EachFail Form Fails vs room
-        (length old) e
-    one_fails old mid a room e h = a.fails room e (subst (λ us. EachFail Form Fails us room (length mid) e) (sym here) (inl h))
+    pub one_fails : (old mid : List ℕ) → SoFar k old mid → (room : ℕ) (e : WriteError) → Fails v (space_at lack room mid) e →
+        EachFail Form Fails vs (space_at lack room old) e
+    one_fails old mid a room e h = a.fails room e (subst (λ us. EachFail Form Fails us (space_at lack room mid) e) (sym here) (inl h))
 
   pub all_added : (k : ℕ) → length vs ≤ k → (old new : List ℕ) → SoFar k old new → (xs : List ℕ) × (new ≡ old ++ xs) × Each Form vs xs
   all_added k end old new a = (

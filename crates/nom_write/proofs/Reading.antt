@@ -1,5 +1,5 @@
 -- What is written is read back.
-use Rattle.std.proofs.Common.{◌≡◌, Bool, List, ◌++◌, ap, subst, inl, inr}
+use Rattle.std.proofs.Common.{◌≡◌, Bool, List, ◌++◌, subst, inl, inr}
 use Rattle.nom_internal.specs.Prelude.{IResult, Model, InputLaws, items_len, View, IsPinned, Grammar, Outcome, Accept, ParseRanOut, Parsed}
 use Rattle.nom_internal.specs.Prelude.{ParsesOutcome, ParsesMeaning}
 use Rattle.nom_write.specs.Reads.{IsReadBack, IsTaken, ReadsBefore}

@@ -5,5 +5,6 @@ pub mod Lists
 pub mod Options
 pub mod Parts
 pub mod Reads
+pub mod Slices
 pub mod Written
 pub mod laws

@@ -1,15 +1,41 @@
--- What a call of a writer does to a list of bytes.
-use Rattle.std.specs.Prelude.{◌≡◌, ℕ, ◌+◌, ◌<◌, ◌≤◌, List, ◌++◌, length, Result, Ok, Err, vec_capacity}
-use Rattle.std.specs.declared.vec.Vec.{Vec}
-use Rattle.nom_write.specs.declared.writer.WriteError.{WriteError}
-use Rattle.nom_write.specs.declared.writer.WriteError.TheVariants.{OutOfMemory}
+-- What a call of a writer does to what a sink holds.
+use Rattle.std.specs.Prelude.{◌≡◌, ℕ, ◌+◌, ◌<◌, ◌≤◌, List, ◌++◌, length, Result, Ok, Err}
+use Rattle.nom_write.specs.declared.error.WriteError.{WriteError}
+use Rattle.nom_write.specs.declared.error.WriteError.TheVariants.{OutOfMemory, Full, TooLong, Mismatch}
 
--- The list grew by a form of the value. Or it is as it was, and there is a reason, by the list's length and by how many bytes it had
--- room for, at the call or later.
-abbrev pub Written : {A : Type 0} → (List ℕ → Type 0) → ((room start : ℕ) → WriteError → Type 0) → (old new : Vec ℕ A) → Result (Unit {0}) WriteError → Type 0
-Written Form Fails old new (Ok _) = (xs : List ℕ) × (new.items ≡ old.items ++ xs) × Form xs
-Written Form Fails old new (Err e) = (new.items ≡ old.items) × ((room : ℕ) × (vec_capacity old ≤ room) × Fails room (length old.items) e)
+-- what a sink is: the bytes that it holds, for how many it has room in all, and the error that it gives for want of room
+pub record SinkModel (S : Type 0) : Type 0 where
+  pub items : S → List ℕ
+  pub room : S → ℕ
+  pub lack : WriteError
 
--- memory ran out: there is no room for that many bytes more
-abbrev pub LacksRoom : (count room start : ℕ) → WriteError → Type 0
-LacksRoom count room start e = (e ≡ OutOfMemory) × (room < start + count)
+-- where a part begins, for how many bytes in all there is room, and the error for want of it
+pub record Space : Type 0 where
+  pub lack : WriteError
+  pub room : ℕ
+  pub start : ℕ
+
+-- the space after some bytes
+abbrev pub after : Space → List ℕ → Space
+after s xs = record { lack = s.lack; room = s.room; start = s.start + length xs }
+
+-- the space after what a sink holds
+abbrev pub space_at : (lack : WriteError) (room : ℕ) (items : List ℕ) → Space
+space_at lack room items = record { lack = lack; room = room; start = length items }
+
+-- The sink holds a form of the value more. Or it holds what it did, and there is a reason, by how many bytes it held and for how many it
+-- had room, at the call or later.
+abbrev pub Written : {S : Type 0} → (List ℕ → Type 0) → (Space → WriteError → Type 0) → SinkModel S → (old new : S) → Result (Unit {0}) WriteError → Type 0
+Written Form Fails m old new (Ok _) = (xs : List ℕ) × (m.items new ≡ m.items old ++ xs) × Form xs
+Written Form Fails m old new (Err e) = (m.items new ≡ m.items old) × ((room : ℕ) × (m.room old ≤ room) × Fails (space_at m.lack room (m.items old)) e)
+
+-- there is no room for that many bytes more
+abbrev pub LacksRoom : (count : ℕ) → Space → WriteError → Type 0
+LacksRoom count s e = (e ≡ s.lack) × (s.room < s.start + count)
+
+-- an error for want of room
+abbrev pub IsLack : WriteError → Type 0
+IsLack OutOfMemory = Unit {0}
+IsLack Full = Unit {0}
+IsLack (TooLong n) = ⊥
+IsLack (Mismatch n) = ⊥

@@ -3,14 +3,15 @@ ghost use Rattle.std.specs.Prelude.{◌≡◌, ◌⊎◌, length};
 ghost use Rattle.nom_internal.specs.Prelude.{bytes_model};
 ghost use Rattle.nom_write.specs.Reads.{Holds};
 ghost use Rattle.nom_write.specs.Written.{LacksRoom};
-ghost use Rattle.nom_write.specs.declared.writer.WriteError.{WriteError};
+ghost use Rattle.nom_write.specs.declared.error.WriteError.{WriteError};
 
+use crate::error::WriteError;
 use crate::length::ByteInput;
-use crate::writer::{Constant, WriteError, Writer, add};
+use crate::sink::Sink;
+use crate::writer::{Constant, Writer};
 use nom_bytes::{Tag, Take};
 use nom_error::value::ParseError;
 use nom_traits::input::Items;
-use std::alloc::Allocator;
 
 /// Of the tag itself alone: another value is a mismatch.
 impl<'a, 'b, E: ParseError<&'a [u8]>> Writer<&'a [u8]> for Tag<&'b [u8], &'a [u8], E> {
@@ -18,18 +19,14 @@ impl<'a, 'b, E: ParseError<&'a [u8]>> Writer<&'a [u8]> for Tag<&'b [u8], &'a [u8
 
     ghost Form = { λ p v xs. (xs ≡ p.tag.now) × Holds bytes_model v p.tag.now };
 
-    ghost Fails = { λ p v room start e. LacksRoom (length p.tag.now) room start e ⊎ ((v.now ≡ p.tag.now → ⊥) × (e ≡ WriteError.Mismatch start)) };
+    ghost Fails = { λ p v s e. LacksRoom (length p.tag.now) s e ⊎ ((v.now ≡ p.tag.now → ⊥) × (e ≡ WriteError.Mismatch s.start)) };
 
     #[inline]
-    fn write<A: Allocator>(
-        &self,
-        value: &&'a [u8],
-        out: &mut Vec<u8, A>,
-    ) -> Result<(), WriteError> {
+    fn write<S: Sink>(&self, value: &&'a [u8], out: &mut S) -> Result<(), WriteError> {
         let data = *value;
         data.prove_known();
         if data == self.tag {
-            add(out, self.tag)
+            out.add(self.tag)
         } else {
             Err(WriteError::Mismatch(out.len()))
         }
@@ -44,8 +41,8 @@ impl<'a, 'b, E: ParseError<&'a [u8]>> Constant<&'a [u8]> for Tag<&'b [u8], &'a [
     ghost bytes = { λ p. p.tag.now };
 
     #[inline(always)]
-    fn write_constant<A: Allocator>(&self, out: &mut Vec<u8, A>) -> Result<(), WriteError> {
-        add(out, self.tag)
+    fn write_constant<S: Sink>(&self, out: &mut S) -> Result<(), WriteError> {
+        out.add(self.tag)
     }
 
     ghost accepts = { λ p k. tag_reads_some E.errors p.tag.now };
@@ -57,14 +54,14 @@ impl<I: ByteInput, E: ParseError<I>> Writer<I> for Take<I, E> {
 
     ghost Form = { λ p v xs. (length xs ≡ p.count) × Holds I.model v xs };
 
-    ghost Fails = { λ p v room start e. ((length (I.model.elements v) ≡ p.count → ⊥) × (e ≡ WriteError.Mismatch start)) ⊎ LacksRoom p.count room start e };
+    ghost Fails = { λ p v s e. ((length (I.model.elements v) ≡ p.count → ⊥) × (e ≡ WriteError.Mismatch s.start)) ⊎ LacksRoom p.count s e };
 
     #[inline]
-    fn write<A: Allocator>(&self, value: &I, out: &mut Vec<u8, A>) -> Result<(), WriteError> {
+    fn write<S: Sink>(&self, value: &I, out: &mut S) -> Result<(), WriteError> {
         (*value).prove_known();
         let data = value.as_bytes();
         if data.len() == self.count {
-            add(out, data)
+            out.add(data)
         } else {
             Err(WriteError::Mismatch(out.len()))
         }

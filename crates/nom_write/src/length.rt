@@ -1,17 +1,21 @@
 //! What stands after a length.
-ghost use Rattle.std.specs.Prelude.{◌≡◌, ◌<◌, ◌≤◌, ℕ, false, List, MatchOption, length, vec_capacity};
+ghost use Rattle.std.specs.Prelude.{◌≡◌, ◌<◌, ◌≤◌, ℕ, false, List, MatchOption, length};
 ghost use Rattle.nom_write.specs.Lists.{Each, EachFail, ItemFails, ItemForm};
 ghost use Rattle.nom_write.specs.Parts.{Both, BothFail};
 ghost use Rattle.nom_write.specs.Reads.{Holds};
 ghost use Rattle.nom_write.specs.Lengths.{FormOfSize, SizeFails};
-ghost use Rattle.nom_write.specs.Written.{LacksRoom, Written};
+ghost use Rattle.nom_write.specs.Written.{LacksRoom, Space};
 
-use crate::list::write_each;
-use crate::writer::{WriteError, Writer, add};
+use crate::error::WriteError;
+use crate::list::Listed;
+use crate::piece::{InTurn, Piece, Plain};
+use crate::sink::Sink;
+use crate::writer::Writer;
 use nom_multi_length::{LengthCount, LengthData};
 use nom_traits::convert::ToUsize;
 use nom_traits::input::{Input, Items};
 use std::alloc::Allocator;
+use std::marker::PhantomData;
 
 /// A whole number that can be made of a size.
 pub trait OfSize: ToUsize {
@@ -97,21 +101,23 @@ impl ByteInput for &[u8] {
     ghost one_mark = { λ m n. refl };
 }
 
-/// Adds a form of a number of that size. On an error `out` is as it was.
-#[inline(always)]
-fn write_size<I: Items<Item = u8>, F: Writer<I, Output: OfSize>, A: Allocator>(
-    parser: &F,
-    size: usize,
-    out: &mut Vec<u8, A>,
-) -> Result<(), WriteError>
-    requires { F.CanWrite parser.now }
-    ensures written { Written (FormOfSize F.Output.size (F.Form parser.now) size) (SizeFails F.Output.size F.Output.Exceeds
-        (F.Fails parser.now) size) out.old out.new result }
-    ensures room { vec_capacity out.old ≤ vec_capacity out.new }
-{
-    match F::Output::of_size(size) {
-        Some(number) => parser.write(&number, out),
-        None => Err(WriteError::TooLong(out.len())),
+/// A number of that size, by its writer.
+#[derive(Drop)]
+struct SizeOf<'a, I: Items<Item = u8>, F: Writer<I, Output: OfSize>>(&'a F, usize, PhantomData<I>);
+
+impl<'a, I: Items<Item = u8>, F: Writer<I, Output: OfSize>> Piece for SizeOf<'a, I, F> {
+    ghost Form = { λ o. FormOfSize F.Output.size (F.Form o.0.now) o.1 };
+
+    ghost Fails = { λ o. SizeFails F.Output.size F.Output.Exceeds (F.Fails o.0.now) o.1 };
+
+    ghost CanPut = { λ o. F.CanWrite o.0.now };
+
+    #[inline]
+    fn put<S: Sink>(&self, out: &mut S) -> Result<(), WriteError> {
+        match F::Output::of_size(self.1) {
+            Some(number) => self.0.write(&number, out),
+            None => Err(WriteError::TooLong(out.len())),
+        }
     }
 }
 
@@ -127,21 +133,14 @@ impl<I: ByteInput, F: Writer<I, Output: OfSize> + Drop> Writer<I> for LengthData
     ghost CanWrite = { λ p. F.CanWrite p.parser × ((rest : List ℕ) → F.MayFollow p.parser rest) };
 
     #[inline]
-    fn write<A: Allocator>(&self, value: &I, out: &mut Vec<u8, A>) -> Result<(), WriteError> {
+    fn write<S: Sink>(&self, value: &I, out: &mut S) -> Result<(), WriteError> {
         (*value).prove_known();
         let data = value.as_bytes();
-        let size = data.len();
-        let start = out.len();
-        match write_size::<I, F, A>(&self.parser, size, out) {
-            Ok(()) => match add(out, data) {
-                Ok(()) => Ok(()),
-                Err(error) => {
-                    out.truncate(start);
-                    Err(error)
-                }
-            },
-            Err(error) => Err(error),
-        }
+        InTurn(
+            SizeOf::<I, F>(&self.parser, data.len(), PhantomData),
+            Plain(data),
+        )
+        .put(out)
     }
 
     ghost reads = { λ p k c. length_data_reads I.lawful F.Error.errors F.Output.size k.1.1 c.1 (F.reads p.parser k.0 c.0) I.lack I.one_mark };
@@ -166,24 +165,13 @@ impl<
         ((rest : List ℕ) → G.MayFollow p.parser rest) };
 
     #[inline]
-    fn write<A: Allocator>(
-        &self,
-        value: &Vec<G::Output, M>,
-        out: &mut Vec<u8, A>,
-    ) -> Result<(), WriteError> {
+    fn write<S: Sink>(&self, value: &Vec<G::Output, M>, out: &mut S) -> Result<(), WriteError> {
         let values = value.as_slice();
-        let size = values.len();
-        let start = out.len();
-        match write_size::<I, F, A>(&self.length, size, out) {
-            Ok(()) => match write_each::<I, G, A>(&self.parser, values, false, out) {
-                Ok(()) => Ok(()),
-                Err(error) => {
-                    out.truncate(start);
-                    Err(error)
-                }
-            },
-            Err(error) => Err(error),
-        }
+        InTurn(
+            SizeOf::<I, F>(&self.length, values.len(), PhantomData),
+            Listed::<I, G>(&self.parser, values, PhantomData),
+        )
+        .put(out)
     }
 
     ghost reads = { λ p k c. length_count_reads I.lawful F.Error.errors F.Output.size k.1.1 c.1 (F.reads p.length k.0 c.0.0) c.2

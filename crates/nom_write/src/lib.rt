@@ -3,15 +3,20 @@
 
 pub mod bytes;
 pub mod choice;
+pub mod error;
 pub mod length;
 pub mod list;
 pub mod map;
 pub mod number;
+mod piece;
 pub mod promises;
 pub mod sequence;
+pub mod sink;
 pub mod tuple;
 pub mod verdict;
 pub mod writer;
 
+pub use crate::error::WriteError;
 pub use crate::map::{MapBoth, map_both};
-pub use crate::writer::{Constant, WriteError, Writer};
+pub use crate::sink::{Sink, SliceSink, slice_sink};
+pub use crate::writer::{Constant, Writer};

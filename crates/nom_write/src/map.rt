@@ -1,20 +1,21 @@
 //! Maps, with a map back.
 ghost use Rattle.std.specs.Prelude.{◌≡◌, ◌⊎◌, Some, None};
-ghost use Rattle.nom_write.specs.declared.writer.WriteError.{WriteError};
+ghost use Rattle.nom_write.specs.declared.error.WriteError.{WriteError};
 ghost use Rattle.std.specs.Borrow.{Bor};
 ghost use Rattle.std.specs.Fn.{FnReturnsAt};
 ghost use Rattle.nom_internal.specs.Prelude.{SeesAlike, map_by};
 ghost use Rattle.nom_internal.specs.laws.MappedLaws.{given_pinned, map_lawful, map_steady};
 ghost use Rattle.nom_write.specs.laws.ChoiceReads.{map_back_reads};
 
-use crate::writer::{WriteError, Writer};
+use crate::error::WriteError;
+use crate::sink::Sink;
+use crate::writer::Writer;
 use nom_error::answer::PResult;
 use nom_error::mode::OutputMode;
 use nom_internal::map::Map;
 use nom_internal::parser::{Parser, StreamParser};
 use nom_traits::input::Items;
 use nom_traits::view::Viewed;
-use std::alloc::Allocator;
 
 /// A parser whose outputs a closure maps, with a closure that maps a value back; made by `map_both`.
 #[derive(Drop)]
@@ -88,8 +89,8 @@ impl<
 > Writer<I> for MapBoth<F, G, H> {
     ghost Form = { λ p v xs. (x : F.Output) × FnReturnsAt H.Fn p.back v (Some x) × F.Form p.map.parser x xs };
 
-    ghost Fails = { λ p v room start e. (FnReturnsAt H.Fn p.back v None × (e ≡ WriteError.Mismatch start)) ⊎
-        ((x : F.Output) × FnReturnsAt H.Fn p.back v (Some x) × F.Fails p.map.parser x room start e) };
+    ghost Fails = { λ p v s e. (FnReturnsAt H.Fn p.back v None × (e ≡ WriteError.Mismatch s.start)) ⊎
+        ((x : F.Output) × FnReturnsAt H.Fn p.back v (Some x) × F.Fails p.map.parser x s e) };
 
     ghost MayFollow = { λ p. F.MayFollow p.map.parser };
 
@@ -97,7 +98,7 @@ impl<
         ((v : O) (x : F.Output) → FnReturnsAt H.Fn p.back v (Some x) → G.post p.map.map x v) };
 
     #[inline]
-    fn write<A: Allocator>(&self, value: &O, out: &mut Vec<u8, A>) -> Result<(), WriteError> {
+    fn write<S: Sink>(&self, value: &O, out: &mut S) -> Result<(), WriteError> {
         match mapped_back(&self.back, value) {
             Some(part) => self.map.parser.write(&part, out),
             None => Err(WriteError::Mismatch(out.len())),

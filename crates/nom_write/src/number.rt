@@ -1,16 +1,17 @@
 //! Binary integers.
-ghost use Rattle.std.specs.Prelude.{◌≡◌, ◌<◌, ◌≤◌, ◌*◌, ◌^◌, ◌⊎◌, ◌<ℤ◌, neg_ℤ, pos, ◌∷◌, [], MatchOption, length, vec_capacity};
+ghost use Rattle.std.specs.Prelude.{◌≡◌, ◌<◌, ◌≤◌, ◌*◌, ◌^◌, ◌⊎◌, ◌<ℤ◌, neg_ℤ, pos, ◌∷◌, [], MatchOption, length};
 ghost use Rattle.nom_number.specs.Numbers.{binary_number};
 ghost use Rattle.nom_write.specs.Digits.{AreBytesOf};
 ghost use Rattle.nom_write.specs.Written.{LacksRoom, Written};
 ghost use Rattle.nom_write.specs.laws.LeafReads.{byte_reads, binary_reads};
 
-use crate::writer::{WriteError, Writer, add};
+use crate::error::WriteError;
+use crate::sink::Sink;
+use crate::writer::Writer;
 use nom_error::value::ParseError;
 use nom_number::layout::{I8, I16, I24, I32, I64, I128, Layout, U8, U16, U24, U32, U64, U128};
 use nom_number::{BeU8, Binary, Endianness};
 use nom_traits::input::Input;
-use std::alloc::Allocator;
 
 impl<I: Input<Item = u8>, E: ParseError<I>> Writer<I> for BeU8<I, E> {
     ghost Form = { λ p v xs. (xs ≡ v ∷ []) };
@@ -18,11 +19,8 @@ impl<I: Input<Item = u8>, E: ParseError<I>> Writer<I> for BeU8<I, E> {
     ghost Fails = { λ p v. LacksRoom 1 };
 
     #[inline(always)]
-    fn write<A: Allocator>(&self, value: &u8, out: &mut Vec<u8, A>) -> Result<(), WriteError> {
-        match out.push(*value) {
-            Ok(()) => Ok(()),
-            Err(_) => Err(WriteError::OutOfMemory),
-        }
+    fn write<S: Sink>(&self, value: &u8, out: &mut S) -> Result<(), WriteError> {
+        out.add(&[*value])
     }
 
     ghost reads = { λ p k c. byte_reads I.model E.errors };
@@ -179,39 +177,35 @@ impl ToBits for I24 {
 
 /// The bits of a number in an order, which are added to a list.
 #[inline(always)]
-fn add_bits<A: Allocator>(
+fn add_bits<S: Sink>(
     bits: u128,
     count: usize,
     endian: Endianness,
-    out: &mut Vec<u8, A>,
+    out: &mut S,
 ) -> Result<(), WriteError>
     requires count { count < 17 }
     requires fits { bits < 2 ^ (8 * count) }
-    ensures written { Written (AreBytesOf endian count bits) (LacksRoom count) out.old out.new result }
-    ensures room { vec_capacity out.old ≤ vec_capacity out.new }
+    ensures written { Written (AreBytesOf endian count bits) (LacksRoom count) S.model out.old out.new result }
+    ensures room { S.model.room out.old ≤ S.model.room out.new }
 {
     if endian.is_big() {
         let bytes = bits.to_be_bytes();
-        add(out, &bytes[16 - count..])
+        out.add(&bytes[16 - count..])
     } else {
         let bytes = bits.to_le_bytes();
-        add(out, &bytes[..count])
+        out.add(&bytes[..count])
     }
 }
 
 impl<F: ToBits, I: Input<Item = u8>, E: ParseError<I>> Writer<I> for Binary<F, I, E> {
-    ghost use Rattle.nom_write.specs.declared.writer.WriteError.{WriteError};
+    ghost use Rattle.nom_write.specs.declared.error.WriteError.{WriteError};
 
     ghost Form = { λ p v xs. (length xs ≡ F.BYTES) × (F.of_bits (binary_number p.endian xs) ≡ v) };
 
-    ghost Fails = { λ p v room start e. LacksRoom F.BYTES room start e ⊎ (F.Exceeds v × (e ≡ WriteError.TooLong start)) };
+    ghost Fails = { λ p v s e. LacksRoom F.BYTES s e ⊎ (F.Exceeds v × (e ≡ WriteError.TooLong s.start)) };
 
     #[inline]
-    fn write<A: Allocator>(
-        &self,
-        value: &F::Number,
-        out: &mut Vec<u8, A>,
-    ) -> Result<(), WriteError> {
+    fn write<S: Sink>(&self, value: &F::Number, out: &mut S) -> Result<(), WriteError> {
         match F::to_bits(value) {
             Some(bits) => add_bits(bits, F::BYTES, self.endian, out),
             None => Err(WriteError::TooLong(out.len())),

@@ -1,5 +1,6 @@
 //! What a writer and its parser promise together.
-ghost use Rattle.std.specs.Prelude.{◌≡◌, ℕ, List, ◌++◌};
+ghost use Rattle.std.specs.Prelude.{◌≡◌, ℕ, List, ◌++◌, true};
+ghost use Rattle.nom_internal.specs.Prelude.{Parses};
 ghost use Rattle.nom_write.specs.Reads.{IsReadBack, ReadsBack};
 
 use crate::writer::Writer;
@@ -15,7 +16,7 @@ pub fn reads_back<I: Items<Item = u8>, P: Writer<I>>(_parser: &P)
     ensures { ReadsBack I.model P.Output.view (P.Pins _parser.now) (P.grammar (P.state _parser.now)) (P.Form _parser.now) (P.MayFollow _parser.now) }
 {}
 
-/// What one `parse` answers on an input that begins with what was written of a value: the value, as viewed, and what follows.
+/// What `parse` answers: on an input that begins with what was written of a value that value, as viewed, and what follows.
 pub fn parse_back<I: Items<Item = u8>, P: Writer<I>>(
     parser: &mut P,
     input: I,
@@ -23,7 +24,9 @@ pub fn parse_back<I: Items<Item = u8>, P: Writer<I>>(
     requires runs { (P.grammar (P.state parser.old)).meaning.Runs }
     requires sound { (P.grammar (P.state parser.old)).meaning.IsSound }
     requires can { P.CanWrite parser.old }
-    ensures { (v : P.Output) (xs rest : List ℕ) → P.Form parser.old v xs → I.model.elements input ≡ xs ++ rest → P.MayFollow parser.old rest →
+    ensures shown { Parses I.model (P.grammar (P.state parser.old)) true input result }
+    ensures kept { P.state parser.new ≡ P.state parser.old }
+    ensures back { (v : P.Output) (xs rest : List ℕ) → P.Form parser.old v xs → I.model.elements input ≡ xs ++ rest → P.MayFollow parser.old rest →
         IsReadBack I.model P.Output.view (P.Pins parser.old) (P.grammar (P.state parser.old)) v xs rest input result }
 {
     input.prove_known();

@@ -4,11 +4,14 @@ ghost use Rattle.nom_write.specs.Written.{LacksRoom};
 ghost use Rattle.nom_write.specs.Parts.{Both, BothFail, Meets};
 ghost use Rattle.nom_write.specs.laws.SequenceReads.{pair_reads, preceded_reads, terminated_reads};
 
-use crate::writer::{Constant, WriteError, Writer};
+use crate::error::WriteError;
+use crate::piece::{Fixed, InTurn, OneValue, Piece};
+use crate::sink::Sink;
+use crate::writer::{Constant, Writer};
 use nom_internal::sequence::And;
 use nom_sequence::{Preceded, Terminated};
 use nom_traits::input::Items;
-use std::alloc::Allocator;
+use std::marker::PhantomData;
 
 impl<I: Items<Item = u8>, F: Writer<I> + Drop, G: Writer<I, Error = F::Error> + Drop> Writer<I>
     for And<F, G> {
@@ -22,22 +25,16 @@ impl<I: Items<Item = u8>, F: Writer<I> + Drop, G: Writer<I, Error = F::Error> + 
         (G.MayFollow p.second) };
 
     #[inline]
-    fn write<A: Allocator>(
+    fn write<S: Sink>(
         &self,
         value: &(F::Output, G::Output),
-        out: &mut Vec<u8, A>,
+        out: &mut S,
     ) -> Result<(), WriteError> {
-        let start = out.len();
-        match self.first.write(&value.0, out) {
-            Ok(()) => match self.second.write(&value.1, out) {
-                Ok(()) => Ok(()),
-                Err(error) => {
-                    out.truncate(start);
-                    Err(error)
-                }
-            },
-            Err(error) => Err(error),
-        }
+        InTurn(
+            OneValue::<I, F>(&self.first, &value.0, PhantomData),
+            OneValue::<I, G>(&self.second, &value.1, PhantomData),
+        )
+        .put(out)
     }
 
     ghost reads = { λ p k c. pair_reads I.lawful c.2 (F.reads p.first k.0 c.0) (G.reads p.second k.1 c.1) };
@@ -54,22 +51,12 @@ impl<I: Items<Item = u8>, F: Constant<I> + Drop, G: Writer<I, Error = F::Error> 
     ghost CanWrite = { λ p. G.CanWrite p.second };
 
     #[inline]
-    fn write<A: Allocator>(
-        &self,
-        value: &G::Output,
-        out: &mut Vec<u8, A>,
-    ) -> Result<(), WriteError> {
-        let start = out.len();
-        match self.first.write_constant(out) {
-            Ok(()) => match self.second.write(value, out) {
-                Ok(()) => Ok(()),
-                Err(error) => {
-                    out.truncate(start);
-                    Err(error)
-                }
-            },
-            Err(error) => Err(error),
-        }
+    fn write<S: Sink>(&self, value: &G::Output, out: &mut S) -> Result<(), WriteError> {
+        InTurn(
+            Fixed::<I, F>(&self.first, PhantomData),
+            OneValue::<I, G>(&self.second, value, PhantomData),
+        )
+        .put(out)
     }
 
     ghost reads = { λ p k c. preceded_reads I.lawful (F.accepts p.first k.0) (G.reads p.second k.1 c) };
@@ -84,22 +71,12 @@ impl<I: Items<Item = u8>, F: Writer<I> + Drop, G: Constant<I, Error = F::Error> 
     ghost CanWrite = { λ p. F.CanWrite p.first × ((rest : List ℕ) → F.MayFollow p.first (G.bytes p.second ++ rest)) };
 
     #[inline]
-    fn write<A: Allocator>(
-        &self,
-        value: &F::Output,
-        out: &mut Vec<u8, A>,
-    ) -> Result<(), WriteError> {
-        let start = out.len();
-        match self.first.write(value, out) {
-            Ok(()) => match self.second.write_constant(out) {
-                Ok(()) => Ok(()),
-                Err(error) => {
-                    out.truncate(start);
-                    Err(error)
-                }
-            },
-            Err(error) => Err(error),
-        }
+    fn write<S: Sink>(&self, value: &F::Output, out: &mut S) -> Result<(), WriteError> {
+        InTurn(
+            OneValue::<I, F>(&self.first, value, PhantomData),
+            Fixed::<I, G>(&self.second, PhantomData),
+        )
+        .put(out)
     }
 
     ghost reads = { λ p k c. terminated_reads I.lawful c.1 (F.reads p.first k.0 c.0) (G.accepts p.second k.1) };

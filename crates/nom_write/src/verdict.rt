@@ -3,11 +3,12 @@ ghost use Rattle.nom_write.specs.Options.{OptFails, OptForm};
 ghost use Rattle.nom_write.specs.Reads.{NoItem};
 ghost use Rattle.nom_write.specs.laws.ChoiceReads.{context_reads, cut_reads, opt_reads};
 
-use crate::writer::{WriteError, Writer};
+use crate::error::WriteError;
+use crate::sink::Sink;
+use crate::writer::Writer;
 use nom_combinator::{Context, Cut, Opt};
 use nom_error::outside::ContextError;
 use nom_traits::input::Items;
-use std::alloc::Allocator;
 
 /// The part's.
 impl<I: Items<Item = u8>, F: Writer<I> + Drop> Writer<I> for Cut<F> {
@@ -20,11 +21,7 @@ impl<I: Items<Item = u8>, F: Writer<I> + Drop> Writer<I> for Cut<F> {
     ghost CanWrite = { λ p. F.CanWrite p.parser };
 
     #[inline(always)]
-    fn write<A: Allocator>(
-        &self,
-        value: &F::Output,
-        out: &mut Vec<u8, A>,
-    ) -> Result<(), WriteError> {
+    fn write<S: Sink>(&self, value: &F::Output, out: &mut S) -> Result<(), WriteError> {
         self.parser.write(value, out)
     }
 
@@ -42,11 +39,7 @@ impl<I: Items<Item = u8>, F: Writer<I> + Drop> Writer<I> for Opt<F> {
     ghost CanWrite = { λ p. F.CanWrite p.parser };
 
     #[inline]
-    fn write<A: Allocator>(
-        &self,
-        value: &Option<F::Output>,
-        out: &mut Vec<u8, A>,
-    ) -> Result<(), WriteError> {
+    fn write<S: Sink>(&self, value: &Option<F::Output>, out: &mut S) -> Result<(), WriteError> {
         match value {
             Some(value) => self.parser.write(value, out),
             None => Ok(()),
@@ -70,11 +63,7 @@ where
     ghost CanWrite = { λ p. F.CanWrite p.parser };
 
     #[inline(always)]
-    fn write<A: Allocator>(
-        &self,
-        value: &F::Output,
-        out: &mut Vec<u8, A>,
-    ) -> Result<(), WriteError> {
+    fn write<S: Sink>(&self, value: &F::Output, out: &mut S) -> Result<(), WriteError> {
         self.parser.write(value, out)
     }
 

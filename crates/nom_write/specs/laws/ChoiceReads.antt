@@ -1,16 +1,17 @@
 -- What is read of choices, and of a part whose outcome becomes another.
-use Rattle.std.specs.Prelude.{◌≡◌, ℕ, ◌+◌, Bool, List, [], ◌++◌, ◌⊎◌, Option, Some, None, refl}
+use Rattle.std.specs.Prelude.{◌≡◌, ℕ, Bool, List, ◌++◌, ◌⊎◌, Option, Some, None, refl}
 use Rattle.std.proofs.Common.{sym, ◌∙◌, ap, subst, inl, inr}
-use Rattle.nom_internal.specs.Prelude.{Errors, Model, items_len, Grammar, Outcome, Accept, Refuse, GoesOnRefused, OnRefusal, EitherOutput, Meaning}
+use Rattle.nom_internal.specs.Prelude.{Errors, Model, items_len, Grammar, Outcome, Accept, Refuse, GoesOnRefused, EitherOutput, Meaning}
 use Rattle.nom_internal.specs.Prelude.{OnPart, labelled, either_meaning, either_of, map_by}
 use Rattle.nom_branch.specs.Alternatives.{alt_of}
 use Rattle.nom_combinator.specs.Contexts.{context_of}
 use Rattle.nom_error.specs.Errors.{Contexts}
 use Rattle.nom_combinator.specs.Verdicts.{OptOutput, cut_of, opt_of, opt_outcome}
-use Rattle.nom_write.specs.declared.writer.WriteError.{WriteError}
-use Rattle.nom_write.specs.Choices.{Apart, Either, IsUnfit}
+use Rattle.nom_write.specs.declared.error.WriteError.{WriteError}
+use Rattle.nom_write.specs.Choices.{Apart, Either, EitherFails, Refuses}
 use Rattle.nom_write.specs.Options.{OptForm}
-use Rattle.nom_write.specs.Reads.{Anything, NoItem, Reads, ReadsBefore}
+use Rattle.nom_write.specs.Reads.{NoItem, Reads, ReadsBefore}
+use Rattle.nom_write.specs.Written.{Space}
 
 -- a part, with what its outcome becomes: of an acceptance one of that length
 module _ {I P T : Type 0} (w : Model I ℕ) (becomes : Outcome P → Outcome T) (label : P → T) (keeps : (n : ℕ) (u : P) → becomes (Accept n u) ≡ Accept n
@@ -31,11 +32,11 @@ become_refused : {I P T : Type 0} (w : Model I ℕ) (becomes : Outcome P → Out
 become_refused w becomes F xs i o known e none a =
     a.fact ∙ ap becomes (none i a.outcome known e (subst (λ z. F z a.outcome) (sym a.at_is) a.answered))
 
-module _ {I P Q O E : Type 0} {w : Model I ℕ} (Joins : E → E → E → Type 0) (Grows : Type 0) {g : Grammar I P O E} {h : Grammar I Q O E} where
+module _ {I P Q O E : Type 0} {w : Model I ℕ} (errs : Errors I E) {g : Grammar I P O E} {h : Grammar I Q O E} where
   -- one of two
-  pub either_reads : {FirstForm SecondForm : O → List ℕ → Type 0} {FirstFails : O → (room start : ℕ) → WriteError → Type 0} {First Second : List ℕ → Type 0} →
-      Apart w g.meaning (λ xs. (v : O) × SecondForm v xs) → Reads w g FirstForm First → Reads w h SecondForm Second →
-      Reads w (either_of Joins Grows g h) (λ v. Either (FirstForm v) (FirstFails v) (SecondForm v)) (λ rest. First rest × Second rest)
+  pub either_reads : {FirstForm SecondForm : O → List ℕ → Type 0} {FirstFails : O → Space → WriteError → Type 0} {First Second : List ℕ → Type 0} →
+      Refuses w g SecondForm → Reads w g FirstForm First → Reads w h SecondForm Second →
+      Reads w (either_of errs.joined errs.grows g h) (λ v. Either (FirstForm v) (FirstFails v) (SecondForm v)) (λ rest. First rest × Second rest)
   either_reads {FirstForm} {SecondForm} {FirstFails} {First} {Second} apart p q = record { reads = reads }
     where
       Both : List ℕ → Type 0
@@ -53,7 +54,7 @@ module _ {I P Q O E : Type 0} {w : Model I ℕ} (Joins : E → E → E → Type 
           (λ i o known e a. apart.refuses xs rest (v, f) s i o known e a) a
 
       reads : (v : O) (xs : List ℕ) → Either (FirstForm v) (FirstFails v) (SecondForm v) xs → (s : Bool) →
-          ReadsBefore w ((either_of Joins Grows g h).meaning.answers s) (IsTree v) Both xs
+          ReadsBefore w ((either_of errs.joined errs.grows g h).meaning.answers s) (IsTree v) Both xs
       reads v xs (inl f) s =
           let r = become_reads w (labelled inl) inl (λ n u. refl) (g.meaning.answers s) (λ u. g.IsOutput u v) (IsTree v) First Both xs (λ rest k. k.0)
           (λ u k. k)
@@ -73,11 +74,24 @@ module _ {I P Q O E : Type 0} {w : Model I ℕ} (Joins : E → E → E → Type 
                 (subst (λ z. GoesOnRefused (Next s i) z o) (refuses s v xs f.1 i rest a.first known e a.answered) a.goes_on);
           }
 
+-- a first that can't write a value and a second that can't are a choice that can't
+either_grouped : (A B C : List ℕ → Type 0) (AFails BFails : Space → WriteError → Type 0) (xs : List ℕ) → Either A AFails (Either B BFails C) xs →
+    Either (Either A AFails B) (EitherFails AFails BFails) C xs
+either_grouped A B C AFails BFails xs (inl a) = inl (inl a)
+either_grouped A B C AFails BFails xs (inr (u, inl b)) = inl (inr (u, b))
+either_grouped A B C AFails BFails xs (inr (u, inr (v, c))) = inr ((v.0, v.1, inr (u, v.2), v.3), c)
+
+pub either_regrouped : {I V O E : Type 0} {w : Model I ℕ} {g : Grammar I V O E} {A B C : O → List ℕ → Type 0} {AFails BFails : O → Space → WriteError → Type 0}
+    {Follow : List ℕ → Type 0} → Reads w g (λ v. Either (Either (A v) (AFails v) (B v)) (EitherFails (AFails v) (BFails v)) (C v)) Follow →
+    Reads w g (λ v. Either (A v) (AFails v) (Either (B v) (BFails v) (C v))) Follow
+either_regrouped {A = A} {B} {C} {AFails} {BFails} p = record {
+  reads = λ v xs f. p.reads v xs (either_grouped (A v) (B v) (C v) (AFails v) (BFails v) xs f);
+}
+
 -- what both refuse their choice refuses
-pub either_apart : {I P Q E : Type 0} {w : Model I ℕ} (Joins : E → E → E → Type 0)
-    (Grows : Type 0) {m : Meaning I P E} {n : Meaning I Q E} {Kind : List ℕ → Type 0} →
-    Apart w m Kind → Apart w n Kind → Apart w (either_meaning Joins Grows m n) Kind
-either_apart {I} {w = w} Joins Grows {m} {n} a b = record {
+pub either_apart : {I P Q E : Type 0} {w : Model I ℕ} (errs : Errors I E) {m : Meaning I P E} {n : Meaning I Q E} {Kind : List ℕ → Type 0} →
+    Apart w m Kind → Apart w n Kind → Apart w (either_meaning errs.joined errs.grows m n) Kind
+either_apart {I} {w = w} errs {m} {n} a b = record {
   refuses = λ xs rest t s i o known e r.
       let first = become_refused w (labelled inl) (m.answers s) (xs ++ rest) i r.first known e (a.refuses xs rest t s) r.answered in
       become_refused w (labelled inr) (n.answers s) (xs ++ rest) i o known e (b.refuses xs rest t s)

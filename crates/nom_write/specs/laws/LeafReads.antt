@@ -1,7 +1,7 @@
 -- What is read of leaves.
 use Rattle.std.specs.Prelude.{◌≡◌, ℕ, Bool, List, [], ◌∷◌, ◌++◌, length, Option, refl}
 use Rattle.std.proofs.Common.{arith, sym, ◌∙◌, ap, subst}
-use Rattle.nom_internal.specs.Prelude.{Errors, Model, InputLaws, items_len, items_len-ones, same_self, Slice, IsFirst, Meaning, IsLawful, Outcome}
+use Rattle.nom_internal.specs.Prelude.{Errors, Model, items_len, items_len-ones, same_self, Slice, IsFirst, Meaning, IsLawful, Outcome}
 use Rattle.nom_internal.specs.Prelude.{Accept, OnPart, labelled}
 use Rattle.nom_internal.specs.Prelude.{bytes_model, bytes_lawful, bytes_comparing, ComparesBytes}
 use Rattle.std.specs.Borrow.{Bor}

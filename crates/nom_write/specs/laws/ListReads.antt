@@ -1,5 +1,5 @@
 -- What is read of lists: of just as many items as there are values, or of items up to what no item begins.
-use Rattle.std.specs.Prelude.{◌≡◌, ℕ, ◌+◌, ◌<◌, ◌≤◌, Bool, true, false, List, [], ◌∷◌, ◌++◌, length, Option, Some, None, zero, suc, refl}
+use Rattle.std.specs.Prelude.{◌≡◌, ℕ, ◌+◌, ◌<◌, Bool, true, false, List, [], ◌∷◌, ◌++◌, length, Option, Some, None, zero, suc, refl}
 use Rattle.std.specs.List.{AllZip}
 use Rattle.std.proofs.Common.{sym, ◌∙◌, ap, subst, append_assoc, arith}
 use Rattle.std.proofs.lemmas.Bool.{le-ltb}
@@ -14,7 +14,6 @@ use Rattle.nom_repeat.specs.declared.items.Limits.{Limits}
 use Rattle.nom_repeat.specs.Items.{item_turn, items_meaning, refused_turn}
 use Rattle.nom_repeat.specs.Bounds.{any_limits, exact_limits}
 use Rattle.nom_write.specs.Lists.{Each, ItemForm}
-use Rattle.nom_write.specs.Parts.{Both}
 use Rattle.nom_write.specs.Reads.{Anything, NoItem, Reads, ReadsBefore}
 use Rattle.nom_write.specs.laws.SequenceReads.{follows}
 

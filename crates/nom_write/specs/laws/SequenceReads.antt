@@ -1,5 +1,5 @@
 -- What is read of parts in sequence: what is written of the second, with all that may follow it, may follow the first.
-use Rattle.std.specs.Prelude.{◌≡◌, ℕ, ◌+◌, Bool, List, ◌++◌, refl}
+use Rattle.std.specs.Prelude.{◌≡◌, ℕ, ◌+◌, List, ◌++◌, refl}
 use Rattle.std.proofs.Common.{sym, ◌∙◌, ap, subst, append_assoc}
 use Rattle.nom_internal.specs.Prelude.{Model, InputLaws, items_len, items_len-append, IsSuffixOf, Grammar, Outcome, Accept, GoesOn, Then, after}
 use Rattle.nom_internal.specs.Prelude.{PairOutput, pair_of}
@@ -67,6 +67,20 @@ module _ {I V W O P E : Type 0} {w : Model I ℕ} (l : InputLaws w) {g : Grammar
         (λ rest n. subst (λ z. First (z ++ rest)) (sym f.second) (meets rest)) (p.reads a f.front f.first s)
         (λ u x. as_whole w f.second (q.reads s)));
   }
+
+-- two parts and a third are a first and two others
+both_regrouped : {A B C : List ℕ → Type 0} {xs : List ℕ} → Both A (Both B C) xs → Both (Both A B) C xs
+both_regrouped f = record {
+  front = f.front ++ f.second.front;
+  back = f.second.back;
+  whole = f.whole ∙ (ap (λ z. f.front ++ z) f.second.whole ∙ sym (append_assoc f.front f.second.front f.second.back));
+  first = record { front = f.front; back = f.second.front; whole = refl; first = f.first; second = f.second.first };
+  second = f.second.second;
+}
+
+pub regrouped : {I V O E : Type 0} {w : Model I ℕ} {g : Grammar I V O E} {A B C : O → List ℕ → Type 0} {Follow : List ℕ → Type 0} →
+    Reads w g (λ v. Both (Both (A v) (B v)) (C v)) Follow → Reads w g (λ v. Both (A v) (Both (B v) (C v))) Follow
+regrouped p = record { reads = λ v xs f. p.reads v xs (both_regrouped f) }
 
 -- a tuple, by the nested pairs of its outputs
 pub tuple_reads : {I V O F E : Type 0} {w : Model I ℕ} {g : Grammar I V O E} {Form : O → List ℕ → Type 0} {Follow : List ℕ → Type 0} (pairs : F → O) →

@@ -2,8 +2,8 @@ use Rattle.std.proofs.Common.{true}
 use Rattle.nom_write.proofs.Reading.{reads_back}
 use Rattle.nom_write.proofs.promises.parse_back.Goals as goal
 
-pub returns : goal.returns
-returns g c v xs rest form e f =
+pub returns-clause-back : goal.returns-clause-back
+returns-clause-back g c v xs rest form e f =
     let parser = c.args.parser.now in
     reads_back g.I.Items.model g.met.I.Items.lawful g.P.Output.Viewed.view (g.P.StreamParser.Pins parser) (g.P.Parser.grammar (g.P.Parser.state parser))
     (g.met.P.StreamParser.pinned parser c.requires.sound) (g.P.Writer.MayFollow parser) true v xs rest c.args.input c.parse.result
