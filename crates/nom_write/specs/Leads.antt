@@ -1,6 +1,7 @@
 -- The bytes that forms begin with.
 use Rattle.std.specs.Prelude.{◌≡◌, ℕ, Bool, true, false, eqb, ◌||◌, ◌&&◌, not, List, [], ◌∷◌, ◌++◌, Option, Some, None}
 use Rattle.nom_internal.specs.Prelude.{Model, Grammar, Meaning}
+use Rattle.nom_write.specs.Choices.{Refuses}
 use Rattle.nom_write.specs.Reads.{NoItem}
 
 -- a byte is one of some
@@ -47,3 +48,8 @@ abbrev pub Differ : Option (List ℕ) → Option (List ℕ) → Type 0 → Type 
 Differ (Some bs) (Some cs) Otherwise = are_others bs cs ≡ true
 Differ (Some bs) None Otherwise = Otherwise
 Differ None cs Otherwise = Otherwise
+
+-- a grammar refuses whatever begins with a form of another, which is plain where these begin with other bytes
+abbrev pub AreApart : {I V O R E : Type 0} → Model I ℕ → Grammar I V O E → (lead : Option (List ℕ)) → (R → List ℕ → Type 0) → (other : Option (List ℕ)) →
+    Type 0
+AreApart w g lead Form other = Differ lead other (Refuses w g Form)

@@ -12,11 +12,12 @@ use Rattle.nom_bytes.specs.Tags.{tag_meaning, tags}
 use Rattle.nom_branch.specs.Alternatives.{alt_of}
 use Rattle.nom_combinator.specs.Contexts.{context_of}
 use Rattle.nom_error.specs.Errors.{Contexts}
-use Rattle.nom_write.specs.declared.writer.WriteError.{WriteError}
-use Rattle.nom_write.specs.Choices.{Apart, Either}
+use Rattle.nom_write.specs.declared.error.WriteError.{WriteError}
+use Rattle.nom_write.specs.Choices.{Apart, Either, EitherFails}
 use Rattle.nom_write.specs.Leads.{BeginsWith, Differ, Leads, RefusesOthers, are_others, either_lead, is_among, lead_of}
 use Rattle.nom_write.specs.Parts.{Both}
 use Rattle.nom_write.specs.Reads.{NoItem}
+use Rattle.nom_write.specs.Written.{Space}
 
 -- nothing is told
 pub no_lead : {I V O E : Type 0} {w : Model I ℕ} {g : Grammar I V O E} {Form : O → List ℕ → Type 0} → Leads w g Form None
@@ -119,7 +120,7 @@ then_refuses w tree first next m f lead p = record {
 }
 
 -- a part whose refusals stay refusals
-case_refuses : {I P T E F : Type 0} (w : Model I ℕ) (m : Meaning I P E) (n : Meaning I T F) (lead : Option (List ℕ))
+pub case_refuses : {I P T E F : Type 0} (w : Model I ℕ) (m : Meaning I P E) (n : Meaning I T F) (lead : Option (List ℕ))
     (stays : (s : Bool) (i : I) (o : Outcome T) → n.answers s i o → (a : Outcome P) × m.answers s i a × (a ≡ Refuse → o ≡ Refuse)) →
     RefusesOthers w m lead → RefusesOthers w n lead
 case_refuses w m n lead stays p = record {
@@ -155,22 +156,31 @@ module _ {I V O E : Type 0} {w : Model I ℕ} {g : Grammar I V O E} {Form : O �
       Leads w (map_by IsTaken Gives g) (λ v xs. (x : O) × Back v x × Form x xs) lead
   map_leads = record {
     begins = λ bs e v xs f. p.begins bs e f.0 xs f.2;
-    others = case_refuses w g.meaning _ lead (λ s i o a. (a.outcome, subst (λ z. g.meaning.answers s z a.outcome) (sym a.at_is) a.answered,
-        λ e. a.fact ∙ e)) p.others;
+    others = case_refuses w g.meaning _ lead (λ s i o a. (
+      a.outcome,
+      subst (λ z. g.meaning.answers s z a.outcome) (sym a.at_is) a.answered,
+      λ e. a.fact ∙ e,
+    )) p.others;
   }
 
   pub alt_leads : (errs : Errors I E) → Leads w (alt_of errs g) Form lead
   alt_leads errs = record {
     begins = p.begins;
-    others = case_refuses w g.meaning _ lead (λ s i o a. (a.outcome, subst (λ z. g.meaning.answers s z a.outcome) (sym a.at_is) a.answered,
-        λ e. a.fact ∙ e)) p.others;
+    others = case_refuses w g.meaning _ lead (λ s i o a. (
+      a.outcome,
+      subst (λ z. g.meaning.answers s z a.outcome) (sym a.at_is) a.answered,
+      λ e. a.fact ∙ e,
+    )) p.others;
   }
 
   pub context_leads : (contexts : Contexts I E) (name : List ℕ) → Leads w (context_of contexts name g) Form lead
   context_leads contexts name = record {
     begins = p.begins;
-    others = case_refuses w g.meaning _ lead (λ s i o a. (a.outcome, subst (λ z. g.meaning.answers s z a.outcome) (sym a.at_is) a.answered,
-        λ e. a.fact ∙ e)) p.others;
+    others = case_refuses w g.meaning _ lead (λ s i o a. (
+      a.outcome,
+      subst (λ z. g.meaning.answers s z a.outcome) (sym a.at_is) a.answered,
+      λ e. a.fact ∙ e,
+    )) p.others;
   }
 
   -- by other words
@@ -212,10 +222,10 @@ labelled_refused : {I P T : Type 0} (w : Model I ℕ) (label : P → T) (F : I �
 labelled_refused w label F xs i o known e none a =
     a.fact ∙ ap (λ z. labelled label z) (none i a.outcome known e (subst (λ z. F z a.outcome) (sym a.at_is) a.answered))
 
-module _ {I P Q O E : Type 0} {w : Model I ℕ} (Joins : E → E → E → Type 0) (Grows : Type 0) {g : Grammar I P O E} {h : Grammar I Q O E}
-    {First Second : O → List ℕ → Type 0} {FirstFails : O → (room start : ℕ) → WriteError → Type 0} where
+module _ {I P Q O E : Type 0} {w : Model I ℕ} (errs : Errors I E) {g : Grammar I P O E} {h : Grammar I Q O E}
+    {First Second : O → List ℕ → Type 0} {FirstFails : O → Space → WriteError → Type 0} where
   both_told : (bs cs : List ℕ) → Leads w g First (Some bs) → Leads w h Second (Some cs) →
-      Leads w (either_of Joins Grows g h) (λ v. Either (First v) (FirstFails v) (Second v)) (Some (bs ++ cs))
+      Leads w (either_of errs.joined errs.grows g h) (λ v. Either (First v) (FirstFails v) (Second v)) (Some (bs ++ cs))
   both_told bs cs p q = record { begins = λ ds e v xs f. subst (λ z. BeginsWith z xs) {x = bs ++ cs} {y = ds} (cc (e)) (begins v xs f); others = record { refuses = others } }
     where
       begins : (v : O) (xs : List ℕ) → Either (First v) (FirstFails v) (Second v) xs → BeginsWith (bs ++ cs) xs
@@ -233,7 +243,7 @@ module _ {I P Q O E : Type 0} {w : Model I ℕ} (Joins : E → E → E → Type 
       }
 
       others : (ds : List ℕ) → Some (bs ++ cs) ≡ Some ds → (c : ℕ) (rest : List ℕ) → is_among ds c ≡ false →
-          NoItem w (either_of Joins Grows g h).meaning (c ∷ rest)
+          NoItem w (either_of errs.joined errs.grows g h).meaning (c ∷ rest)
       others ds e c rest none s i o known el r =
           let parts : (is_among bs c ≡ false) × (is_among cs c ≡ false) = or_none (is_among bs c) (is_among cs c) (sym (among_both bs cs c) ∙ subst (λ z.
           is_among z c ≡ false) {x = ds} {y = bs ++ cs} (cc (e)) none) in
@@ -243,11 +253,26 @@ module _ {I P Q O E : Type 0} {w : Model I ℕ} (Joins : E → E → E → Type 
 
   -- one of two
   pub either_leads : {a b : Option (List ℕ)} → Leads w g First a → Leads w h Second b →
-      Leads w (either_of Joins Grows g h) (λ v. Either (First v) (FirstFails v) (Second v)) (either_lead a b)
+      Leads w (either_of errs.joined errs.grows g h) (λ v. Either (First v) (FirstFails v) (Second v)) (either_lead a b)
   either_leads {a} {b} p q = by a b p q
     where
       by : (a b : Option (List ℕ)) → Leads w g First a → Leads w h Second b →
-          Leads w (either_of Joins Grows g h) (λ v. Either (First v) (FirstFails v) (Second v)) (either_lead a b)
+          Leads w (either_of errs.joined errs.grows g h) (λ v. Either (First v) (FirstFails v) (Second v)) (either_lead a b)
       by (Some bs) (Some cs) p q = both_told bs cs p q
       by (Some bs) None p q = no_lead
       by None b p q = no_lead
+
+-- a first that can't write a value and a second that can't are a choice that can't
+grouped : (A B C : List ℕ → Type 0) (AFails BFails : Space → WriteError → Type 0) (xs : List ℕ) → Either A AFails (Either B BFails C) xs →
+    Either (Either A AFails B) (EitherFails AFails BFails) C xs
+grouped A B C AFails BFails xs (inl a) = inl (inl a)
+grouped A B C AFails BFails xs (inr (u, inl b)) = inl (inr (u, b))
+grouped A B C AFails BFails xs (inr (u, inr (v, c))) = inr ((v.0, v.1, inr (u, v.2), v.3), c)
+
+pub leads_regrouped : {I V O E : Type 0} {w : Model I ℕ} {g : Grammar I V O E} {A B C : O → List ℕ → Type 0} {AFails BFails : O → Space → WriteError → Type 0}
+    {lead : Option (List ℕ)} → Leads w g (λ v. Either (Either (A v) (AFails v) (B v)) (EitherFails (AFails v) (BFails v)) (C v)) lead →
+    Leads w g (λ v. Either (A v) (AFails v) (Either (B v) (BFails v) (C v))) lead
+leads_regrouped {A = A} {B} {C} {AFails} {BFails} p = record {
+  begins = λ bs e v xs f. p.begins bs e v xs (grouped (A v) (B v) (C v) (AFails v) (BFails v) xs f);
+  others = p.others;
+}
