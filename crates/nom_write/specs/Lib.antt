@@ -1,4 +1,5 @@
 pub mod Choices
+pub mod Decimals
 pub mod Digits
 pub mod Leads
 pub mod Lengths

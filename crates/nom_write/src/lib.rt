@@ -3,6 +3,7 @@
 
 pub mod bytes;
 pub mod choice;
+pub mod decimal;
 pub mod error;
 pub mod length;
 pub mod list;
