@@ -6,7 +6,7 @@ use Rattle.std.proofs.Math.Seq.{take-append_seam}
 use Rattle.std.proofs.lemmas.List.{drop_more}
 use Rattle.nom_write.specs.declared.error.WriteError.{WriteError}
 use Rattle.nom_write.specs.Lists.{Each, EachFail}
-use Rattle.nom_write.specs.Written.{Space, space_at}
+use Rattle.nom_write.specs.Written.{Lack, Space, space_at}
 
 -- none are left past the end
 drop_none : {A : Type 0} (k : ℕ) (xs : List A) → length xs ≤ k → drop k xs ≡ []
@@ -15,7 +15,7 @@ drop_none zero (x ∷ xs) h = absurd (omega (arith, h))
 drop_none (suc k) [] h = refl
 drop_none (suc k) (x ∷ xs) h = drop_none k xs (omega (arith, h))
 
-module _ {O : Type 0} (Form : O → List ℕ → Type 0) (Fails : O → Space → WriteError → Type 0) (lack : WriteError) (vs : List O) where
+module _ {O : Type 0} (Form : O → List ℕ → Type 0) (Fails : O → Space → WriteError → Type 0) (lack : Lack) (vs : List O) where
   -- what was added of the first k values: with forms of those that are left it is one of all, and where one of those fails, so do all
   pub record SoFar (k : ℕ) (old new : List ℕ) : Type 0 where
     pub added : List ℕ

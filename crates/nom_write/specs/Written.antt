@@ -3,15 +3,25 @@ use Rattle.std.specs.Prelude.{◌≡◌, ℕ, ◌+◌, ◌<◌, ◌≤◌, List,
 use Rattle.nom_write.specs.declared.error.WriteError.{WriteError}
 use Rattle.nom_write.specs.declared.error.WriteError.TheVariants.{OutOfMemory, Full, TooLong, Mismatch}
 
--- what a sink is: the bytes that it holds, for how many it has room in all, and the error that it gives for want of room
+-- what there may be too little of
+pub data Lack : Type 0 where
+  OfMemory : Lack
+  OfSpace : Lack
+
+-- the error for it
+abbrev pub lack_error : Lack → WriteError
+lack_error OfMemory = OutOfMemory
+lack_error OfSpace = Full
+
+-- what a sink is: the bytes that it holds, for how many it has room in all, and what it has too little of where it has no room
 pub record SinkModel (S : Type 0) : Type 0 where
   pub items : S → List ℕ
   pub room : S → ℕ
-  pub lack : WriteError
+  pub lack : Lack
 
--- where a part begins, for how many bytes in all there is room, and the error for want of it
+-- where a part begins, for how many bytes in all there is room, and what lacks where there is none
 pub record Space : Type 0 where
-  pub lack : WriteError
+  pub lack : Lack
   pub room : ℕ
   pub start : ℕ
 
@@ -20,7 +30,7 @@ abbrev pub after : Space → List ℕ → Space
 after s xs = record { lack = s.lack; room = s.room; start = s.start + length xs }
 
 -- the space after what a sink holds
-abbrev pub space_at : (lack : WriteError) (room : ℕ) (items : List ℕ) → Space
+abbrev pub space_at : (lack : Lack) (room : ℕ) (items : List ℕ) → Space
 space_at lack room items = record { lack = lack; room = room; start = length items }
 
 -- The sink holds a form of the value more. Or it holds what it did, and there is a reason, by how many bytes it held and for how many it
@@ -31,7 +41,7 @@ Written Form Fails m old new (Err e) = (m.items new ≡ m.items old) × ((room :
 
 -- there is no room for that many bytes more
 abbrev pub LacksRoom : (count : ℕ) → Space → WriteError → Type 0
-LacksRoom count s e = (e ≡ s.lack) × (s.room < s.start + count)
+LacksRoom count s e = (e ≡ lack_error s.lack) × (s.room < s.start + count)
 
 -- an error for want of room
 abbrev pub IsLack : WriteError → Type 0

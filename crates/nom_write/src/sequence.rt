@@ -1,5 +1,5 @@
 //! Parts in sequence.
-ghost use Rattle.std.specs.Prelude.{◌≡◌, ◌+◌, ℕ, List, ◌++◌, ◌⊎◌, length};
+ghost use Rattle.std.specs.Prelude.{◌≡◌, ℕ, List, ◌++◌, length};
 ghost use Rattle.nom_write.specs.Leads.{lead_of};
 ghost use Rattle.nom_write.specs.laws.LeadLaws.{both_leads, pair_leads, preceded_leads, terminated_leads};
 ghost use Rattle.nom_write.specs.Written.{LacksRoom};

@@ -2,7 +2,7 @@
 ghost use Rattle.std.specs.Prelude.{◌≡◌, ◌≤◌, [], length, take, vec_capacity};
 ghost use Rattle.nom_write.specs.Slices.{held, room_of};
 ghost use Rattle.nom_write.specs.Written.{LacksRoom, SinkModel, Written};
-ghost use Rattle.nom_write.specs.declared.error.WriteError.{WriteError};
+ghost use Rattle.nom_write.specs.Written.Lack.{OfMemory, OfSpace};
 
 use crate::error::WriteError;
 use std::alloc::Allocator;
@@ -29,7 +29,7 @@ pub trait Sink {
 
 /// A list, which grows: for want of memory `OutOfMemory`.
 impl<A: Allocator> Sink for Vec<u8, A> {
-    ghost model = { record { items = λ v. v.items; room = λ v. vec_capacity v; lack = WriteError.OutOfMemory } };
+    ghost model = { record { items = λ v. v.items; room = λ v. vec_capacity v; lack = OfMemory } };
 
     #[inline(always)]
     fn len(&self) -> usize {
@@ -79,7 +79,7 @@ impl<'a> SliceSink<'a> {
 
 /// As many bytes as the slice has: for want of room `Full`.
 impl<'a> Sink for SliceSink<'a> {
-    ghost model = { record { items = held; room = room_of; lack = WriteError.Full } };
+    ghost model = { record { items = held; room = room_of; lack = OfSpace } };
 
     #[inline(always)]
     fn len(&self) -> usize {
