@@ -1,12 +1,13 @@
 //! Messages, as an enum: nothing is written for its proof. Branches that begin with different bytes are told apart by these, and a
 //! variant is read back since `to` makes it of what `from` takes out of it.
+ghost use Rattle.std.specs.Prelude.{◌≡◌};
 
+use nom::Viewed;
 use nom::branch::alt;
 use nom::bytes::tag;
 use nom::combinator::value;
 use nom::error::Error;
 use nom::number::{be_u8, be_u32};
-use nom::Viewed;
 use nom::sequence::preceded;
 use nom_write::{Sink, WriteError, Writer, map_both};
 

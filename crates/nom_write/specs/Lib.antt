@@ -8,6 +8,7 @@ pub mod Options
 pub mod Parts
 pub mod Reads
 pub mod Runs
+pub mod Separated
 pub mod Slices
 pub mod Written
 pub mod laws

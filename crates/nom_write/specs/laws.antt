@@ -7,3 +7,5 @@ pub mod ListReads
 pub mod OutputReads
 pub mod RunReads
 pub mod SequenceReads
+pub mod WholeReads
+pub mod SeparatedReads

@@ -13,10 +13,12 @@ pub mod outputs;
 mod piece;
 pub mod promises;
 pub mod runs;
+pub mod separated;
 pub mod sequence;
 pub mod sink;
 pub mod tuple;
 pub mod verdict;
+pub mod whole;
 pub mod writer;
 
 pub use crate::error::WriteError;

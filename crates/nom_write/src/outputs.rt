@@ -34,9 +34,11 @@ impl<I: Items<Item = u8>, O: Clone + PartialEq + Viewed, F: Constant<I> + Drop> 
         }
     }
 
-    ghost reads = { λ p k c. value_reads (F.grammar (F.state p.parser)) p.value (O.is_infallible p.value) (O.is_clone p.value) (F.bytes p.parser) (F.accepts p.parser k) };
+    ghost reads = { λ p k c. value_reads (F.grammar (F.state p.parser)) p.value (O.is_infallible p.value) (O.is_clone p.value)
+        (F.bytes p.parser) (F.accepts p.parser k) };
 
-    ghost leads = { λ p. value_leads (F.grammar (F.state p.parser)) p.value (O.is_infallible p.value) (O.is_clone p.value) (F.bytes p.parser) (F.others p.parser) };
+    ghost leads = { λ p. value_leads (F.grammar (F.state p.parser)) p.value (O.is_infallible p.value) (O.is_clone p.value)
+        (F.bytes p.parser) (F.others p.parser) };
 }
 
 /// Whether a value passes a test.

@@ -1,9 +1,9 @@
 -- What is read of decimal digits.
-use Rattle.std.specs.Prelude.{◌≡◌, ℕ, ◌<◌, ◌==◌, ◌||◌, ◌&&◌, Bool, true, false, cond, List, [], ◌∷◌, ◌++◌, length, ℤ, pos, refl}
+use Rattle.std.specs.Prelude.{◌≡◌, ℕ, ◌<◌, ◌==◌, ◌&&◌, Bool, true, false, cond, List, [], ◌∷◌, ◌++◌, length, ℤ, pos, refl}
 use Rattle.std.specs.List.{All}
-use Rattle.std.proofs.Common.{arith, rules, sym, ◌∙◌, ap, subst, inr}
+use Rattle.std.proofs.Common.{arith, sym, ◌∙◌, ap, subst}
 use Rattle.std.proofs.lemmas.List.Elements.{All-head, All-tail}
-use Rattle.nom_internal.specs.Prelude.{Accept, Errors, Grammar, IsLawful, Model, Outcome, is_dec_digit_code, items_len, same_self}
+use Rattle.nom_internal.specs.Prelude.{Accept, Errors, IsLawful, Model, is_dec_digit_code, items_len, same_self}
 use Rattle.nom_character_integer.specs.Integers.{after_digits, after_integer, after_sign, decimal_number, digits_of, integer_digits, integer_meaning}
 use Rattle.nom_character_integer.specs.Integers.{integer_of, is_negative, is_sign, sign_of, with_sign}
 use Rattle.nom_write.specs.Decimals.{IsDecimal, IsDigit}

@@ -1,14 +1,14 @@
 -- Which bytes forms begin with, by those of the parts.
-use Rattle.std.specs.Prelude.{◌≡◌, ℕ, Bool, true, false, eqb, ◌||◌, ◌&&◌, not, List, [], ◌∷◌, ◌++◌, ◌⊎◌, length, Option, Some, None, refl}
-use Rattle.std.proofs.Common.{sym, ◌∙◌, ap, subst, inl, inr, append_assoc}
+use Rattle.std.specs.Prelude.{◌≡◌, ℕ, Bool, true, false, eqb, ◌||◌, ◌&&◌, not, List, [], ◌∷◌, ◌++◌, length, Option, Some, None, refl}
+use Rattle.std.proofs.Common.{sym, ◌∙◌, ap, subst, inl, inr}
 use Rattle.std.proofs.lemmas.Bool.{eq-eqb, eqb-true}
 use Rattle.std.specs.Borrow.{Bor}
-use Rattle.nom_internal.specs.Prelude.{Errors, Family, GoesOn, GoesOnRefused, Grammar, LeafAnswers, Meaning, Model, Modes, OnPart, Outcome, Accept, Refuse, Stop}
-use Rattle.nom_internal.specs.Prelude.{Fails, Needs, Slice, bytes_model, ComparesBytes, sliced, then_meaning, labelled, either_of, either_meaning, Then, always, with_outputs}
+use Rattle.nom_internal.specs.Prelude.{Errors, Family, GoesOn, GoesOnRefused, Grammar, Meaning, Model, Modes, OnPart, Outcome, Accept, Refuse, Stop}
+use Rattle.nom_internal.specs.Prelude.{Fails, Needs, bytes_model, ComparesBytes, then_meaning, labelled, either_of, always, with_outputs}
 use Rattle.nom_internal.specs.Prelude.{pair_of, map_by}
 use Rattle.nom_internal.specs.Tuples.{tuple_of}
 use Rattle.nom_sequence.specs.Sequences.{preceded_of, terminated_of}
-use Rattle.nom_bytes.specs.Tags.{tag_meaning, tags}
+use Rattle.nom_bytes.specs.Tags.{tag_meaning}
 use Rattle.nom_branch.specs.Alternatives.{alt_of}
 use Rattle.nom_combinator.specs.Contexts.{context_of}
 use Rattle.nom_error.specs.Errors.{Contexts}
@@ -45,7 +45,8 @@ module _ {I V U O E : Type 0} {w : Model I ℕ} {g : Grammar I V O E} {h : Gramm
   told_apart bs cs p q o = record {
     refuses = λ xs rest k.
         let b : BeginsWith cs xs = q.begins cs refl k.0 xs k.1 in
-        subst (λ z. NoItem w g.meaning z) (ap (λ z. z ++ rest) (sym b.whole)) (p.others.refuses bs refl b.byte (b.more ++ rest) (is_other bs cs b.byte o b.is_one));
+        let none = is_other bs cs b.byte o b.is_one in
+        subst (λ z. NoItem w g.meaning z) (ap (λ z. z ++ rest) (sym b.whole)) (p.others.refuses bs refl b.byte (b.more ++ rest) none);
   }
 
   -- what begins with a byte of the second's the first refuses
@@ -226,7 +227,10 @@ module _ {I P Q O E : Type 0} {w : Model I ℕ} (errs : Errors I E) {g : Grammar
     {First Second : O → List ℕ → Type 0} {FirstFails : O → Space → WriteError → Type 0} where
   both_told : (bs cs : List ℕ) → Leads w g First (Some bs) → Leads w h Second (Some cs) →
       Leads w (either_of errs.joined errs.grows g h) (λ v. Either (First v) (FirstFails v) (Second v)) (Some (bs ++ cs))
-  both_told bs cs p q = record { begins = λ ds e v xs f. subst (λ z. BeginsWith z xs) {x = bs ++ cs} {y = ds} (cc (e)) (begins v xs f); others = record { refuses = others } }
+  both_told bs cs p q = record {
+    begins = λ ds e v xs f. subst (λ z. BeginsWith z xs) {x = bs ++ cs} {y = ds} (cc (e)) (begins v xs f);
+    others = record { refuses = others };
+  }
     where
       begins : (v : O) (xs : List ℕ) → Either (First v) (FirstFails v) (Second v) xs → BeginsWith (bs ++ cs) xs
       begins v xs (inl f) = let b = p.begins bs refl v xs f in record {

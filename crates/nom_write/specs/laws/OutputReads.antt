@@ -1,10 +1,10 @@
 -- What is read of values in the place of outputs, and of outputs that pass a test.
-use Rattle.std.specs.Prelude.{◌≡◌, ℕ, Bool, true, List, ◌++◌, Option, refl}
+use Rattle.std.specs.Prelude.{◌≡◌, ℕ, Bool, true, List, ◌++◌, Option}
 use Rattle.std.proofs.Common.{sym, ◌∙◌, ap, subst}
-use Rattle.nom_internal.specs.Prelude.{Accept, Errors, GivesFor, Grammar, IsJudge, Model, OnPart, Outcome, Passes, Refuse, items_len, Judged, kept_if}
+use Rattle.nom_internal.specs.Prelude.{Accept, Errors, GivesFor, Grammar, IsJudge, Model, Passes, items_len, Judged, kept_if}
 use Rattle.nom_combinator.specs.Outputs.{GivesValue, value_by, verify_by}
 use Rattle.nom_write.specs.Leads.{Leads, RefusesOthers, lead_of}
-use Rattle.nom_write.specs.Reads.{Anything, Reads, ReadsBefore, ReadsSome}
+use Rattle.nom_write.specs.Reads.{Anything, Reads, ReadsSome}
 use Rattle.nom_write.specs.laws.LeadLaws.{case_refuses, fixed_leads}
 
 module _ {I V O R E : Type 0} {w : Model I ℕ} (g : Grammar I V O E) (value : R) (IsSure : Type 0) (IsClone : R → Type 0) (bytes : List ℕ) where

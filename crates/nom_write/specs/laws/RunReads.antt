@@ -1,9 +1,9 @@
 -- What is read of runs.
-use Rattle.std.specs.Prelude.{◌≡◌, ℕ, ◌<◌, Bool, true, false, ◌⊎◌, List, [], ◌∷◌, length, Option, refl}
-use Rattle.std.proofs.Common.{arith, sym, ap, subst, inl, inr}
-use Rattle.nom_internal.specs.Prelude.{Accept, IsFirst, IsLawful, Model, Outcome, Slice, Stops, items_len, leaf_meaning, same_self, sliced, IsModelledBy, Meaning, premised}
+use Rattle.std.specs.Prelude.{◌≡◌, ℕ, ◌<◌, Bool, false, ◌⊎◌, List, ◌∷◌, length, Option, refl}
+use Rattle.std.proofs.Common.{arith, sym, subst, inl, inr}
+use Rattle.nom_internal.specs.Prelude.{Accept, IsFirst, IsLawful, Model, Slice, Stops, items_len, leaf_meaning, same_self, sliced, Meaning, premised}
 use Rattle.nom_bytes.specs.ParsedRuns.{IsAtBound, IsRunSlice, runs}
-use Rattle.nom_write.specs.Reads.{IsTaken, Reads}
+use Rattle.nom_write.specs.Reads.{Reads}
 use Rattle.nom_write.specs.Runs.{BeginsOther, IsRunForm}
 
 -- a run, before an item that fails the test
