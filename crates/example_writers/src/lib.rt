@@ -2,4 +2,5 @@
 #![tactic(auto)]
 
 pub mod header;
+pub mod messages;
 pub mod records;

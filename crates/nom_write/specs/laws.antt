@@ -1,5 +1,11 @@
 pub mod ChoiceReads
+pub mod DecimalReads
+pub mod LeadLaws
 pub mod LeafReads
 pub mod LengthReads
 pub mod ListReads
+pub mod OutputReads
+pub mod RunReads
 pub mod SequenceReads
+pub mod WholeReads
+pub mod SeparatedReads

@@ -1,6 +1,8 @@
 //! Tags, and pieces of a length that is given.
 ghost use Rattle.std.specs.Prelude.{◌≡◌, ◌⊎◌, length};
 ghost use Rattle.nom_internal.specs.Prelude.{bytes_model};
+ghost use Rattle.nom_write.specs.Leads.{lead_of};
+ghost use Rattle.nom_write.specs.laws.LeadLaws.{fixed_leads, no_lead, tag_refuses_others};
 ghost use Rattle.nom_write.specs.Reads.{Holds};
 ghost use Rattle.nom_write.specs.Written.{LacksRoom};
 ghost use Rattle.nom_write.specs.declared.error.WriteError.{WriteError};
@@ -21,6 +23,8 @@ impl<'a, 'b, E: ParseError<&'a [u8]>> Writer<&'a [u8]> for Tag<&'b [u8], &'a [u8
 
     ghost Fails = { λ p v s e. LacksRoom (length p.tag.now) s e ⊎ ((v.now ≡ p.tag.now → ⊥) × (e ≡ WriteError.Mismatch s.start)) };
 
+    ghost Lead = { λ p. lead_of p.tag.now };
+
     #[inline]
     fn write<S: Sink>(&self, value: &&'a [u8], out: &mut S) -> Result<(), WriteError> {
         let data = *value;
@@ -33,6 +37,8 @@ impl<'a, 'b, E: ParseError<&'a [u8]>> Writer<&'a [u8]> for Tag<&'b [u8], &'a [u8
     }
 
     ghost reads = { λ p k c. tag_reads E.errors p.tag.now };
+
+    ghost leads = { λ p. fixed_leads p.tag.now (λ v xs f. f.0) (tag_refuses_others E.errors p.tag.now) };
 }
 
 impl<'a, 'b, E: ParseError<&'a [u8]>> Constant<&'a [u8]> for Tag<&'b [u8], &'a [u8], E> {
@@ -46,6 +52,8 @@ impl<'a, 'b, E: ParseError<&'a [u8]>> Constant<&'a [u8]> for Tag<&'b [u8], &'a [
     }
 
     ghost accepts = { λ p k. tag_reads_some E.errors p.tag.now };
+
+    ghost others = { λ p. tag_refuses_others E.errors p.tag.now };
 }
 
 /// Bytes of that length; others are a mismatch.
@@ -68,4 +76,6 @@ impl<I: ByteInput, E: ParseError<I>> Writer<I> for Take<I, E> {
     }
 
     ghost reads = { λ p k c. take_value_reads I.model E.errors I.lack p.count I.one_mark };
+
+    ghost leads = { λ p. no_lead };
 }

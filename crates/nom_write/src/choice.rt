@@ -1,5 +1,7 @@
 //! Choices: a form of the first branch, or where that can't write a value one of the next.
-ghost use Rattle.nom_write.specs.Choices.{Either, EitherFails, Refuses};
+ghost use Rattle.nom_write.specs.Leads.{AreApart, either_lead};
+ghost use Rattle.nom_write.specs.laws.LeadLaws.{alt_leads, differ_apart, either_leads, leads_regrouped};
+ghost use Rattle.nom_write.specs.Choices.{Either, EitherFails};
 ghost use Rattle.nom_write.specs.laws.ChoiceReads.{alt_reads, either_apart, either_reads, either_regrouped};
 
 use crate::error::WriteError;
@@ -50,7 +52,9 @@ impl<
     ghost MayFollow = { λ p rest. F.MayFollow p.first rest × G.MayFollow p.second rest };
 
     ghost CanWrite = { λ p. F.CanWrite p.first × G.CanWrite p.second ×
-        Refuses I.model (F.grammar (F.state p.first)) (G.Form p.second) };
+        AreApart I.model (F.grammar (F.state p.first)) (F.Lead p.first) (G.Form p.second) (G.Lead p.second) };
+
+    ghost Lead = { λ p. either_lead (F.Lead p.first) (G.Lead p.second) };
 
     #[inline]
     fn write<X: Sink>(&self, value: &F::Output, out: &mut X) -> Result<(), WriteError> {
@@ -61,7 +65,10 @@ impl<
         .put(out)
     }
 
-    ghost reads = { λ p k c. either_reads F.Error.errors c.2 (F.reads p.first k.0 c.0) (G.reads p.second k.1 c.1) };
+    ghost reads = { λ p k c. either_reads F.Error.errors (differ_apart (F.leads p.first) (G.leads p.second) c.2) (F.reads p.first k.0 c.0) (G.reads
+        p.second k.1 c.1) };
+
+    ghost leads = { λ p. either_leads F.Error.errors (F.leads p.first) (G.leads p.second) };
 }
 
 impl<I: Items<Item = u8>, P: Writer<I>, Q: Writer<I, Error = P::Error, Output = P::Output>> Writer<
@@ -74,7 +81,9 @@ impl<I: Items<Item = u8>, P: Writer<I>, Q: Writer<I, Error = P::Error, Output = 
     ghost MayFollow = { λ p rest. (P.MayFollow p.parsers.0 rest) × Q.MayFollow p.parsers.1 rest };
 
     ghost CanWrite = { λ p. (P.CanWrite p.parsers.0 × Q.CanWrite p.parsers.1) ×
-        (Refuses I.model (P.grammar (P.state p.parsers.0)) (Q.Form p.parsers.1)) };
+        (AreApart I.model (P.grammar (P.state p.parsers.0)) (P.Lead p.parsers.0) (Q.Form p.parsers.1) (Q.Lead p.parsers.1)) };
+
+    ghost Lead = { λ p. either_lead (P.Lead p.parsers.0) (Q.Lead p.parsers.1) };
 
     #[inline]
     fn write<X: Sink>(&self, value: &P::Output, out: &mut X) -> Result<(), WriteError> {
@@ -85,8 +94,11 @@ impl<I: Items<Item = u8>, P: Writer<I>, Q: Writer<I, Error = P::Error, Output = 
         .put(out)
     }
 
-    ghost reads = { λ p k c. alt_reads P.Error.errors (either_reads P.Error.errors c.1 (P.reads p.parsers.0 k.0 c.0.0) (Q.reads p.parsers.1 k.1
+    ghost reads = { λ p k c. alt_reads P.Error.errors (either_reads P.Error.errors (differ_apart (P.leads p.parsers.0) (Q.leads p.parsers.1) c.1)
+        (P.reads p.parsers.0 k.0 c.0.0) (Q.reads p.parsers.1 k.1
         c.0.1)) };
+
+    ghost leads = { λ p. alt_leads (either_leads P.Error.errors (P.leads p.parsers.0) (Q.leads p.parsers.1)) P.Error.errors };
 }
 
 impl<
@@ -103,9 +115,11 @@ impl<
     ghost MayFollow = { λ p rest. ((P.MayFollow p.parsers.0 rest) × Q.MayFollow p.parsers.1 rest) × R.MayFollow p.parsers.2 rest };
 
     ghost CanWrite = { λ p. (P.CanWrite p.parsers.0 × Q.CanWrite p.parsers.1 × R.CanWrite p.parsers.2) ×
-        (Refuses I.model (P.grammar (P.state p.parsers.0)) (Q.Form p.parsers.1)) ×
-        (Refuses I.model (P.grammar (P.state p.parsers.0)) (R.Form p.parsers.2) ×
-        Refuses I.model (Q.grammar (Q.state p.parsers.1)) (R.Form p.parsers.2)) };
+        (AreApart I.model (P.grammar (P.state p.parsers.0)) (P.Lead p.parsers.0) (Q.Form p.parsers.1) (Q.Lead p.parsers.1)) ×
+        (AreApart I.model (P.grammar (P.state p.parsers.0)) (P.Lead p.parsers.0) (R.Form p.parsers.2) (R.Lead p.parsers.2) ×
+        AreApart I.model (Q.grammar (Q.state p.parsers.1)) (Q.Lead p.parsers.1) (R.Form p.parsers.2) (R.Lead p.parsers.2)) };
+
+    ghost Lead = { λ p. either_lead (either_lead (P.Lead p.parsers.0) (Q.Lead p.parsers.1)) (R.Lead p.parsers.2) };
 
     #[inline]
     fn write<X: Sink>(&self, value: &P::Output, out: &mut X) -> Result<(), WriteError> {
@@ -119,8 +133,13 @@ impl<
         .put(out)
     }
 
-    ghost reads = { λ p k c. alt_reads P.Error.errors (either_regrouped (either_reads P.Error.errors (either_apart P.Error.errors c.2.0 c.2.1)
-        (either_reads P.Error.errors c.1 (P.reads p.parsers.0 k.0.0 c.0.0) (Q.reads p.parsers.1 k.0.1 c.0.1)) (R.reads p.parsers.2 k.1 c.0.2))) };
+    ghost reads = { λ p k c. alt_reads P.Error.errors (either_regrouped (either_reads P.Error.errors (either_apart P.Error.errors (differ_apart
+        (P.leads p.parsers.0) (R.leads p.parsers.2) c.2.0) (differ_apart (Q.leads p.parsers.1) (R.leads p.parsers.2) c.2.1))
+        (either_reads P.Error.errors (differ_apart (P.leads p.parsers.0) (Q.leads p.parsers.1) c.1) (P.reads p.parsers.0 k.0.0 c.0.0) (Q.reads
+        p.parsers.1 k.0.1 c.0.1)) (R.reads p.parsers.2 k.1 c.0.2))) };
+
+    ghost leads = { λ p. alt_leads (leads_regrouped (either_leads P.Error.errors (either_leads P.Error.errors (P.leads p.parsers.0) (Q.leads
+        p.parsers.1)) (R.leads p.parsers.2))) P.Error.errors };
 }
 
 impl<
@@ -140,12 +159,14 @@ impl<
         p.parsers.3 rest };
 
     ghost CanWrite = { λ p. (P.CanWrite p.parsers.0 × Q.CanWrite p.parsers.1 × R.CanWrite p.parsers.2 × S.CanWrite p.parsers.3) ×
-        (Refuses I.model (P.grammar (P.state p.parsers.0)) (Q.Form p.parsers.1)) ×
-        (Refuses I.model (P.grammar (P.state p.parsers.0)) (R.Form p.parsers.2) ×
-        Refuses I.model (Q.grammar (Q.state p.parsers.1)) (R.Form p.parsers.2)) ×
-        (Refuses I.model (P.grammar (P.state p.parsers.0)) (S.Form p.parsers.3) ×
-        Refuses I.model (Q.grammar (Q.state p.parsers.1)) (S.Form p.parsers.3) ×
-        Refuses I.model (R.grammar (R.state p.parsers.2)) (S.Form p.parsers.3)) };
+        (AreApart I.model (P.grammar (P.state p.parsers.0)) (P.Lead p.parsers.0) (Q.Form p.parsers.1) (Q.Lead p.parsers.1)) ×
+        (AreApart I.model (P.grammar (P.state p.parsers.0)) (P.Lead p.parsers.0) (R.Form p.parsers.2) (R.Lead p.parsers.2) ×
+        AreApart I.model (Q.grammar (Q.state p.parsers.1)) (Q.Lead p.parsers.1) (R.Form p.parsers.2) (R.Lead p.parsers.2)) ×
+        (AreApart I.model (P.grammar (P.state p.parsers.0)) (P.Lead p.parsers.0) (S.Form p.parsers.3) (S.Lead p.parsers.3) ×
+        AreApart I.model (Q.grammar (Q.state p.parsers.1)) (Q.Lead p.parsers.1) (S.Form p.parsers.3) (S.Lead p.parsers.3) ×
+        AreApart I.model (R.grammar (R.state p.parsers.2)) (R.Lead p.parsers.2) (S.Form p.parsers.3) (S.Lead p.parsers.3)) };
+
+    ghost Lead = { λ p. either_lead (either_lead (either_lead (P.Lead p.parsers.0) (Q.Lead p.parsers.1)) (R.Lead p.parsers.2)) (S.Lead p.parsers.3) };
 
     #[inline]
     fn write<X: Sink>(&self, value: &P::Output, out: &mut X) -> Result<(), WriteError> {
@@ -163,9 +184,16 @@ impl<
     }
 
     ghost reads = { λ p k c. alt_reads P.Error.errors (either_regrouped (either_regrouped (either_reads P.Error.errors (either_apart P.Error.errors
-        (either_apart P.Error.errors c.3.0 c.3.1) c.3.2) (either_reads P.Error.errors (either_apart P.Error.errors c.2.0 c.2.1) (either_reads
-        P.Error.errors c.1 (P.reads p.parsers.0 k.0.0.0 c.0.0) (Q.reads p.parsers.1 k.0.0.1 c.0.1)) (R.reads p.parsers.2 k.0.1 c.0.2)) (S.reads
+        (either_apart P.Error.errors (differ_apart (P.leads p.parsers.0) (S.leads p.parsers.3) c.3.0) (differ_apart (Q.leads p.parsers.1) (S.leads
+        p.parsers.3) c.3.1)) (differ_apart (R.leads p.parsers.2) (S.leads p.parsers.3) c.3.2)) (either_reads P.Error.errors (either_apart
+        P.Error.errors (differ_apart (P.leads p.parsers.0) (R.leads p.parsers.2) c.2.0) (differ_apart (Q.leads p.parsers.1) (R.leads p.parsers.2)
+        c.2.1)) (either_reads
+        P.Error.errors (differ_apart (P.leads p.parsers.0) (Q.leads p.parsers.1) c.1) (P.reads p.parsers.0 k.0.0.0 c.0.0) (Q.reads p.parsers.1
+        k.0.0.1 c.0.1)) (R.reads p.parsers.2 k.0.1 c.0.2)) (S.reads
         p.parsers.3 k.1 c.0.3)))) };
+
+    ghost leads = { λ p. alt_leads (leads_regrouped (leads_regrouped (either_leads P.Error.errors (either_leads P.Error.errors (either_leads
+        P.Error.errors (P.leads p.parsers.0) (Q.leads p.parsers.1)) (R.leads p.parsers.2)) (S.leads p.parsers.3)))) P.Error.errors };
 }
 
 impl<
@@ -187,16 +215,19 @@ impl<
 
     ghost CanWrite = { λ p. (P.CanWrite p.parsers.0 × Q.CanWrite p.parsers.1 × R.CanWrite p.parsers.2 × S.CanWrite p.parsers.3 × T.CanWrite
         p.parsers.4) ×
-        (Refuses I.model (P.grammar (P.state p.parsers.0)) (Q.Form p.parsers.1)) ×
-        (Refuses I.model (P.grammar (P.state p.parsers.0)) (R.Form p.parsers.2) ×
-        Refuses I.model (Q.grammar (Q.state p.parsers.1)) (R.Form p.parsers.2)) ×
-        (Refuses I.model (P.grammar (P.state p.parsers.0)) (S.Form p.parsers.3) ×
-        Refuses I.model (Q.grammar (Q.state p.parsers.1)) (S.Form p.parsers.3) ×
-        Refuses I.model (R.grammar (R.state p.parsers.2)) (S.Form p.parsers.3)) ×
-        (Refuses I.model (P.grammar (P.state p.parsers.0)) (T.Form p.parsers.4) ×
-        Refuses I.model (Q.grammar (Q.state p.parsers.1)) (T.Form p.parsers.4) ×
-        Refuses I.model (R.grammar (R.state p.parsers.2)) (T.Form p.parsers.4) ×
-        Refuses I.model (S.grammar (S.state p.parsers.3)) (T.Form p.parsers.4)) };
+        (AreApart I.model (P.grammar (P.state p.parsers.0)) (P.Lead p.parsers.0) (Q.Form p.parsers.1) (Q.Lead p.parsers.1)) ×
+        (AreApart I.model (P.grammar (P.state p.parsers.0)) (P.Lead p.parsers.0) (R.Form p.parsers.2) (R.Lead p.parsers.2) ×
+        AreApart I.model (Q.grammar (Q.state p.parsers.1)) (Q.Lead p.parsers.1) (R.Form p.parsers.2) (R.Lead p.parsers.2)) ×
+        (AreApart I.model (P.grammar (P.state p.parsers.0)) (P.Lead p.parsers.0) (S.Form p.parsers.3) (S.Lead p.parsers.3) ×
+        AreApart I.model (Q.grammar (Q.state p.parsers.1)) (Q.Lead p.parsers.1) (S.Form p.parsers.3) (S.Lead p.parsers.3) ×
+        AreApart I.model (R.grammar (R.state p.parsers.2)) (R.Lead p.parsers.2) (S.Form p.parsers.3) (S.Lead p.parsers.3)) ×
+        (AreApart I.model (P.grammar (P.state p.parsers.0)) (P.Lead p.parsers.0) (T.Form p.parsers.4) (T.Lead p.parsers.4) ×
+        AreApart I.model (Q.grammar (Q.state p.parsers.1)) (Q.Lead p.parsers.1) (T.Form p.parsers.4) (T.Lead p.parsers.4) ×
+        AreApart I.model (R.grammar (R.state p.parsers.2)) (R.Lead p.parsers.2) (T.Form p.parsers.4) (T.Lead p.parsers.4) ×
+        AreApart I.model (S.grammar (S.state p.parsers.3)) (S.Lead p.parsers.3) (T.Form p.parsers.4) (T.Lead p.parsers.4)) };
+
+    ghost Lead = { λ p. either_lead (either_lead (either_lead (either_lead (P.Lead p.parsers.0) (Q.Lead p.parsers.1)) (R.Lead p.parsers.2)) (S.Lead
+        p.parsers.3)) (T.Lead p.parsers.4) };
 
     #[inline]
     fn write<X: Sink>(&self, value: &P::Output, out: &mut X) -> Result<(), WriteError> {
@@ -217,10 +248,20 @@ impl<
     }
 
     ghost reads = { λ p k c. alt_reads P.Error.errors (either_regrouped (either_regrouped (either_regrouped (either_reads P.Error.errors (either_apart
-        P.Error.errors (either_apart P.Error.errors (either_apart P.Error.errors c.4.0 c.4.1) c.4.2) c.4.3) (either_reads P.Error.errors (either_apart
-        P.Error.errors (either_apart P.Error.errors c.3.0 c.3.1) c.3.2) (either_reads P.Error.errors (either_apart P.Error.errors c.2.0 c.2.1)
-        (either_reads P.Error.errors c.1 (P.reads p.parsers.0 k.0.0.0.0 c.0.0) (Q.reads p.parsers.1 k.0.0.0.1 c.0.1)) (R.reads p.parsers.2 k.0.0.1
+        P.Error.errors (either_apart P.Error.errors (either_apart P.Error.errors (differ_apart (P.leads p.parsers.0) (T.leads p.parsers.4) c.4.0)
+        (differ_apart (Q.leads p.parsers.1) (T.leads p.parsers.4) c.4.1)) (differ_apart (R.leads p.parsers.2) (T.leads p.parsers.4) c.4.2))
+        (differ_apart (S.leads p.parsers.3) (T.leads p.parsers.4) c.4.3)) (either_reads P.Error.errors (either_apart
+        P.Error.errors (either_apart P.Error.errors (differ_apart (P.leads p.parsers.0) (S.leads p.parsers.3) c.3.0) (differ_apart (Q.leads
+        p.parsers.1) (S.leads p.parsers.3) c.3.1)) (differ_apart (R.leads p.parsers.2) (S.leads p.parsers.3) c.3.2)) (either_reads P.Error.errors
+        (either_apart P.Error.errors (differ_apart (P.leads p.parsers.0) (R.leads p.parsers.2) c.2.0) (differ_apart (Q.leads p.parsers.1) (R.leads
+        p.parsers.2) c.2.1))
+        (either_reads P.Error.errors (differ_apart (P.leads p.parsers.0) (Q.leads p.parsers.1) c.1) (P.reads p.parsers.0 k.0.0.0.0 c.0.0) (Q.reads
+        p.parsers.1 k.0.0.0.1 c.0.1)) (R.reads p.parsers.2 k.0.0.1
         c.0.2)) (S.reads p.parsers.3 k.0.1 c.0.3)) (T.reads p.parsers.4 k.1 c.0.4))))) };
+
+    ghost leads = { λ p. alt_leads (leads_regrouped (leads_regrouped (leads_regrouped (either_leads P.Error.errors (either_leads P.Error.errors
+        (either_leads P.Error.errors (either_leads P.Error.errors (P.leads p.parsers.0) (Q.leads p.parsers.1)) (R.leads p.parsers.2)) (S.leads
+        p.parsers.3)) (T.leads p.parsers.4))))) P.Error.errors };
 }
 
 impl<
@@ -244,21 +285,24 @@ impl<
 
     ghost CanWrite = { λ p. (P.CanWrite p.parsers.0 × Q.CanWrite p.parsers.1 × R.CanWrite p.parsers.2 × S.CanWrite p.parsers.3 × T.CanWrite
         p.parsers.4 × U.CanWrite p.parsers.5) ×
-        (Refuses I.model (P.grammar (P.state p.parsers.0)) (Q.Form p.parsers.1)) ×
-        (Refuses I.model (P.grammar (P.state p.parsers.0)) (R.Form p.parsers.2) ×
-        Refuses I.model (Q.grammar (Q.state p.parsers.1)) (R.Form p.parsers.2)) ×
-        (Refuses I.model (P.grammar (P.state p.parsers.0)) (S.Form p.parsers.3) ×
-        Refuses I.model (Q.grammar (Q.state p.parsers.1)) (S.Form p.parsers.3) ×
-        Refuses I.model (R.grammar (R.state p.parsers.2)) (S.Form p.parsers.3)) ×
-        (Refuses I.model (P.grammar (P.state p.parsers.0)) (T.Form p.parsers.4) ×
-        Refuses I.model (Q.grammar (Q.state p.parsers.1)) (T.Form p.parsers.4) ×
-        Refuses I.model (R.grammar (R.state p.parsers.2)) (T.Form p.parsers.4) ×
-        Refuses I.model (S.grammar (S.state p.parsers.3)) (T.Form p.parsers.4)) ×
-        (Refuses I.model (P.grammar (P.state p.parsers.0)) (U.Form p.parsers.5) ×
-        Refuses I.model (Q.grammar (Q.state p.parsers.1)) (U.Form p.parsers.5) ×
-        Refuses I.model (R.grammar (R.state p.parsers.2)) (U.Form p.parsers.5) ×
-        Refuses I.model (S.grammar (S.state p.parsers.3)) (U.Form p.parsers.5) ×
-        Refuses I.model (T.grammar (T.state p.parsers.4)) (U.Form p.parsers.5)) };
+        (AreApart I.model (P.grammar (P.state p.parsers.0)) (P.Lead p.parsers.0) (Q.Form p.parsers.1) (Q.Lead p.parsers.1)) ×
+        (AreApart I.model (P.grammar (P.state p.parsers.0)) (P.Lead p.parsers.0) (R.Form p.parsers.2) (R.Lead p.parsers.2) ×
+        AreApart I.model (Q.grammar (Q.state p.parsers.1)) (Q.Lead p.parsers.1) (R.Form p.parsers.2) (R.Lead p.parsers.2)) ×
+        (AreApart I.model (P.grammar (P.state p.parsers.0)) (P.Lead p.parsers.0) (S.Form p.parsers.3) (S.Lead p.parsers.3) ×
+        AreApart I.model (Q.grammar (Q.state p.parsers.1)) (Q.Lead p.parsers.1) (S.Form p.parsers.3) (S.Lead p.parsers.3) ×
+        AreApart I.model (R.grammar (R.state p.parsers.2)) (R.Lead p.parsers.2) (S.Form p.parsers.3) (S.Lead p.parsers.3)) ×
+        (AreApart I.model (P.grammar (P.state p.parsers.0)) (P.Lead p.parsers.0) (T.Form p.parsers.4) (T.Lead p.parsers.4) ×
+        AreApart I.model (Q.grammar (Q.state p.parsers.1)) (Q.Lead p.parsers.1) (T.Form p.parsers.4) (T.Lead p.parsers.4) ×
+        AreApart I.model (R.grammar (R.state p.parsers.2)) (R.Lead p.parsers.2) (T.Form p.parsers.4) (T.Lead p.parsers.4) ×
+        AreApart I.model (S.grammar (S.state p.parsers.3)) (S.Lead p.parsers.3) (T.Form p.parsers.4) (T.Lead p.parsers.4)) ×
+        (AreApart I.model (P.grammar (P.state p.parsers.0)) (P.Lead p.parsers.0) (U.Form p.parsers.5) (U.Lead p.parsers.5) ×
+        AreApart I.model (Q.grammar (Q.state p.parsers.1)) (Q.Lead p.parsers.1) (U.Form p.parsers.5) (U.Lead p.parsers.5) ×
+        AreApart I.model (R.grammar (R.state p.parsers.2)) (R.Lead p.parsers.2) (U.Form p.parsers.5) (U.Lead p.parsers.5) ×
+        AreApart I.model (S.grammar (S.state p.parsers.3)) (S.Lead p.parsers.3) (U.Form p.parsers.5) (U.Lead p.parsers.5) ×
+        AreApart I.model (T.grammar (T.state p.parsers.4)) (T.Lead p.parsers.4) (U.Form p.parsers.5) (U.Lead p.parsers.5)) };
+
+    ghost Lead = { λ p. either_lead (either_lead (either_lead (either_lead (either_lead (P.Lead p.parsers.0) (Q.Lead p.parsers.1)) (R.Lead
+        p.parsers.2)) (S.Lead p.parsers.3)) (T.Lead p.parsers.4)) (U.Lead p.parsers.5) };
 
     #[inline]
     fn write<X: Sink>(&self, value: &P::Output, out: &mut X) -> Result<(), WriteError> {
@@ -282,12 +326,24 @@ impl<
     }
 
     ghost reads = { λ p k c. alt_reads P.Error.errors (either_regrouped (either_regrouped (either_regrouped (either_regrouped (either_reads
-        P.Error.errors (either_apart P.Error.errors (either_apart P.Error.errors (either_apart P.Error.errors (either_apart P.Error.errors c.5.0
-        c.5.1) c.5.2) c.5.3) c.5.4) (either_reads P.Error.errors (either_apart P.Error.errors (either_apart P.Error.errors (either_apart
-        P.Error.errors c.4.0 c.4.1) c.4.2) c.4.3) (either_reads P.Error.errors (either_apart P.Error.errors (either_apart P.Error.errors c.3.0 c.3.1)
-        c.3.2) (either_reads P.Error.errors (either_apart P.Error.errors c.2.0 c.2.1) (either_reads P.Error.errors c.1 (P.reads p.parsers.0
+        P.Error.errors (either_apart P.Error.errors (either_apart P.Error.errors (either_apart P.Error.errors (either_apart P.Error.errors
+        (differ_apart (P.leads p.parsers.0) (U.leads p.parsers.5) c.5.0)
+        (differ_apart (Q.leads p.parsers.1) (U.leads p.parsers.5) c.5.1)) (differ_apart (R.leads p.parsers.2) (U.leads p.parsers.5) c.5.2))
+        (differ_apart (S.leads p.parsers.3) (U.leads p.parsers.5) c.5.3)) (differ_apart (T.leads p.parsers.4) (U.leads p.parsers.5) c.5.4))
+        (either_reads P.Error.errors (either_apart P.Error.errors (either_apart P.Error.errors (either_apart
+        P.Error.errors (differ_apart (P.leads p.parsers.0) (T.leads p.parsers.4) c.4.0) (differ_apart (Q.leads p.parsers.1) (T.leads p.parsers.4)
+        c.4.1)) (differ_apart (R.leads p.parsers.2) (T.leads p.parsers.4) c.4.2)) (differ_apart (S.leads p.parsers.3) (T.leads p.parsers.4) c.4.3))
+        (either_reads P.Error.errors (either_apart P.Error.errors (either_apart P.Error.errors (differ_apart (P.leads p.parsers.0) (S.leads
+        p.parsers.3) c.3.0) (differ_apart (Q.leads p.parsers.1) (S.leads p.parsers.3) c.3.1))
+        (differ_apart (R.leads p.parsers.2) (S.leads p.parsers.3) c.3.2)) (either_reads P.Error.errors (either_apart P.Error.errors (differ_apart
+        (P.leads p.parsers.0) (R.leads p.parsers.2) c.2.0) (differ_apart (Q.leads p.parsers.1) (R.leads p.parsers.2) c.2.1)) (either_reads
+        P.Error.errors (differ_apart (P.leads p.parsers.0) (Q.leads p.parsers.1) c.1) (P.reads p.parsers.0
         k.0.0.0.0.0 c.0.0) (Q.reads p.parsers.1 k.0.0.0.0.1 c.0.1)) (R.reads p.parsers.2 k.0.0.0.1 c.0.2)) (S.reads p.parsers.3 k.0.0.1 c.0.3))
         (T.reads p.parsers.4 k.0.1 c.0.4)) (U.reads p.parsers.5 k.1 c.0.5)))))) };
+
+    ghost leads = { λ p. alt_leads (leads_regrouped (leads_regrouped (leads_regrouped (leads_regrouped (either_leads P.Error.errors (either_leads
+        P.Error.errors (either_leads P.Error.errors (either_leads P.Error.errors (either_leads P.Error.errors (P.leads p.parsers.0) (Q.leads
+        p.parsers.1)) (R.leads p.parsers.2)) (S.leads p.parsers.3)) (T.leads p.parsers.4)) (U.leads p.parsers.5)))))) P.Error.errors };
 }
 
 impl<
@@ -312,27 +368,30 @@ impl<
 
     ghost CanWrite = { λ p. (P.CanWrite p.parsers.0 × Q.CanWrite p.parsers.1 × R.CanWrite p.parsers.2 × S.CanWrite p.parsers.3 × T.CanWrite
         p.parsers.4 × U.CanWrite p.parsers.5 × V.CanWrite p.parsers.6) ×
-        (Refuses I.model (P.grammar (P.state p.parsers.0)) (Q.Form p.parsers.1)) ×
-        (Refuses I.model (P.grammar (P.state p.parsers.0)) (R.Form p.parsers.2) ×
-        Refuses I.model (Q.grammar (Q.state p.parsers.1)) (R.Form p.parsers.2)) ×
-        (Refuses I.model (P.grammar (P.state p.parsers.0)) (S.Form p.parsers.3) ×
-        Refuses I.model (Q.grammar (Q.state p.parsers.1)) (S.Form p.parsers.3) ×
-        Refuses I.model (R.grammar (R.state p.parsers.2)) (S.Form p.parsers.3)) ×
-        (Refuses I.model (P.grammar (P.state p.parsers.0)) (T.Form p.parsers.4) ×
-        Refuses I.model (Q.grammar (Q.state p.parsers.1)) (T.Form p.parsers.4) ×
-        Refuses I.model (R.grammar (R.state p.parsers.2)) (T.Form p.parsers.4) ×
-        Refuses I.model (S.grammar (S.state p.parsers.3)) (T.Form p.parsers.4)) ×
-        (Refuses I.model (P.grammar (P.state p.parsers.0)) (U.Form p.parsers.5) ×
-        Refuses I.model (Q.grammar (Q.state p.parsers.1)) (U.Form p.parsers.5) ×
-        Refuses I.model (R.grammar (R.state p.parsers.2)) (U.Form p.parsers.5) ×
-        Refuses I.model (S.grammar (S.state p.parsers.3)) (U.Form p.parsers.5) ×
-        Refuses I.model (T.grammar (T.state p.parsers.4)) (U.Form p.parsers.5)) ×
-        (Refuses I.model (P.grammar (P.state p.parsers.0)) (V.Form p.parsers.6) ×
-        Refuses I.model (Q.grammar (Q.state p.parsers.1)) (V.Form p.parsers.6) ×
-        Refuses I.model (R.grammar (R.state p.parsers.2)) (V.Form p.parsers.6) ×
-        Refuses I.model (S.grammar (S.state p.parsers.3)) (V.Form p.parsers.6) ×
-        Refuses I.model (T.grammar (T.state p.parsers.4)) (V.Form p.parsers.6) ×
-        Refuses I.model (U.grammar (U.state p.parsers.5)) (V.Form p.parsers.6)) };
+        (AreApart I.model (P.grammar (P.state p.parsers.0)) (P.Lead p.parsers.0) (Q.Form p.parsers.1) (Q.Lead p.parsers.1)) ×
+        (AreApart I.model (P.grammar (P.state p.parsers.0)) (P.Lead p.parsers.0) (R.Form p.parsers.2) (R.Lead p.parsers.2) ×
+        AreApart I.model (Q.grammar (Q.state p.parsers.1)) (Q.Lead p.parsers.1) (R.Form p.parsers.2) (R.Lead p.parsers.2)) ×
+        (AreApart I.model (P.grammar (P.state p.parsers.0)) (P.Lead p.parsers.0) (S.Form p.parsers.3) (S.Lead p.parsers.3) ×
+        AreApart I.model (Q.grammar (Q.state p.parsers.1)) (Q.Lead p.parsers.1) (S.Form p.parsers.3) (S.Lead p.parsers.3) ×
+        AreApart I.model (R.grammar (R.state p.parsers.2)) (R.Lead p.parsers.2) (S.Form p.parsers.3) (S.Lead p.parsers.3)) ×
+        (AreApart I.model (P.grammar (P.state p.parsers.0)) (P.Lead p.parsers.0) (T.Form p.parsers.4) (T.Lead p.parsers.4) ×
+        AreApart I.model (Q.grammar (Q.state p.parsers.1)) (Q.Lead p.parsers.1) (T.Form p.parsers.4) (T.Lead p.parsers.4) ×
+        AreApart I.model (R.grammar (R.state p.parsers.2)) (R.Lead p.parsers.2) (T.Form p.parsers.4) (T.Lead p.parsers.4) ×
+        AreApart I.model (S.grammar (S.state p.parsers.3)) (S.Lead p.parsers.3) (T.Form p.parsers.4) (T.Lead p.parsers.4)) ×
+        (AreApart I.model (P.grammar (P.state p.parsers.0)) (P.Lead p.parsers.0) (U.Form p.parsers.5) (U.Lead p.parsers.5) ×
+        AreApart I.model (Q.grammar (Q.state p.parsers.1)) (Q.Lead p.parsers.1) (U.Form p.parsers.5) (U.Lead p.parsers.5) ×
+        AreApart I.model (R.grammar (R.state p.parsers.2)) (R.Lead p.parsers.2) (U.Form p.parsers.5) (U.Lead p.parsers.5) ×
+        AreApart I.model (S.grammar (S.state p.parsers.3)) (S.Lead p.parsers.3) (U.Form p.parsers.5) (U.Lead p.parsers.5) ×
+        AreApart I.model (T.grammar (T.state p.parsers.4)) (T.Lead p.parsers.4) (U.Form p.parsers.5) (U.Lead p.parsers.5)) ×
+        (AreApart I.model (P.grammar (P.state p.parsers.0)) (P.Lead p.parsers.0) (V.Form p.parsers.6) (V.Lead p.parsers.6) ×
+        AreApart I.model (Q.grammar (Q.state p.parsers.1)) (Q.Lead p.parsers.1) (V.Form p.parsers.6) (V.Lead p.parsers.6) ×
+        AreApart I.model (R.grammar (R.state p.parsers.2)) (R.Lead p.parsers.2) (V.Form p.parsers.6) (V.Lead p.parsers.6) ×
+        AreApart I.model (S.grammar (S.state p.parsers.3)) (S.Lead p.parsers.3) (V.Form p.parsers.6) (V.Lead p.parsers.6) ×
+        AreApart I.model (T.grammar (T.state p.parsers.4)) (T.Lead p.parsers.4) (V.Form p.parsers.6) (V.Lead p.parsers.6) ×
+        AreApart I.model (U.grammar (U.state p.parsers.5)) (U.Lead p.parsers.5) (V.Form p.parsers.6) (V.Lead p.parsers.6)) };
+
+    ghost Lead = { λ p. either_lead (either_lead (either_lead (either_lead (either_lead (either_lead (P.Lead p.parsers.0) (Q.Lead p.parsers.1))
+        (R.Lead p.parsers.2)) (S.Lead p.parsers.3)) (T.Lead p.parsers.4)) (U.Lead p.parsers.5)) (V.Lead p.parsers.6) };
 
     #[inline]
     fn write<X: Sink>(&self, value: &P::Output, out: &mut X) -> Result<(), WriteError> {
@@ -360,13 +419,30 @@ impl<
 
     ghost reads = { λ p k c. alt_reads P.Error.errors (either_regrouped (either_regrouped (either_regrouped (either_regrouped (either_regrouped
         (either_reads P.Error.errors (either_apart P.Error.errors (either_apart P.Error.errors (either_apart P.Error.errors (either_apart
-        P.Error.errors (either_apart P.Error.errors c.6.0 c.6.1) c.6.2) c.6.3) c.6.4) c.6.5) (either_reads P.Error.errors (either_apart P.Error.errors
-        (either_apart P.Error.errors (either_apart P.Error.errors (either_apart P.Error.errors c.5.0 c.5.1) c.5.2) c.5.3) c.5.4) (either_reads
-        P.Error.errors (either_apart P.Error.errors (either_apart P.Error.errors (either_apart P.Error.errors c.4.0 c.4.1) c.4.2) c.4.3) (either_reads
-        P.Error.errors (either_apart P.Error.errors (either_apart P.Error.errors c.3.0 c.3.1) c.3.2) (either_reads P.Error.errors (either_apart
-        P.Error.errors c.2.0 c.2.1) (either_reads P.Error.errors c.1 (P.reads p.parsers.0 k.0.0.0.0.0.0 c.0.0) (Q.reads p.parsers.1 k.0.0.0.0.0.1
+        P.Error.errors (either_apart P.Error.errors (differ_apart (P.leads p.parsers.0) (V.leads p.parsers.6) c.6.0) (differ_apart (Q.leads
+        p.parsers.1) (V.leads p.parsers.6) c.6.1)) (differ_apart (R.leads p.parsers.2) (V.leads p.parsers.6) c.6.2)) (differ_apart (S.leads
+        p.parsers.3) (V.leads p.parsers.6) c.6.3)) (differ_apart (T.leads p.parsers.4) (V.leads p.parsers.6) c.6.4)) (differ_apart (U.leads
+        p.parsers.5) (V.leads p.parsers.6) c.6.5)) (either_reads P.Error.errors (either_apart P.Error.errors
+        (either_apart P.Error.errors (either_apart P.Error.errors (either_apart P.Error.errors (differ_apart (P.leads p.parsers.0) (U.leads
+        p.parsers.5) c.5.0) (differ_apart (Q.leads p.parsers.1) (U.leads p.parsers.5) c.5.1)) (differ_apart (R.leads p.parsers.2) (U.leads
+        p.parsers.5) c.5.2)) (differ_apart (S.leads p.parsers.3) (U.leads p.parsers.5) c.5.3)) (differ_apart (T.leads p.parsers.4) (U.leads
+        p.parsers.5) c.5.4)) (either_reads
+        P.Error.errors (either_apart P.Error.errors (either_apart P.Error.errors (either_apart P.Error.errors (differ_apart (P.leads p.parsers.0)
+        (T.leads p.parsers.4) c.4.0) (differ_apart (Q.leads p.parsers.1) (T.leads p.parsers.4) c.4.1)) (differ_apart (R.leads p.parsers.2) (T.leads
+        p.parsers.4) c.4.2)) (differ_apart (S.leads p.parsers.3) (T.leads p.parsers.4) c.4.3)) (either_reads
+        P.Error.errors (either_apart P.Error.errors (either_apart P.Error.errors (differ_apart (P.leads p.parsers.0) (S.leads p.parsers.3) c.3.0)
+        (differ_apart (Q.leads p.parsers.1) (S.leads p.parsers.3) c.3.1)) (differ_apart (R.leads p.parsers.2) (S.leads p.parsers.3) c.3.2))
+        (either_reads P.Error.errors (either_apart
+        P.Error.errors (differ_apart (P.leads p.parsers.0) (R.leads p.parsers.2) c.2.0) (differ_apart (Q.leads p.parsers.1) (R.leads p.parsers.2)
+        c.2.1)) (either_reads P.Error.errors (differ_apart (P.leads p.parsers.0) (Q.leads p.parsers.1) c.1) (P.reads p.parsers.0 k.0.0.0.0.0.0 c.0.0)
+        (Q.reads p.parsers.1 k.0.0.0.0.0.1
         c.0.1)) (R.reads p.parsers.2 k.0.0.0.0.1 c.0.2)) (S.reads p.parsers.3 k.0.0.0.1 c.0.3)) (T.reads p.parsers.4 k.0.0.1 c.0.4)) (U.reads
         p.parsers.5 k.0.1 c.0.5)) (V.reads p.parsers.6 k.1 c.0.6))))))) };
+
+    ghost leads = { λ p. alt_leads (leads_regrouped (leads_regrouped (leads_regrouped (leads_regrouped (leads_regrouped (either_leads P.Error.errors
+        (either_leads P.Error.errors (either_leads P.Error.errors (either_leads P.Error.errors (either_leads P.Error.errors (either_leads
+        P.Error.errors (P.leads p.parsers.0) (Q.leads p.parsers.1)) (R.leads p.parsers.2)) (S.leads p.parsers.3)) (T.leads p.parsers.4)) (U.leads
+        p.parsers.5)) (V.leads p.parsers.6))))))) P.Error.errors };
 }
 
 impl<
@@ -395,34 +471,37 @@ impl<
 
     ghost CanWrite = { λ p. (P.CanWrite p.parsers.0 × Q.CanWrite p.parsers.1 × R.CanWrite p.parsers.2 × S.CanWrite p.parsers.3 × T.CanWrite
         p.parsers.4 × U.CanWrite p.parsers.5 × V.CanWrite p.parsers.6 × W.CanWrite p.parsers.7) ×
-        (Refuses I.model (P.grammar (P.state p.parsers.0)) (Q.Form p.parsers.1)) ×
-        (Refuses I.model (P.grammar (P.state p.parsers.0)) (R.Form p.parsers.2) ×
-        Refuses I.model (Q.grammar (Q.state p.parsers.1)) (R.Form p.parsers.2)) ×
-        (Refuses I.model (P.grammar (P.state p.parsers.0)) (S.Form p.parsers.3) ×
-        Refuses I.model (Q.grammar (Q.state p.parsers.1)) (S.Form p.parsers.3) ×
-        Refuses I.model (R.grammar (R.state p.parsers.2)) (S.Form p.parsers.3)) ×
-        (Refuses I.model (P.grammar (P.state p.parsers.0)) (T.Form p.parsers.4) ×
-        Refuses I.model (Q.grammar (Q.state p.parsers.1)) (T.Form p.parsers.4) ×
-        Refuses I.model (R.grammar (R.state p.parsers.2)) (T.Form p.parsers.4) ×
-        Refuses I.model (S.grammar (S.state p.parsers.3)) (T.Form p.parsers.4)) ×
-        (Refuses I.model (P.grammar (P.state p.parsers.0)) (U.Form p.parsers.5) ×
-        Refuses I.model (Q.grammar (Q.state p.parsers.1)) (U.Form p.parsers.5) ×
-        Refuses I.model (R.grammar (R.state p.parsers.2)) (U.Form p.parsers.5) ×
-        Refuses I.model (S.grammar (S.state p.parsers.3)) (U.Form p.parsers.5) ×
-        Refuses I.model (T.grammar (T.state p.parsers.4)) (U.Form p.parsers.5)) ×
-        (Refuses I.model (P.grammar (P.state p.parsers.0)) (V.Form p.parsers.6) ×
-        Refuses I.model (Q.grammar (Q.state p.parsers.1)) (V.Form p.parsers.6) ×
-        Refuses I.model (R.grammar (R.state p.parsers.2)) (V.Form p.parsers.6) ×
-        Refuses I.model (S.grammar (S.state p.parsers.3)) (V.Form p.parsers.6) ×
-        Refuses I.model (T.grammar (T.state p.parsers.4)) (V.Form p.parsers.6) ×
-        Refuses I.model (U.grammar (U.state p.parsers.5)) (V.Form p.parsers.6)) ×
-        (Refuses I.model (P.grammar (P.state p.parsers.0)) (W.Form p.parsers.7) ×
-        Refuses I.model (Q.grammar (Q.state p.parsers.1)) (W.Form p.parsers.7) ×
-        Refuses I.model (R.grammar (R.state p.parsers.2)) (W.Form p.parsers.7) ×
-        Refuses I.model (S.grammar (S.state p.parsers.3)) (W.Form p.parsers.7) ×
-        Refuses I.model (T.grammar (T.state p.parsers.4)) (W.Form p.parsers.7) ×
-        Refuses I.model (U.grammar (U.state p.parsers.5)) (W.Form p.parsers.7) ×
-        Refuses I.model (V.grammar (V.state p.parsers.6)) (W.Form p.parsers.7)) };
+        (AreApart I.model (P.grammar (P.state p.parsers.0)) (P.Lead p.parsers.0) (Q.Form p.parsers.1) (Q.Lead p.parsers.1)) ×
+        (AreApart I.model (P.grammar (P.state p.parsers.0)) (P.Lead p.parsers.0) (R.Form p.parsers.2) (R.Lead p.parsers.2) ×
+        AreApart I.model (Q.grammar (Q.state p.parsers.1)) (Q.Lead p.parsers.1) (R.Form p.parsers.2) (R.Lead p.parsers.2)) ×
+        (AreApart I.model (P.grammar (P.state p.parsers.0)) (P.Lead p.parsers.0) (S.Form p.parsers.3) (S.Lead p.parsers.3) ×
+        AreApart I.model (Q.grammar (Q.state p.parsers.1)) (Q.Lead p.parsers.1) (S.Form p.parsers.3) (S.Lead p.parsers.3) ×
+        AreApart I.model (R.grammar (R.state p.parsers.2)) (R.Lead p.parsers.2) (S.Form p.parsers.3) (S.Lead p.parsers.3)) ×
+        (AreApart I.model (P.grammar (P.state p.parsers.0)) (P.Lead p.parsers.0) (T.Form p.parsers.4) (T.Lead p.parsers.4) ×
+        AreApart I.model (Q.grammar (Q.state p.parsers.1)) (Q.Lead p.parsers.1) (T.Form p.parsers.4) (T.Lead p.parsers.4) ×
+        AreApart I.model (R.grammar (R.state p.parsers.2)) (R.Lead p.parsers.2) (T.Form p.parsers.4) (T.Lead p.parsers.4) ×
+        AreApart I.model (S.grammar (S.state p.parsers.3)) (S.Lead p.parsers.3) (T.Form p.parsers.4) (T.Lead p.parsers.4)) ×
+        (AreApart I.model (P.grammar (P.state p.parsers.0)) (P.Lead p.parsers.0) (U.Form p.parsers.5) (U.Lead p.parsers.5) ×
+        AreApart I.model (Q.grammar (Q.state p.parsers.1)) (Q.Lead p.parsers.1) (U.Form p.parsers.5) (U.Lead p.parsers.5) ×
+        AreApart I.model (R.grammar (R.state p.parsers.2)) (R.Lead p.parsers.2) (U.Form p.parsers.5) (U.Lead p.parsers.5) ×
+        AreApart I.model (S.grammar (S.state p.parsers.3)) (S.Lead p.parsers.3) (U.Form p.parsers.5) (U.Lead p.parsers.5) ×
+        AreApart I.model (T.grammar (T.state p.parsers.4)) (T.Lead p.parsers.4) (U.Form p.parsers.5) (U.Lead p.parsers.5)) ×
+        (AreApart I.model (P.grammar (P.state p.parsers.0)) (P.Lead p.parsers.0) (V.Form p.parsers.6) (V.Lead p.parsers.6) ×
+        AreApart I.model (Q.grammar (Q.state p.parsers.1)) (Q.Lead p.parsers.1) (V.Form p.parsers.6) (V.Lead p.parsers.6) ×
+        AreApart I.model (R.grammar (R.state p.parsers.2)) (R.Lead p.parsers.2) (V.Form p.parsers.6) (V.Lead p.parsers.6) ×
+        AreApart I.model (S.grammar (S.state p.parsers.3)) (S.Lead p.parsers.3) (V.Form p.parsers.6) (V.Lead p.parsers.6) ×
+        AreApart I.model (T.grammar (T.state p.parsers.4)) (T.Lead p.parsers.4) (V.Form p.parsers.6) (V.Lead p.parsers.6) ×
+        AreApart I.model (U.grammar (U.state p.parsers.5)) (U.Lead p.parsers.5) (V.Form p.parsers.6) (V.Lead p.parsers.6)) ×
+        (AreApart I.model (P.grammar (P.state p.parsers.0)) (P.Lead p.parsers.0) (W.Form p.parsers.7) (W.Lead p.parsers.7) ×
+        AreApart I.model (Q.grammar (Q.state p.parsers.1)) (Q.Lead p.parsers.1) (W.Form p.parsers.7) (W.Lead p.parsers.7) ×
+        AreApart I.model (R.grammar (R.state p.parsers.2)) (R.Lead p.parsers.2) (W.Form p.parsers.7) (W.Lead p.parsers.7) ×
+        AreApart I.model (S.grammar (S.state p.parsers.3)) (S.Lead p.parsers.3) (W.Form p.parsers.7) (W.Lead p.parsers.7) ×
+        AreApart I.model (T.grammar (T.state p.parsers.4)) (T.Lead p.parsers.4) (W.Form p.parsers.7) (W.Lead p.parsers.7) ×
+        AreApart I.model (U.grammar (U.state p.parsers.5)) (U.Lead p.parsers.5) (W.Form p.parsers.7) (W.Lead p.parsers.7) ×
+        AreApart I.model (V.grammar (V.state p.parsers.6)) (V.Lead p.parsers.6) (W.Form p.parsers.7) (W.Lead p.parsers.7)) };
+
+    ghost Lead = { λ p. either_lead (either_lead (either_lead (either_lead (either_lead (either_lead (either_lead (P.Lead p.parsers.0) (Q.Lead
+        p.parsers.1)) (R.Lead p.parsers.2)) (S.Lead p.parsers.3)) (T.Lead p.parsers.4)) (U.Lead p.parsers.5)) (V.Lead p.parsers.6)) (W.Lead p.parsers.7) };
 
     #[inline]
     fn write<X: Sink>(&self, value: &P::Output, out: &mut X) -> Result<(), WriteError> {
@@ -453,13 +532,34 @@ impl<
 
     ghost reads = { λ p k c. alt_reads P.Error.errors (either_regrouped (either_regrouped (either_regrouped (either_regrouped (either_regrouped
         (either_regrouped (either_reads P.Error.errors (either_apart P.Error.errors (either_apart P.Error.errors (either_apart P.Error.errors
-        (either_apart P.Error.errors (either_apart P.Error.errors (either_apart P.Error.errors c.7.0 c.7.1) c.7.2) c.7.3) c.7.4) c.7.5) c.7.6)
+        (either_apart P.Error.errors (either_apart P.Error.errors (either_apart P.Error.errors (differ_apart (P.leads p.parsers.0) (W.leads
+        p.parsers.7) c.7.0) (differ_apart (Q.leads p.parsers.1) (W.leads p.parsers.7) c.7.1)) (differ_apart (R.leads p.parsers.2) (W.leads
+        p.parsers.7) c.7.2)) (differ_apart (S.leads p.parsers.3) (W.leads p.parsers.7) c.7.3)) (differ_apart (T.leads p.parsers.4) (W.leads
+        p.parsers.7) c.7.4)) (differ_apart (U.leads p.parsers.5) (W.leads p.parsers.7) c.7.5)) (differ_apart (V.leads p.parsers.6) (W.leads
+        p.parsers.7) c.7.6))
         (either_reads P.Error.errors (either_apart P.Error.errors (either_apart P.Error.errors (either_apart P.Error.errors (either_apart
-        P.Error.errors (either_apart P.Error.errors c.6.0 c.6.1) c.6.2) c.6.3) c.6.4) c.6.5) (either_reads P.Error.errors (either_apart P.Error.errors
-        (either_apart P.Error.errors (either_apart P.Error.errors (either_apart P.Error.errors c.5.0 c.5.1) c.5.2) c.5.3) c.5.4) (either_reads
-        P.Error.errors (either_apart P.Error.errors (either_apart P.Error.errors (either_apart P.Error.errors c.4.0 c.4.1) c.4.2) c.4.3) (either_reads
-        P.Error.errors (either_apart P.Error.errors (either_apart P.Error.errors c.3.0 c.3.1) c.3.2) (either_reads P.Error.errors (either_apart
-        P.Error.errors c.2.0 c.2.1) (either_reads P.Error.errors c.1 (P.reads p.parsers.0 k.0.0.0.0.0.0.0 c.0.0) (Q.reads p.parsers.1 k.0.0.0.0.0.0.1
+        P.Error.errors (either_apart P.Error.errors (differ_apart (P.leads p.parsers.0) (V.leads p.parsers.6) c.6.0) (differ_apart (Q.leads
+        p.parsers.1) (V.leads p.parsers.6) c.6.1)) (differ_apart (R.leads p.parsers.2) (V.leads p.parsers.6) c.6.2)) (differ_apart (S.leads
+        p.parsers.3) (V.leads p.parsers.6) c.6.3)) (differ_apart (T.leads p.parsers.4) (V.leads p.parsers.6) c.6.4)) (differ_apart (U.leads
+        p.parsers.5) (V.leads p.parsers.6) c.6.5)) (either_reads P.Error.errors (either_apart P.Error.errors
+        (either_apart P.Error.errors (either_apart P.Error.errors (either_apart P.Error.errors (differ_apart (P.leads p.parsers.0) (U.leads
+        p.parsers.5) c.5.0) (differ_apart (Q.leads p.parsers.1) (U.leads p.parsers.5) c.5.1)) (differ_apart (R.leads p.parsers.2) (U.leads
+        p.parsers.5) c.5.2)) (differ_apart (S.leads p.parsers.3) (U.leads p.parsers.5) c.5.3)) (differ_apart (T.leads p.parsers.4) (U.leads
+        p.parsers.5) c.5.4)) (either_reads
+        P.Error.errors (either_apart P.Error.errors (either_apart P.Error.errors (either_apart P.Error.errors (differ_apart (P.leads p.parsers.0)
+        (T.leads p.parsers.4) c.4.0) (differ_apart (Q.leads p.parsers.1) (T.leads p.parsers.4) c.4.1)) (differ_apart (R.leads p.parsers.2) (T.leads
+        p.parsers.4) c.4.2)) (differ_apart (S.leads p.parsers.3) (T.leads p.parsers.4) c.4.3)) (either_reads
+        P.Error.errors (either_apart P.Error.errors (either_apart P.Error.errors (differ_apart (P.leads p.parsers.0) (S.leads p.parsers.3) c.3.0)
+        (differ_apart (Q.leads p.parsers.1) (S.leads p.parsers.3) c.3.1)) (differ_apart (R.leads p.parsers.2) (S.leads p.parsers.3) c.3.2))
+        (either_reads P.Error.errors (either_apart
+        P.Error.errors (differ_apart (P.leads p.parsers.0) (R.leads p.parsers.2) c.2.0) (differ_apart (Q.leads p.parsers.1) (R.leads p.parsers.2)
+        c.2.1)) (either_reads P.Error.errors (differ_apart (P.leads p.parsers.0) (Q.leads p.parsers.1) c.1) (P.reads p.parsers.0 k.0.0.0.0.0.0.0
+        c.0.0) (Q.reads p.parsers.1 k.0.0.0.0.0.0.1
         c.0.1)) (R.reads p.parsers.2 k.0.0.0.0.0.1 c.0.2)) (S.reads p.parsers.3 k.0.0.0.0.1 c.0.3)) (T.reads p.parsers.4 k.0.0.0.1 c.0.4)) (U.reads
         p.parsers.5 k.0.0.1 c.0.5)) (V.reads p.parsers.6 k.0.1 c.0.6)) (W.reads p.parsers.7 k.1 c.0.7)))))))) };
+
+    ghost leads = { λ p. alt_leads (leads_regrouped (leads_regrouped (leads_regrouped (leads_regrouped (leads_regrouped (leads_regrouped
+        (either_leads P.Error.errors (either_leads P.Error.errors (either_leads P.Error.errors (either_leads P.Error.errors (either_leads
+        P.Error.errors (either_leads P.Error.errors (either_leads P.Error.errors (P.leads p.parsers.0) (Q.leads p.parsers.1)) (R.leads p.parsers.2))
+        (S.leads p.parsers.3)) (T.leads p.parsers.4)) (U.leads p.parsers.5)) (V.leads p.parsers.6)) (W.leads p.parsers.7)))))))) P.Error.errors };
 }

@@ -1,5 +1,6 @@
 //! What stands after a length.
 ghost use Rattle.std.specs.Prelude.{◌≡◌, ◌<◌, ◌≤◌, ℕ, false, List, MatchOption, length};
+ghost use Rattle.nom_write.specs.laws.LeadLaws.{no_lead};
 ghost use Rattle.nom_write.specs.Lists.{Each, EachFail, ItemFails, ItemForm};
 ghost use Rattle.nom_write.specs.Parts.{Both, BothFail};
 ghost use Rattle.nom_write.specs.Reads.{Holds};
@@ -144,6 +145,8 @@ impl<I: ByteInput, F: Writer<I, Output: OfSize> + Drop> Writer<I> for LengthData
     }
 
     ghost reads = { λ p k c. length_data_reads I.lawful F.Error.errors F.Output.size k.1.1 c.1 (F.reads p.parser k.0 c.0) I.lack I.one_mark };
+
+    ghost leads = { λ p. no_lead };
 }
 
 /// The number of the values, and each of them.
@@ -176,4 +179,6 @@ impl<
 
     ghost reads = { λ p k c. length_count_reads I.lawful F.Error.errors F.Output.size k.1.1 c.1 (F.reads p.length k.0 c.0.0) c.2
         (G.reads p.parser k.1.0 c.0.1) };
+
+    ghost leads = { λ p. no_lead };
 }

@@ -3,17 +3,22 @@
 
 pub mod bytes;
 pub mod choice;
+pub mod decimal;
 pub mod error;
 pub mod length;
 pub mod list;
 pub mod map;
 pub mod number;
+pub mod outputs;
 mod piece;
 pub mod promises;
+pub mod runs;
+pub mod separated;
 pub mod sequence;
 pub mod sink;
 pub mod tuple;
 pub mod verdict;
+pub mod whole;
 pub mod writer;
 
 pub use crate::error::WriteError;

@@ -1,5 +1,6 @@
 //! Lists.
 ghost use Rattle.std.specs.Prelude.{◌≡◌, ◌≤◌, ◌⊎◌, ℕ, true, false, List, length};
+ghost use Rattle.nom_write.specs.laws.LeadLaws.{no_lead};
 ghost use Rattle.nom_write.specs.Lists.{Each, EachFail, ItemFails, ItemForm};
 ghost use Rattle.nom_write.specs.Reads.{NoItem};
 ghost use Rattle.nom_write.specs.Written.{Space, Written};
@@ -105,6 +106,8 @@ impl<I: Input<Item = u8>, M: Allocator + Copy, G: Writer<I> + Drop> Writer<I> fo
     }
 
     ghost reads = { λ p k c. many0_reads I.lawful G.Error.errors c.1 (G.reads p.parser k c.0) };
+
+    ghost leads = { λ p. no_lead };
 }
 
 /// Each of the values, if they are as many as the count says; else they are a mismatch.
@@ -129,4 +132,6 @@ impl<I: Items<Item = u8>, M: Allocator + Copy, G: Writer<I> + Drop> Writer<I> fo
     }
 
     ghost reads = { λ p k c. count_reads I.lawful G.Error.errors c.1 (G.reads p.parser k c.0) p.count };
+
+    ghost leads = { λ p. no_lead };
 }

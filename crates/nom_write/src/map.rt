@@ -1,5 +1,6 @@
 //! Maps, with a map back.
 ghost use Rattle.std.specs.Prelude.{◌≡◌, ◌⊎◌, Some, None};
+ghost use Rattle.nom_write.specs.laws.LeadLaws.{map_leads};
 ghost use Rattle.nom_write.specs.declared.error.WriteError.{WriteError};
 ghost use Rattle.std.specs.Borrow.{Bor};
 ghost use Rattle.std.specs.Fn.{FnReturnsAt};
@@ -97,6 +98,8 @@ impl<
     ghost CanWrite = { λ p. F.CanWrite p.map.parser × ((v : O) (r : Bor O) → r.now ≡ v → H.pre p.back r) ×
         ((v : O) (x : F.Output) → FnReturnsAt H.Fn p.back v (Some x) → G.post p.map.map x v) };
 
+    ghost Lead = { λ p. F.Lead p.map.parser };
+
     #[inline]
     fn write<S: Sink>(&self, value: &O, out: &mut S) -> Result<(), WriteError> {
         match mapped_back(&self.back, value) {
@@ -105,5 +108,8 @@ impl<
         }
     }
 
-    ghost reads = { λ p k c. map_back_reads (G.pre p.map.map) (G.post p.map.map) (λ v x. FnReturnsAt H.Fn p.back v (Some x)) c.2 (F.reads p.map.parser k c.0) };
+    ghost reads = { λ p k c. map_back_reads (G.pre p.map.map) (G.post p.map.map) (λ v x. FnReturnsAt H.Fn p.back v (Some x)) c.2 (F.reads
+        p.map.parser k c.0) };
+
+    ghost leads = { λ p. map_leads (F.leads p.map.parser) };
 }

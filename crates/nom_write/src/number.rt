@@ -1,6 +1,7 @@
 //! Binary integers.
 ghost use Rattle.std.specs.Prelude.{◌≡◌, ◌<◌, ◌≤◌, ◌*◌, ◌^◌, ◌⊎◌, ◌<ℤ◌, neg_ℤ, pos, ◌∷◌, [], MatchOption, length};
 ghost use Rattle.nom_number.specs.Numbers.{binary_number};
+ghost use Rattle.nom_write.specs.laws.LeadLaws.{no_lead};
 ghost use Rattle.nom_write.specs.Digits.{AreBytesOf};
 ghost use Rattle.nom_write.specs.Written.{LacksRoom, Written};
 ghost use Rattle.nom_write.specs.laws.LeafReads.{byte_reads, binary_reads};
@@ -24,6 +25,8 @@ impl<I: Input<Item = u8>, E: ParseError<I>> Writer<I> for BeU8<I, E> {
     }
 
     ghost reads = { λ p k c. byte_reads I.model E.errors };
+
+    ghost leads = { λ p. no_lead };
 }
 
 /// A layout whose numbers can be written.
@@ -213,4 +216,6 @@ impl<F: ToBits, I: Input<Item = u8>, E: ParseError<I>> Writer<I> for Binary<F, I
     }
 
     ghost reads = { λ p k c. binary_reads I.model E.errors F.of_bits p.endian F.BYTES };
+
+    ghost leads = { λ p. no_lead };
 }

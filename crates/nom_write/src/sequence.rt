@@ -1,5 +1,7 @@
 //! Parts in sequence.
 ghost use Rattle.std.specs.Prelude.{◌≡◌, ℕ, List, ◌++◌, length};
+ghost use Rattle.nom_write.specs.Leads.{lead_of};
+ghost use Rattle.nom_write.specs.laws.LeadLaws.{both_leads, pair_leads, preceded_leads, terminated_leads};
 ghost use Rattle.nom_write.specs.Written.{LacksRoom};
 ghost use Rattle.nom_write.specs.Parts.{Both, BothFail, Meets};
 ghost use Rattle.nom_write.specs.laws.SequenceReads.{pair_reads, preceded_reads, terminated_reads};
@@ -24,6 +26,8 @@ impl<I: Items<Item = u8>, F: Writer<I> + Drop, G: Writer<I, Error = F::Error> + 
     ghost CanWrite = { λ p. F.CanWrite p.first × G.CanWrite p.second × Meets (F.MayFollow p.first) (λ ys. (b : G.Output) × G.Form p.second b ys)
         (G.MayFollow p.second) };
 
+    ghost Lead = { λ p. F.Lead p.first };
+
     #[inline]
     fn write<S: Sink>(
         &self,
@@ -38,6 +42,8 @@ impl<I: Items<Item = u8>, F: Writer<I> + Drop, G: Writer<I, Error = F::Error> + 
     }
 
     ghost reads = { λ p k c. pair_reads I.lawful c.2 (F.reads p.first k.0 c.0) (G.reads p.second k.1 c.1) };
+
+    ghost leads = { λ p. both_leads (pair_leads (F.leads p.first) (G.grammar (G.state p.second))) };
 }
 
 impl<I: Items<Item = u8>, F: Constant<I> + Drop, G: Writer<I, Error = F::Error> + Drop> Writer<I>
@@ -50,6 +56,8 @@ impl<I: Items<Item = u8>, F: Constant<I> + Drop, G: Writer<I, Error = F::Error> 
 
     ghost CanWrite = { λ p. G.CanWrite p.second };
 
+    ghost Lead = { λ p. lead_of (F.bytes p.first) };
+
     #[inline]
     fn write<S: Sink>(&self, value: &G::Output, out: &mut S) -> Result<(), WriteError> {
         InTurn(
@@ -60,6 +68,8 @@ impl<I: Items<Item = u8>, F: Constant<I> + Drop, G: Writer<I, Error = F::Error> 
     }
 
     ghost reads = { λ p k c. preceded_reads I.lawful (F.accepts p.first k.0) (G.reads p.second k.1 c) };
+
+    ghost leads = { λ p. preceded_leads (F.grammar (F.state p.first)) (F.bytes p.first) (F.others p.first) };
 }
 
 impl<I: Items<Item = u8>, F: Writer<I> + Drop, G: Constant<I, Error = F::Error> + Drop> Writer<I>
@@ -69,6 +79,8 @@ impl<I: Items<Item = u8>, F: Writer<I> + Drop, G: Constant<I, Error = F::Error> 
     ghost Fails = { λ p v. BothFail (F.Form p.first v) (F.Fails p.first v) (LacksRoom (length (G.bytes p.second))) };
 
     ghost CanWrite = { λ p. F.CanWrite p.first × ((rest : List ℕ) → F.MayFollow p.first (G.bytes p.second ++ rest)) };
+
+    ghost Lead = { λ p. F.Lead p.first };
 
     #[inline]
     fn write<S: Sink>(&self, value: &F::Output, out: &mut S) -> Result<(), WriteError> {
@@ -80,4 +92,6 @@ impl<I: Items<Item = u8>, F: Writer<I> + Drop, G: Constant<I, Error = F::Error> 
     }
 
     ghost reads = { λ p k c. terminated_reads I.lawful c.1 (F.reads p.first k.0 c.0) (G.accepts p.second k.1) };
+
+    ghost leads = { λ p. both_leads (terminated_leads (F.leads p.first) (G.grammar (G.state p.second))) };
 }

@@ -1,4 +1,5 @@
 //! Tuples of two to eight members, in sequence. A form of a tuple is one of its first member, and then one of the others.
+ghost use Rattle.nom_write.specs.laws.LeadLaws.{both_leads, pair_leads, tuple_leads};
 ghost use Rattle.nom_write.specs.Parts.{Both, BothFail, Meets};
 ghost use Rattle.nom_write.specs.laws.SequenceReads.{pair_reads, regrouped, tuple_reads};
 
@@ -19,6 +20,8 @@ impl<I: Items<Item = u8>, P: Writer<I>, Q: Writer<I, Error = P::Error>> Writer<I
     ghost CanWrite = { λ p. (P.CanWrite p.0 × Q.CanWrite p.1) ×
         Meets (P.MayFollow p.0) (λ ys. (b : Q.Output) × Q.Form p.1 b ys) (Q.MayFollow p.1) };
 
+    ghost Lead = { λ p. P.Lead p.0 };
+
     #[inline]
     fn write<X: Sink>(
         &self,
@@ -33,6 +36,8 @@ impl<I: Items<Item = u8>, P: Writer<I>, Q: Writer<I, Error = P::Error>> Writer<I
     }
 
     ghost reads = { λ p k c. tuple_reads (λ o. (o.0, o.1)) (pair_reads I.lawful c.1 (P.reads p.0 k.0 c.0.0) (Q.reads p.1 k.1 c.0.1)) };
+
+    ghost leads = { λ p. both_leads (tuple_leads (pair_leads (P.leads p.0) (Q.grammar (Q.state p.1))) (λ o. (o.0, o.1))) };
 }
 
 impl<
@@ -50,6 +55,8 @@ impl<
     ghost CanWrite = { λ p. (P.CanWrite p.0 × Q.CanWrite p.1 × R.CanWrite p.2) ×
         Meets (P.MayFollow p.0) (λ ys. (b : Q.Output) × Q.Form p.1 b ys) (Q.MayFollow p.1) ×
         Meets (Q.MayFollow p.1) (λ ys. (b : R.Output) × R.Form p.2 b ys) (R.MayFollow p.2) };
+
+    ghost Lead = { λ p. P.Lead p.0 };
 
     #[inline]
     fn write<X: Sink>(
@@ -69,6 +76,9 @@ impl<
 
     ghost reads = { λ p k c. tuple_reads (λ o. ((o.0, o.1), o.2)) (regrouped (pair_reads I.lawful c.2 (pair_reads I.lawful c.1 (P.reads p.0 k.0.0
         c.0.0) (Q.reads p.1 k.0.1 c.0.1)) (R.reads p.2 k.1 c.0.2))) };
+
+    ghost leads = { λ p. both_leads (tuple_leads (pair_leads (pair_leads (P.leads p.0) (Q.grammar (Q.state p.1))) (R.grammar (R.state p.2))) (λ o.
+        ((o.0, o.1), o.2))) };
 }
 
 impl<
@@ -89,6 +99,8 @@ impl<
         Meets (P.MayFollow p.0) (λ ys. (b : Q.Output) × Q.Form p.1 b ys) (Q.MayFollow p.1) ×
         Meets (Q.MayFollow p.1) (λ ys. (b : R.Output) × R.Form p.2 b ys) (R.MayFollow p.2) ×
         Meets (R.MayFollow p.2) (λ ys. (b : S.Output) × S.Form p.3 b ys) (S.MayFollow p.3) };
+
+    ghost Lead = { λ p. P.Lead p.0 };
 
     #[inline]
     fn write<X: Sink>(
@@ -111,6 +123,9 @@ impl<
 
     ghost reads = { λ p k c. tuple_reads (λ o. (((o.0, o.1), o.2), o.3)) (regrouped (regrouped (pair_reads I.lawful c.3 (pair_reads I.lawful c.2
         (pair_reads I.lawful c.1 (P.reads p.0 k.0.0.0 c.0.0) (Q.reads p.1 k.0.0.1 c.0.1)) (R.reads p.2 k.0.1 c.0.2)) (S.reads p.3 k.1 c.0.3)))) };
+
+    ghost leads = { λ p. both_leads (tuple_leads (pair_leads (pair_leads (pair_leads (P.leads p.0) (Q.grammar (Q.state p.1))) (R.grammar (R.state
+        p.2))) (S.grammar (S.state p.3))) (λ o. (((o.0, o.1), o.2), o.3))) };
 }
 
 impl<
@@ -133,6 +148,8 @@ impl<
         Meets (Q.MayFollow p.1) (λ ys. (b : R.Output) × R.Form p.2 b ys) (R.MayFollow p.2) ×
         Meets (R.MayFollow p.2) (λ ys. (b : S.Output) × S.Form p.3 b ys) (S.MayFollow p.3) ×
         Meets (S.MayFollow p.3) (λ ys. (b : T.Output) × T.Form p.4 b ys) (T.MayFollow p.4) };
+
+    ghost Lead = { λ p. P.Lead p.0 };
 
     #[inline]
     fn write<X: Sink>(
@@ -159,6 +176,9 @@ impl<
     ghost reads = { λ p k c. tuple_reads (λ o. ((((o.0, o.1), o.2), o.3), o.4)) (regrouped (regrouped (regrouped (pair_reads I.lawful c.4 (pair_reads
         I.lawful c.3 (pair_reads I.lawful c.2 (pair_reads I.lawful c.1 (P.reads p.0 k.0.0.0.0 c.0.0) (Q.reads p.1 k.0.0.0.1 c.0.1)) (R.reads p.2
         k.0.0.1 c.0.2)) (S.reads p.3 k.0.1 c.0.3)) (T.reads p.4 k.1 c.0.4))))) };
+
+    ghost leads = { λ p. both_leads (tuple_leads (pair_leads (pair_leads (pair_leads (pair_leads (P.leads p.0) (Q.grammar (Q.state p.1))) (R.grammar
+        (R.state p.2))) (S.grammar (S.state p.3))) (T.grammar (T.state p.4))) (λ o. ((((o.0, o.1), o.2), o.3), o.4))) };
 }
 
 impl<
@@ -184,6 +204,8 @@ impl<
         Meets (R.MayFollow p.2) (λ ys. (b : S.Output) × S.Form p.3 b ys) (S.MayFollow p.3) ×
         Meets (S.MayFollow p.3) (λ ys. (b : T.Output) × T.Form p.4 b ys) (T.MayFollow p.4) ×
         Meets (T.MayFollow p.4) (λ ys. (b : U.Output) × U.Form p.5 b ys) (U.MayFollow p.5) };
+
+    ghost Lead = { λ p. P.Lead p.0 };
 
     #[inline]
     fn write<X: Sink>(
@@ -221,6 +243,21 @@ impl<
         I.lawful c.5 (pair_reads I.lawful c.4 (pair_reads I.lawful c.3 (pair_reads I.lawful c.2 (pair_reads I.lawful c.1 (P.reads p.0 k.0.0.0.0.0
         c.0.0) (Q.reads p.1 k.0.0.0.0.1 c.0.1)) (R.reads p.2 k.0.0.0.1 c.0.2)) (S.reads p.3 k.0.0.1 c.0.3)) (T.reads p.4 k.0.1 c.0.4)) (U.reads p.5
         k.1 c.0.5)))))) };
+
+    ghost leads = { λ p. both_leads (tuple_leads (pair_leads (pair_leads (pair_leads (pair_leads (pair_leads (P.leads p.0) (Q.grammar (Q.state
+        p.1))) (R.grammar (R.state p.2))) (S.grammar (S.state p.3))) (T.grammar (T.state p.4))) (U.grammar (U.state p.5))) (λ o. (
+          (
+            (
+              (
+                (o.0, o.1),
+                o.2,
+              ),
+              o.3,
+            ),
+            o.4,
+          ),
+          o.5,
+        ))) };
 }
 
 impl<
@@ -249,6 +286,8 @@ impl<
         Meets (S.MayFollow p.3) (λ ys. (b : T.Output) × T.Form p.4 b ys) (T.MayFollow p.4) ×
         Meets (T.MayFollow p.4) (λ ys. (b : U.Output) × U.Form p.5 b ys) (U.MayFollow p.5) ×
         Meets (U.MayFollow p.5) (λ ys. (b : V.Output) × V.Form p.6 b ys) (V.MayFollow p.6) };
+
+    ghost Lead = { λ p. P.Lead p.0 };
 
     #[inline]
     fn write<X: Sink>(
@@ -290,6 +329,10 @@ impl<
         (pair_reads I.lawful c.6 (pair_reads I.lawful c.5 (pair_reads I.lawful c.4 (pair_reads I.lawful c.3 (pair_reads I.lawful c.2 (pair_reads
         I.lawful c.1 (P.reads p.0 k.0.0.0.0.0.0 c.0.0) (Q.reads p.1 k.0.0.0.0.0.1 c.0.1)) (R.reads p.2 k.0.0.0.0.1 c.0.2)) (S.reads p.3 k.0.0.0.1
         c.0.3)) (T.reads p.4 k.0.0.1 c.0.4)) (U.reads p.5 k.0.1 c.0.5)) (V.reads p.6 k.1 c.0.6))))))) };
+
+    ghost leads = { λ p. both_leads (tuple_leads (pair_leads (pair_leads (pair_leads (pair_leads (pair_leads (pair_leads (P.leads p.0) (Q.grammar
+        (Q.state p.1))) (R.grammar (R.state p.2))) (S.grammar (S.state p.3))) (T.grammar (T.state p.4))) (U.grammar (U.state p.5))) (V.grammar
+        (V.state p.6))) (λ o. ((((((o.0, o.1), o.2), o.3), o.4), o.5), o.6))) };
 }
 
 impl<
@@ -321,6 +364,8 @@ impl<
         Meets (T.MayFollow p.4) (λ ys. (b : U.Output) × U.Form p.5 b ys) (U.MayFollow p.5) ×
         Meets (U.MayFollow p.5) (λ ys. (b : V.Output) × V.Form p.6 b ys) (V.MayFollow p.6) ×
         Meets (V.MayFollow p.6) (λ ys. (b : W.Output) × W.Form p.7 b ys) (W.MayFollow p.7) };
+
+    ghost Lead = { λ p. P.Lead p.0 };
 
     #[inline]
     fn write<X: Sink>(
@@ -367,4 +412,8 @@ impl<
         c.3 (pair_reads I.lawful c.2 (pair_reads I.lawful c.1 (P.reads p.0 k.0.0.0.0.0.0.0 c.0.0) (Q.reads p.1 k.0.0.0.0.0.0.1 c.0.1)) (R.reads p.2
         k.0.0.0.0.0.1 c.0.2)) (S.reads p.3 k.0.0.0.0.1 c.0.3)) (T.reads p.4 k.0.0.0.1 c.0.4)) (U.reads p.5 k.0.0.1 c.0.5)) (V.reads p.6 k.0.1 c.0.6))
         (W.reads p.7 k.1 c.0.7)))))))) };
+
+    ghost leads = { λ p. both_leads (tuple_leads (pair_leads (pair_leads (pair_leads (pair_leads (pair_leads (pair_leads (pair_leads (P.leads p.0)
+        (Q.grammar (Q.state p.1))) (R.grammar (R.state p.2))) (S.grammar (S.state p.3))) (T.grammar (T.state p.4))) (U.grammar (U.state p.5)))
+        (V.grammar (V.state p.6))) (W.grammar (W.state p.7))) (λ o. (((((((o.0, o.1), o.2), o.3), o.4), o.5), o.6), o.7))) };
 }

@@ -1,4 +1,5 @@
 //! Options, refusals that are final, and errors with a name.
+ghost use Rattle.nom_write.specs.laws.LeadLaws.{context_leads, no_lead};
 ghost use Rattle.nom_write.specs.Options.{OptFails, OptForm};
 ghost use Rattle.nom_write.specs.Reads.{NoItem};
 ghost use Rattle.nom_write.specs.laws.ChoiceReads.{context_reads, cut_reads, opt_reads};
@@ -26,6 +27,8 @@ impl<I: Items<Item = u8>, F: Writer<I> + Drop> Writer<I> for Cut<F> {
     }
 
     ghost reads = { λ p k c. cut_reads (F.reads p.parser k c) };
+
+    ghost leads = { λ p. no_lead };
 }
 
 /// The value, or nothing. What follows begins with no item.
@@ -47,6 +50,8 @@ impl<I: Items<Item = u8>, F: Writer<I> + Drop> Writer<I> for Opt<F> {
     }
 
     ghost reads = { λ p k c. opt_reads (F.reads p.parser k c) };
+
+    ghost leads = { λ p. no_lead };
 }
 
 /// The part's: a name is a matter of errors alone.
@@ -62,10 +67,14 @@ where
 
     ghost CanWrite = { λ p. F.CanWrite p.parser };
 
+    ghost Lead = { λ p. F.Lead p.parser };
+
     #[inline(always)]
     fn write<S: Sink>(&self, value: &F::Output, out: &mut S) -> Result<(), WriteError> {
         self.parser.write(value, out)
     }
 
     ghost reads = { λ p k c. context_reads F.Error.contexts p.context.now (F.reads p.parser k c) };
+
+    ghost leads = { λ p. context_leads (F.leads p.parser) F.Error.contexts p.context.now };
 }

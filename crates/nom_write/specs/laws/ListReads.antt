@@ -20,7 +20,8 @@ use Rattle.nom_write.specs.laws.SequenceReads.{follows}
 -- Items of a grammar within limits. Of as many values as `total` says each form is an item that is taken, and after them the items end,
 -- where what follows is of a kind.
 module _ {I V O E : Type 0} (w : Model I ℕ) (l : InputLaws w) (g : Grammar I V O E) (limits : Limits) (Form : O → List ℕ → Type 0) (Follow : List ℕ → Type 0)
-    (all : (rest : List ℕ) → Follow rest) (reads : Reads w g Form Follow) (After : List ℕ → Type 0) (total : ℕ) (s : Bool)
+    (After : List ℕ → Type 0) (total : ℕ) (meets : (vs : List O) (xs rest : List ℕ) → length vs < total → Each Form vs xs → After rest → Follow (xs ++ rest)) (reads : Reads w g Form Follow)
+    (s : Bool)
     (runs : (k : ℕ) (i : I) → k < total → Replies limits.most (λ k. g.meaning.answers s) k i None → ⊥)
     (takes : (k : ℕ) (v : O) (xs : List ℕ) (t : V) → Form v xs → item_turn limits k (Some (Accept (items_len w.item_len xs) t)) ≡ Takes
     (items_len w.item_len xs) t)
@@ -29,15 +30,15 @@ module _ {I V O E : Type 0} (w : Model I ℕ) (l : InputLaws w) (g : Grammar I V
   abbrev Turns : ℕ → I → Turn V (Unit {0}) → Type 0
   Turns = TurnsBy limits.most (item_turn limits) (λ k. g.meaning.answers s)
 
-  item_taken : (v : O) (front rest : List ℕ) (k : ℕ) (i : I) (turn : Turn V (Unit {0})) → w.IsKnown i → w.elements i ≡ front ++ rest → Form v front →
-      k < total → Turns k i turn → (t : V) × (turn ≡ Takes (items_len w.item_len front) t) × g.IsOutput t v
-  item_taken v front rest k i turn known e p below r = of_reply r.reply r.replied r.fact
+  item_taken : (v : O) (front rest : List ℕ) (k : ℕ) (i : I) (turn : Turn V (Unit {0})) → w.IsKnown i → w.elements i ≡ front ++ rest → Follow rest →
+      Form v front → k < total → Turns k i turn → (t : V) × (turn ≡ Takes (items_len w.item_len front) t) × g.IsOutput t v
+  item_taken v front rest k i turn known e next p below r = of_reply r.reply r.replied r.fact
     where
       of_reply : (a : Option (Outcome V)) → Replies limits.most (λ k. g.meaning.answers s) k i a → turn ≡ item_turn limits k a →
           (t : V) × (turn ≡ Takes (items_len w.item_len front) t) × g.IsOutput t v
       of_reply None h f = absurd (runs k i below h)
       of_reply (Some o) h f =
-          let q = (reads.reads v front p s).read i rest o known e (all rest) h.1 in
+          let q = (reads.reads v front p s).read i rest o known e next h.1 in
           (q.0, f ∙ (ap (λ z. item_turn limits k (Some z)) q.1 ∙ takes k v front q.0 p), q.2)
 
   items_read : (vs : List O) (xs rest : List ℕ) (k : ℕ) (i : I) (ts : List V) (taken : ℕ) (ending : Outcome (Unit {0})) → w.IsKnown i →
@@ -55,11 +56,11 @@ module _ {I V O E : Type 0} (w : Model I ℕ) (l : InputLaws w) (g : Grammar I V
       absurd (cc (end))
   items_read (v ∷ vs) xs rest k i [] taken ending known e h after c p =
       let first = e ∙ (ap (λ zs. zs ++ rest) h.whole ∙ append_assoc h.front h.back rest) in
-      let q = item_taken v h.front (h.back ++ rest) k i (Ends ending) known first h.first (omega (arith, c)) p.1 in
+      let q = item_taken v h.front (h.back ++ rest) k i (Ends ending) known first (meets vs h.back rest (omega (arith, c)) h.second after) h.first (omega (arith, c)) p.1 in
       absurd (cc (q.1))
   items_read (v ∷ vs) xs rest k i (t ∷ ts) taken ending known e h after c p =
       let first = e ∙ (ap (λ zs. zs ++ rest) h.whole ∙ append_assoc h.front h.back rest) in
-      let q = item_taken v h.front (h.back ++ rest) k i (Takes p.0 t) known first h.first (omega (arith, c)) p.3 in
+      let q = item_taken v h.front (h.back ++ rest) k i (Takes p.0 t) known first (meets vs h.back rest (omega (arith, c)) h.second after) h.first (omega (arith, c)) p.3 in
       let turn : ◌≡◌ {A = Turn V (Unit {0})} (Takes p.0 t) (Takes (items_len w.item_len h.front) q.0) = q.1 in
       let size : p.0 ≡ items_len w.item_len h.front = cc (turn) in
       let tree : t ≡ q.0 = cc (turn) in
@@ -72,7 +73,7 @@ module _ {I V O E : Type 0} (w : Model I ℕ) (l : InputLaws w) (g : Grammar I V
         r.2,
       )
 
-  list_read : (errs : Errors I E) (vs : List O) (xs : List ℕ) → length vs ≡ total → Each Form vs xs →
+  pub list_read : (errs : Errors I E) (vs : List O) (xs : List ℕ) → length vs ≡ total → Each Form vs xs →
       ReadsBefore w ((items_meaning w errs limits (Unit {0}) g.meaning).answers s) (λ ts. AllZip g.IsOutput ts vs) After xs
   list_read errs vs xs count h = record {
     read = λ i rest o known e f a.
@@ -87,17 +88,17 @@ exactly_taken : {V : Type 0} (n k a : ℕ) (t : V) → item_turn (exact_limits n
 exactly_taken n k zero t = refl
 exactly_taken n k (suc a) t = refl
 
-some_taken : {V : Type 0} (kind : ErrorKind) (k a : ℕ) (t : V) → 0 < a → item_turn (any_limits kind) k (Some (Accept a t)) ≡ Takes a t
+pub some_taken : {V : Type 0} (kind : ErrorKind) (k a : ℕ) (t : V) → 0 < a → item_turn (any_limits kind) k (Some (Accept a t)) ≡ Takes a t
 some_taken kind k zero t h = absurd (omega (arith, h))
 some_taken kind k (suc a) t h = refl
 
 -- items that are there have a length
-some_len : {I : Type 0} (w : Model I ℕ) → InputLaws w → (xs : List ℕ) → 0 < length xs → 0 < items_len w.item_len xs
+pub some_len : {I : Type 0} (w : Model I ℕ) → InputLaws w → (xs : List ℕ) → 0 < length xs → 0 < items_len w.item_len xs
 some_len w l [] h = absurd (omega (arith, h))
 some_len w l (x ∷ xs) h = omega (arith, l.positive x)
 
 -- forms of items that are of a kind
-item_reads : {I V O E : Type 0} (w : Model I ℕ) (g : Grammar I V O E) (some : Bool) (Form : O → List ℕ → Type 0) (Follow : List ℕ → Type 0) →
+pub item_reads : {I V O E : Type 0} (w : Model I ℕ) (g : Grammar I V O E) (some : Bool) (Form : O → List ℕ → Type 0) (Follow : List ℕ → Type 0) →
     Reads w g Form Follow →
     Reads w g (ItemForm some Form) Follow
 item_reads w g some Form Follow p = record { reads = λ v xs f. p.reads v xs f.0 }
@@ -107,7 +108,8 @@ module _ {I V O E : Type 0} (w : Model I ℕ) (l : InputLaws w) (errs : Errors I
   -- just as many items as there are values
   pub exact_reads : (vs : List O) (xs : List ℕ) → Each (ItemForm false Form) vs xs →
       ReadsBefore w ((items_meaning w errs (exact_limits (length vs)) (Unit {0}) g.meaning).answers s) (λ ts. AllZip g.IsOutput ts vs) Anything xs
-  exact_reads vs xs h = list_read w l g (exact_limits (length vs)) (ItemForm false Form) Follow all (item_reads w g false Form Follow p) Anything (length vs) s
+  exact_reads vs xs h = list_read w l g (exact_limits (length vs)) (ItemForm false Form) Follow Anything (length vs) (λ us xs rest b h k. all (xs ++ rest))
+      (item_reads w g false Form Follow p) s
       (λ k i below none. none below) (λ k v xs t f. exactly_taken (length vs) k (items_len w.item_len xs) t) ends errs vs xs refl h
     where
       ends : (i : I) (rest : List ℕ) (turn : Turn V (Unit {0})) → w.IsKnown i → w.elements i ≡ rest → Anything rest →
@@ -122,8 +124,8 @@ module _ {I V O E : Type 0} (w : Model I ℕ) (l : InputLaws w) (errs : Errors I
   -- any number of items that aren't empty, before what begins with none
   any_items_reads : (kind : ErrorKind) (vs : List O) (xs : List ℕ) → Each (ItemForm true Form) vs xs →
       ReadsBefore w ((items_meaning w errs (any_limits kind) (Unit {0}) g.meaning).answers s) (λ ts. AllZip g.IsOutput ts vs) (NoItem w g.meaning) xs
-  any_items_reads kind vs xs h = list_read w l g (any_limits kind) (ItemForm true Form) Follow all (item_reads w g true Form Follow p)
-      (NoItem w g.meaning) (length vs) s
+  any_items_reads kind vs xs h = list_read w l g (any_limits kind) (ItemForm true Form) Follow (NoItem w g.meaning) (length vs) (λ us xs rest b h k. all (xs ++ rest))
+      (item_reads w g true Form Follow p) s
       (λ k i below none. none tt) (λ k v xs t f. some_taken kind k (items_len w.item_len xs) t (some_len w l xs (f.1 refl))) ends errs vs xs refl h
     where
       ends : (i : I) (rest : List ℕ) (turn : Turn V (Unit {0})) → w.IsKnown i → w.elements i ≡ rest → NoItem w g.meaning rest →

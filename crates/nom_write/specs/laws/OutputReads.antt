@@ -1,0 +1,55 @@
+-- What is read of values in the place of outputs, and of outputs that pass a test.
+use Rattle.std.specs.Prelude.{◌≡◌, ℕ, Bool, true, List, ◌++◌, Option}
+use Rattle.std.proofs.Common.{sym, ◌∙◌, ap, subst}
+use Rattle.nom_internal.specs.Prelude.{Accept, Errors, GivesFor, Grammar, IsJudge, Model, Passes, items_len, Judged, kept_if}
+use Rattle.nom_combinator.specs.Outputs.{GivesValue, value_by, verify_by}
+use Rattle.nom_write.specs.Leads.{Leads, RefusesOthers, lead_of}
+use Rattle.nom_write.specs.Reads.{Anything, Reads, ReadsSome}
+use Rattle.nom_write.specs.laws.LeadLaws.{case_refuses, fixed_leads}
+
+module _ {I V O R E : Type 0} {w : Model I ℕ} (g : Grammar I V O E) (value : R) (IsSure : Type 0) (IsClone : R → Type 0) (bytes : List ℕ) where
+  -- bytes that stand for a value
+  pub value_reads : ReadsSome w g bytes → Reads w (value_by value IsSure IsClone g) (λ v xs. IsClone v × (xs ≡ bytes)) Anything
+  value_reads p = record {
+    reads = λ v xs f s. record {
+      read = λ i rest o known e k a.
+          let q = (p.reads s).read i rest a.outcome known (e ∙ ap (λ z. z ++ rest) f.1) tt (subst (λ z. g.meaning.answers s z a.outcome) (sym a.at_is)
+          a.answered) in (
+            value,
+            subst (λ z. Passes (GivesValue value) z o) q.1 a.fact ∙ ap (λ n. Accept n value) (ap (λ z. items_len w.item_len z) (sym f.1)),
+            f.0,
+          );
+    };
+  }
+
+  pub value_leads : RefusesOthers w g.meaning (lead_of bytes) → Leads w (value_by value IsSure IsClone g) (λ v xs. IsClone v × (xs ≡ bytes)) (lead_of bytes)
+  value_leads p = fixed_leads bytes (λ v xs f. f.1) (case_refuses w g.meaning _ (lead_of bytes) (λ s i o a. (
+    a.outcome,
+    subst (λ z. g.meaning.answers s z a.outcome) (sym a.at_is) a.answered,
+    λ e. subst (λ z. Passes (GivesValue value) z o) e a.fact,
+  )) p)
+
+module _ {I V O E : Type 0} {w : Model I ℕ} (errs : Errors I E) {g : Grammar I V O E} (Takes : O → Type 0) (Says : O → Bool → Type 0)
+    {Form : O → List ℕ → Type 0} where
+  -- a form of a value that passes the test
+  pub verify_reads : IsJudge g.IsOutput Says (λ b. b) → {Follow : List ℕ → Type 0} → Reads w g Form Follow →
+      Reads w (verify_by errs Takes Says g) (λ v xs. Says v true × Form v xs) Follow
+  verify_reads judge {Follow} p = record {
+    reads = λ v xs f s. record {
+      read = λ i rest o known e k a.
+          let q = (p.reads v xs f.1 s).read i rest a.outcome known e k (subst (λ z. g.meaning.answers s z a.outcome) (sym a.at_is) a.answered) in
+          let n = items_len w.item_len xs in
+          let j = subst (λ z. Passes (Judged (GivesFor g.IsOutput Says) (λ b. b)) z o) q.1 a.fact in
+          (q.0, j.2 ∙ ap (λ b. kept_if b (Accept n q.0)) (sym (judge.fixed q.0 v j.1.output true j.0 q.2 j.1.is_output f.0 j.1.given)), (q.2, f.0));
+    };
+  }
+
+  pub verify_leads : {lead : Option (List ℕ)} → Leads w g Form lead → Leads w (verify_by errs Takes Says g) (λ v xs. Says v true × Form v xs) lead
+  verify_leads {lead} p = record {
+    begins = λ bs e v xs f. p.begins bs e v xs f.1;
+    others = case_refuses w g.meaning _ lead (λ s i o a. (
+      a.outcome,
+      subst (λ z. g.meaning.answers s z a.outcome) (sym a.at_is) a.answered,
+      λ e. subst (λ z. Passes (Judged (GivesFor g.IsOutput Says) (λ b. b)) z o) e a.fact,
+    )) p.others;
+  }

@@ -1,0 +1,81 @@
+//! Values in the place of outputs, and outputs that pass a test.
+ghost use Rattle.std.specs.Prelude.{◌≡◌, ◌⊎◌, true, false, length};
+ghost use Rattle.std.specs.Borrow.{Bor};
+ghost use Rattle.std.specs.Fn.{FnReturnsAt};
+ghost use Rattle.nom_write.specs.Leads.{lead_of};
+ghost use Rattle.nom_write.specs.Written.{LacksRoom};
+ghost use Rattle.nom_write.specs.declared.error.WriteError.{WriteError};
+ghost use Rattle.nom_write.specs.laws.OutputReads.{value_leads, value_reads, verify_leads, verify_reads};
+
+use crate::error::WriteError;
+use crate::sink::Sink;
+use crate::writer::{Constant, Writer};
+use nom_combinator::{Value, Verify};
+use nom_traits::input::Items;
+use nom_traits::view::Viewed;
+
+/// The part's bytes, for a value that is equal to the parser's; any other is a mismatch.
+impl<I: Items<Item = u8>, O: Clone + PartialEq + Viewed, F: Constant<I> + Drop> Writer<I>
+    for Value<O, F> {
+    ghost Form = { λ p v xs. O.is_clone p.value v × (xs ≡ F.bytes p.parser) };
+
+    ghost Fails = { λ p v s e. ((O.eq p.value v ≡ false) × (e ≡ WriteError.Mismatch s.start)) ⊎ LacksRoom (length (F.bytes p.parser)) s e };
+
+    ghost CanWrite = { λ p. (v : O) → O.eq p.value v ≡ true → O.is_clone p.value v };
+
+    ghost Lead = { λ p. lead_of (F.bytes p.parser) };
+
+    #[inline]
+    fn write<S: Sink>(&self, value: &O, out: &mut S) -> Result<(), WriteError> {
+        if self.value == *value {
+            self.parser.write_constant(out)
+        } else {
+            Err(WriteError::Mismatch(out.len()))
+        }
+    }
+
+    ghost reads = { λ p k c. value_reads (F.grammar (F.state p.parser)) p.value (O.is_infallible p.value) (O.is_clone p.value)
+        (F.bytes p.parser) (F.accepts p.parser k) };
+
+    ghost leads = { λ p. value_leads (F.grammar (F.state p.parser)) p.value (O.is_infallible p.value) (O.is_clone p.value)
+        (F.bytes p.parser) (F.others p.parser) };
+}
+
+/// Whether a value passes a test.
+#[inline(always)]
+fn passes<O, G: Fn(&O) -> bool>(test: &G, value: &O) -> bool
+    requires callable { (p : Bor O) → p.now ≡ value.now → G.pre test.now p }
+    ensures { FnReturnsAt G.Fn test.now value.now result }
+{
+    test(value)
+}
+
+/// The part's, for a value that passes the test; any other is a mismatch.
+impl<I: Items<Item = u8>, F: Writer<I> + Drop, G: Fn(&F::Output) -> bool> Writer<I>
+    for Verify<F, G> {
+    ghost Form = { λ p v xs. FnReturnsAt G.Fn p.test v true × F.Form p.parser v xs };
+
+    ghost Fails = { λ p v s e. (FnReturnsAt G.Fn p.test v false × (e ≡ WriteError.Mismatch s.start)) ⊎
+        (FnReturnsAt G.Fn p.test v true × F.Fails p.parser v s e) };
+
+    ghost MayFollow = { λ p. F.MayFollow p.parser };
+
+    ghost CanWrite = { λ p. F.CanWrite p.parser × ((v : F.Output) (r : Bor F.Output) → r.now ≡ v → G.pre p.test r) };
+
+    ghost Lead = { λ p. F.Lead p.parser };
+
+    #[inline]
+    fn write<S: Sink>(&self, value: &F::Output, out: &mut S) -> Result<(), WriteError> {
+        if passes(&self.test, value) {
+            self.parser.write(value, out)
+        } else {
+            Err(WriteError::Mismatch(out.len()))
+        }
+    }
+
+    ghost reads = { λ p k c. verify_reads F.Error.errors (λ o. (r : Bor F.Output) → r.now ≡ o → G.pre p.test r) (FnReturnsAt G.Fn p.test) k.1
+        (F.reads p.parser k.0 c.0) };
+
+    ghost leads = { λ p. verify_leads F.Error.errors (λ o. (r : Bor F.Output) → r.now ≡ o → G.pre p.test r) (FnReturnsAt G.Fn p.test)
+        (F.leads p.parser) };
+}

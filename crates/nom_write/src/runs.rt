@@ -1,0 +1,215 @@
+//! Runs of bytes that meet a test. What follows begins with a byte that doesn't meet it.
+ghost use Rattle.std.specs.Prelude.{◌≤◌, ◌<◌, None, Some, MatchBool};
+ghost use Rattle.nom_error.specs.declared.kind.ErrorKind.TheVariants as Kind;
+ghost use Rattle.nom_traits.specs.declared.character.AsciiClass.TheVariants as Class;
+ghost use Rattle.nom_bytes.specs.laws.RunLaws.{run_lawful};
+ghost use Rattle.nom_character.specs.ClassRuns.{IsOf, class_lawful, least_of, wanted_error, wanted_grows};
+ghost use Rattle.nom_write.specs.Runs.{BeginsOther, IsNoRun, IsRunForm, RunFails};
+ghost use Rattle.nom_write.specs.Written.{Written};
+ghost use Rattle.nom_write.specs.laws.LeadLaws.{no_lead};
+ghost use Rattle.nom_write.specs.laws.RunReads.{premised_reads, run_reads};
+ghost use Rattle.nom_traits.specs.declared.character.AsciiClass.{AsciiClass};
+
+use crate::error::WriteError;
+use crate::length::ByteInput;
+use crate::sink::Sink;
+use crate::writer::Writer;
+use nom_bytes::predicate::Predicate;
+use nom_bytes::{SplitPosition, SplitPosition1, TakeWhileMN};
+use nom_character::{ClassRun, Digit1};
+use nom_error::value::ParseError;
+use nom_traits::character::AsciiClass;
+use nom_traits::input::Input;
+
+/// Whether the bytes all meet a test, and are as many as are wanted.
+#[inline]
+fn is_run<I: ByteInput, P: Predicate<u8>>(
+    predicate: &P,
+    least: usize,
+    most: Option<usize>,
+    value: I,
+) -> bool
+    requires { P.Runs (P.state predicate.now) }
+    ensures { MatchBool result (IsRunForm I.model (P.answers (P.state predicate.now)) least most value (I.model.elements value))
+        (IsNoRun I.model (P.answers (P.state predicate.now)) least most value) }
+{
+    value.prove_known();
+    let count = value.as_bytes().len();
+    if count < least {
+        return false;
+    }
+    if let Some(most) = most {
+        if most < count {
+            return false;
+        }
+    }
+    match predicate.end(value) {
+        Some(_) => false,
+        None => true,
+    }
+}
+
+/// Adds bytes that all meet a test, if they are as many as are wanted; others are a mismatch. On an error `out` holds what it did.
+#[inline]
+fn write_run<I: ByteInput, P: Predicate<u8>, S: Sink>(
+    predicate: &P,
+    least: usize,
+    most: Option<usize>,
+    value: I,
+    out: &mut S,
+) -> Result<(), WriteError>
+    requires { P.Runs (P.state predicate.now) }
+    ensures written { Written (IsRunForm I.model (P.answers (P.state predicate.now)) least most value)
+        (RunFails I.model (P.answers (P.state predicate.now)) least most value) S.model out.old out.new result }
+    ensures room { S.model.room out.old ≤ S.model.room out.new }
+{
+    if is_run::<I, P>(predicate, least, most, value) {
+        out.add(value.as_bytes())
+    } else {
+        Err(WriteError::Mismatch(out.len()))
+    }
+}
+
+/// Bytes that all meet the test.
+impl<I: ByteInput, P: Predicate<u8>, E: ParseError<I>> Writer<I> for SplitPosition<P, I, E> {
+    ghost Form = { λ p. IsRunForm I.model (P.answers (P.state p.predicate)) 0 None };
+
+    ghost Fails = { λ p. RunFails I.model (P.answers (P.state p.predicate)) 0 None };
+
+    ghost MayFollow = { λ p. BeginsOther (P.answers (P.state p.predicate)) };
+
+    ghost CanWrite = { λ p. P.Runs (P.state p.predicate) };
+
+    #[inline]
+    fn write<S: Sink>(&self, value: &I, out: &mut S) -> Result<(), WriteError> {
+        write_run::<I, P, S>(&self.predicate, 0, None, *value, out)
+    }
+
+    ghost reads = { λ p k c. premised_reads (P.Runs (P.state p.predicate)) (P.IsSound (P.state p.predicate))
+        (run_reads I.model (P.answers (P.state p.predicate)) 0 None (λ _ _. ⊥) ⊥
+        (run_lawful I.model (λ b. b < 256) I.values (P.answers (P.state p.predicate)) (P.fixed (P.state p.predicate) k) None 0
+        (λ _ _. ⊥) ⊥) I.one_mark) };
+
+    ghost leads = { λ p. no_lead };
+}
+
+/// Bytes that all meet the test, one at least.
+impl<I: ByteInput, P: Predicate<u8>, E: ParseError<I>> Writer<I> for SplitPosition1<P, I, E> {
+    ghost Form = { λ p. IsRunForm I.model (P.answers (P.state p.predicate)) 1 None };
+
+    ghost Fails = { λ p. RunFails I.model (P.answers (P.state p.predicate)) 1 None };
+
+    ghost MayFollow = { λ p. BeginsOther (P.answers (P.state p.predicate)) };
+
+    ghost CanWrite = { λ p. P.Runs (P.state p.predicate) };
+
+    #[inline]
+    fn write<S: Sink>(&self, value: &I, out: &mut S) -> Result<(), WriteError> {
+        write_run::<I, P, S>(&self.predicate, 1, None, *value, out)
+    }
+
+    ghost reads = { λ p k c. premised_reads (P.Runs (P.state p.predicate)) (P.IsSound (P.state p.predicate))
+        (run_reads I.model (P.answers (P.state p.predicate)) 1 None (λ i. E.errors.of_kind i p.kind) E.errors.grows
+        (run_lawful I.model (λ b. b < 256) I.values (P.answers (P.state p.predicate)) (P.fixed (P.state p.predicate) k) None 1
+        (λ i. E.errors.of_kind i p.kind) E.errors.grows) I.one_mark) };
+
+    ghost leads = { λ p. no_lead };
+}
+
+/// Bytes that all meet the test, as many as the bounds say.
+impl<I: ByteInput, P: Predicate<u8>, E: ParseError<I>> Writer<I> for TakeWhileMN<P, I, E> {
+    ghost Form = { λ p. IsRunForm I.model (P.answers (P.state p.predicate)) p.m (Some p.n) };
+
+    ghost Fails = { λ p. RunFails I.model (P.answers (P.state p.predicate)) p.m (Some p.n) };
+
+    ghost MayFollow = { λ p. BeginsOther (P.answers (P.state p.predicate)) };
+
+    ghost CanWrite = { λ p. P.Runs (P.state p.predicate) };
+
+    #[inline]
+    fn write<S: Sink>(&self, value: &I, out: &mut S) -> Result<(), WriteError> {
+        write_run::<I, P, S>(&self.predicate, self.m, Some(self.n), *value, out)
+    }
+
+    ghost reads = { λ p k c. premised_reads (P.Runs (P.state p.predicate)) (P.IsSound (P.state p.predicate))
+        (run_reads I.model (P.answers (P.state p.predicate)) p.m (Some p.n) (λ i. E.errors.of_kind i Kind.TakeWhileMN) E.errors.grows
+        (run_lawful I.model (λ b. b < 256) I.values (P.answers (P.state p.predicate)) (P.fixed (P.state p.predicate) k) (Some p.n) p.m
+        (λ i. E.errors.of_kind i Kind.TakeWhileMN) E.errors.grows) I.one_mark) };
+
+    ghost leads = { λ p. no_lead };
+}
+
+/// The bytes of a class.
+#[derive(Drop)]
+struct OfClass {
+    class: AsciiClass,
+}
+
+impl Predicate<u8> for OfClass {
+    ghost State = { AsciiClass };
+
+    ghost state = { λ p. p.class };
+
+    ghost answers = { IsOf (λ x. x) };
+
+    ghost Runs = { λ _. Unit {0} };
+
+    ghost IsSound = { λ _. Unit {0} };
+
+    #[inline(always)]
+    fn meets(&self, item: u8) -> bool {
+        self.class.has(item)
+    }
+
+    #[inline(always)]
+    fn end<I: Input<Item = u8>>(&self, input: I) -> Option<usize> {
+        input.position_outside(self.class)
+    }
+
+    ghost fixed = { λ class h x v meets fails. cc (meets, fails) };
+}
+
+/// Bytes of the class, one at least where the parser wants one.
+impl<I: ByteInput, E: ParseError<I>> Writer<I> for ClassRun<I, E> {
+    ghost Form = { λ p. IsRunForm I.model (IsOf (λ x. x) p.class) (least_of p.wanted) None };
+
+    ghost Fails = { λ p. RunFails I.model (IsOf (λ x. x) p.class) (least_of p.wanted) None };
+
+    ghost MayFollow = { λ p. BeginsOther (IsOf (λ x. x) p.class) };
+
+    #[inline]
+    fn write<S: Sink>(&self, value: &I, out: &mut S) -> Result<(), WriteError> {
+        let class = OfClass { class: self.class };
+        match self.wanted {
+            None => write_run::<I, OfClass, S>(&class, 0, None, *value, out),
+            Some(_) => write_run::<I, OfClass, S>(&class, 1, None, *value, out),
+        }
+    }
+
+    ghost reads = { λ p k c. run_reads I.model (IsOf (λ x. x) p.class) (least_of p.wanted) None (wanted_error E.errors p.wanted)
+        (wanted_grows E.errors p.wanted) (class_lawful I.model (λ b. b < 256) I.values (λ x. x) E.errors p.class p.wanted) I.one_mark };
+
+    ghost leads = { λ p. no_lead };
+}
+
+/// Decimal digits, one at least.
+impl<I: ByteInput, E: ParseError<I>> Writer<I> for Digit1<I, E> {
+    ghost Form = { λ p. IsRunForm I.model (IsOf (λ x. x) Class.Digit) 1 None };
+
+    ghost Fails = { λ p. RunFails I.model (IsOf (λ x. x) Class.Digit) 1 None };
+
+    ghost MayFollow = { λ p. BeginsOther (IsOf (λ x. x) Class.Digit) };
+
+    #[inline]
+    fn write<S: Sink>(&self, value: &I, out: &mut S) -> Result<(), WriteError> {
+        let class = OfClass {
+            class: AsciiClass::Digit,
+        };
+        write_run::<I, OfClass, S>(&class, 1, None, *value, out)
+    }
+
+    ghost reads = { λ p k c. run_reads I.model (IsOf (λ x. x) Class.Digit) 1 None (wanted_error E.errors (Some Kind.Digit))
+        (wanted_grows E.errors (Some Kind.Digit)) (class_lawful I.model (λ b. b < 256) I.values (λ x. x) E.errors Class.Digit (Some Kind.Digit)) I.one_mark };
+
+    ghost leads = { λ p. no_lead };
+}

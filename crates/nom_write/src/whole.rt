@@ -1,0 +1,30 @@
+//! What is read back of an input that is what was written, and no more.
+ghost use Rattle.std.specs.Prelude.{◌≡◌, ℕ, false, List, []};
+ghost use Rattle.nom_internal.specs.Prelude.{Parses};
+ghost use Rattle.nom_combinator.specs.Ends.{all_consuming_of};
+ghost use Rattle.nom_write.specs.Reads.{IsReadBack};
+
+use crate::writer::Writer;
+use nom_combinator::AllConsuming;
+use nom_error::answer::IResult;
+use nom_internal::parser::Parser;
+use nom_traits::input::Input;
+
+/// What one `parse_complete` of `all_consuming` answers on what was written of a value, where that may stand at the end: the value, as
+/// viewed, and nothing is left. It answers as `parse_complete` does.
+pub fn parse_whole_back<I: Input<Item = u8>, P: Writer<I> + Drop>(
+    parser: &mut AllConsuming<P>,
+    input: I,
+) -> IResult<I, P::Output, P::Error>
+    requires runs { (all_consuming_of I.model P.Error.errors (P.grammar (P.state parser.old.parser))).meaning.Runs }
+    requires sound { (P.grammar (P.state parser.old.parser)).meaning.IsSound }
+    requires can { P.CanWrite parser.old.parser }
+    ensures shown { Parses I.model (all_consuming_of I.model P.Error.errors (P.grammar (P.state parser.old.parser))) false input result }
+    ensures kept { P.state parser.new.parser ≡ P.state parser.old.parser }
+    ensures back { (v : P.Output) (xs : List ℕ) → P.Form parser.old.parser v xs → I.model.elements input ≡ xs → P.MayFollow parser.old.parser [] →
+        IsReadBack I.model P.Output.view (P.Pins parser.old.parser) (all_consuming_of I.model P.Error.errors
+        (P.grammar (P.state parser.old.parser))) v xs [] input result }
+{
+    input.prove_known();
+    parser.parse_complete(input)
+}
