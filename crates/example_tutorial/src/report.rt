@@ -1,9 +1,10 @@
 //! The same file, with errors for people.
 
-use crate::typed::{Entry, Value};
+use crate::typed::{Content, Entry};
 use nom::branch::alt;
+use nom::bytes::tag;
 use nom::character::{alpha1, char, line_ending, space0, u32};
-use nom::combinator::{eof, map};
+use nom::combinator::{eof, map, value};
 use nom::error::context;
 use nom::multi::many_till;
 use nom::sequence::delimited;
@@ -13,20 +14,22 @@ use std::alloc::Global;
 
 type Fault<'a> = Report<&'a str>;
 
-/// Parses a number or a word.
-fn number_or_word<'a>(input: &'a str) -> IResult<&'a str, Value<'a>, Fault<'a>> {
-    let number = map(u32(), |number| Value::Number(number));
-    let word = map(alpha1(), |word| Value::Word(word));
-    context("a value", alt((number, word))).parse_complete(input)
+/// Parses a number, `on` or `off`.
+fn number_or_switch<'a>(input: &'a str) -> IResult<&'a str, Content, Fault<'a>> {
+    let number = map(u32(), |number| Content::Number(number));
+    let on = value(Content::Switch(true), tag("on"));
+    let off = value(Content::Switch(false), tag("off"));
+    let switch = context("`on` or `off`", alt((on, off)));
+    alt((number, switch)).parse_complete(input)
 }
 
 /// Parses a line such as `port = 8080`.
 fn setting<'a>(input: &'a str) -> IResult<&'a str, Entry<'a>, Fault<'a>> {
     let (input, name) = context("a name", alpha1()).parse_complete(input)?;
     let (input, _) = delimited(space0(), char('='), space0()).parse_complete(input)?;
-    let (input, value) = number_or_word(input)?;
+    let (input, content) = number_or_switch(input)?;
     let (input, _) = line_ending().parse_complete(input)?;
-    Ok((input, Entry { name, value }))
+    Ok((input, Entry { name, content }))
 }
 
 /// Parses a whole file.
