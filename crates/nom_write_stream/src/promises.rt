@@ -1,0 +1,1 @@
+//! What items promise that are written to a pipe. The function does nothing: its contract is the promise.
