@@ -4,7 +4,7 @@ use Rattle.nom_internal.specs.Prelude.{AreValues}
 use Rattle.nom_write.specs.declared.error.WriteError.{WriteError}
 use Rattle.nom_write.specs.declared.error.WriteError.TheVariants as Write
 use Rattle.nom_write.specs.Written.{Space}
-use Rattle.nom_write_stream.specs.Outgoing.{FailsWith, IsItem, NoRoom, told_of}
+use Rattle.nom_write_stream.specs.Outgoing.{AreBytes, FailsWith, IsItem, NoRoom, told_of}
 
 values_after : (xs ys : List ℕ) → AreValues (λ b. b < 256) (xs ++ ys) → AreValues (λ b. b < 256) ys
 values_after [] ys h = h
@@ -26,14 +26,14 @@ module _ (Form : List ℕ → Type 0) (Fails : Space → WriteError → Type 0) 
   too_long over = inr (xs, form, omega (arith, over, longer, starts))
 
   -- there was
-  pub added_item : last ≤ most → (last ≡ start → ⊥) → AreValues (λ b. b < 256) new → (ys : List ℕ) × IsItem Form most ys × (new ≡ old ++ ys)
-  added_item within some values = (
+  pub added_item : last ≤ most → (last ≡ start → ⊥) → AreBytes new → (ys : List ℕ) × IsItem Form most ys × (new ≡ old ++ ys)
+  added_item within some known = (
     xs,
     record {
       form = form;
       some = omega (arith, longer, some);
       fits = omega (arith, longer, within);
-      values = values_after old xs (subst (AreValues (λ b. b < 256)) added values);
+      known = (values_after old xs (subst (AreValues (λ b. b < 256)) added known.0), omega (arith, known.1, ap length added, length-append old xs));
     },
     added,
   )
@@ -46,11 +46,11 @@ module _ (Form : List ℕ → Type 0) (Fails : Space → WriteError → Type 0) 
       none [] e = refl
       none (y ∷ ys) e = absurd (omega (arith, e))
 
--- the bytes of the buffer don't do
-pub no_room_now : (Form : List ℕ → Type 0) (Fails : Space → WriteError → Type 0) (most room start : ℕ) (e : WriteError) → told_of e start ≡ None →
+-- there is no room in the memory that is taken
+pub no_room_now : (Form : List ℕ → Type 0) (Fails : Space → WriteError → Type 0) (most room start from : ℕ) (e : WriteError) → told_of e from ≡ None →
     most ≤ room → Fails (record { lack = Write.Full; room = room; start = start }) e → NoRoom Form Fails most start
-no_room_now Form Fails most room start e none enough f = inl (record {
+no_room_now Form Fails most room start from e none enough f = inl (record {
   room = room;
   enough = enough;
-  fails = subst (Fails (record { lack = Write.Full; room = room; start = start })) (full e start none) f;
+  fails = subst (Fails (record { lack = Write.Full; room = room; start = start })) (full e from none) f;
 })

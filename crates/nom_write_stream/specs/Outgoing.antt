@@ -1,5 +1,5 @@
 -- What becomes of items: each is held or written, whole and in its turn.
-use Rattle.std.specs.Prelude.{◌≡◌, ℕ, ◌+◌, ◌-◌, ◌<◌, ◌≤◌, ◌⊎◌, Bool, true, false, List, [], ◌++◌, length, take, Option, Some, None, Result, Ok, Err}
+use Rattle.std.specs.Prelude.{◌≡◌, ℕ, ◌+◌, ◌-◌, ◌^◌, ◌<◌, ◌≤◌, ◌⊎◌, Bool, true, false, List, [], ◌++◌, length, take, Option, Some, None, Result, Ok, Err}
 use Rattle.std.specs.Prelude.{vec_capacity, get_or}
 use Rattle.std.specs.Io.KnownBytes.{Appends}
 use Rattle.std_io.specs.declared.io.error.Error.{Error}
@@ -23,12 +23,16 @@ pub record IsOpen {W A : Type 0} (o : Outgoing W A) : Type 0 where
   pub bounded : length (held_of o) ≤ o.most
   pub room : o.most ≤ vec_capacity o.held.bytes
 
+-- they are bytes, and not more than an input can have
+abbrev pub AreBytes : List ℕ → Type 0
+AreBytes xs = AreValues (λ b. b < 256) xs × (length xs < 2 ^ 63)
+
 -- a form of an item that can be sent: some bytes, and not more than may be held
 pub record IsItem (Form : List ℕ → Type 0) (most : ℕ) (xs : List ℕ) : Type 0 where
   pub form : Form xs
   pub some : 0 < length xs
   pub fits : length xs ≤ most
-  pub values : AreValues (λ b. b < 256) xs
+  pub known : AreBytes xs
 
 -- What was held, and then these bytes, is what was written and then what is held: nothing is lost, nothing comes twice.
 abbrev pub Sends : {W A : Type 0} → (W → Option (List ℕ)) → (a b : Outgoing W A) → (xs : List ℕ) → Type 0

@@ -1,5 +1,6 @@
-use Rattle.std.proofs.Common.{sym, ◌∙◌, arith}
+use Rattle.std.proofs.Common.{◌∙◌, length, arith, refl, subst, sym}
 use Rattle.nom_write.proofs.Lists.{undone}
+use Rattle.nom_write_stream.specs.Outgoing.{AreBytes}
 use Rattle.nom_write_stream.proofs.Adding.{added_item, no_room_now, too_long}
 use Rattle.nom_write_stream.proofs.outgoing.Outgoing.add.Goals as goal
 
@@ -22,9 +23,14 @@ returns-else-end-start-clause-added g c =
     let w = c.in-Ok.ensures.written in
     added_item (g.P.Writer.Form c.args.writer.now c.args.value.now) (g.P.Writer.Fails c.args.writer.now c.args.value.now) c.args.self.now.most
     c.len-start.result c.len-end.result old.items w.0 new.items (c.len-start.ensures ∙ old.ok.0) (c.len-end.ensures ∙ new.ok.0) w.1 w.2
-    ?
+    c.if-end-self.false c.if-end-start.false (subst AreBytes c.as_slice.ensures.value c.prove_known.ensures)
 
 pub returns-in-None-clause-added : goal.returns-in-None-clause-added
 returns-in-None-clause-added g c =
-    let w = c.in-Err.ensures.written in
-    ?
+    let old = c.args.self.now.held.bytes in
+    let w = c.in-Err.ensures.written in (
+      w.0,
+      no_room_now (g.P.Writer.Form c.args.writer.now c.args.value.now) (g.P.Writer.Fails c.args.writer.now c.args.value.now) c.args.self.now.most
+          w.1.0 (length old.items) c.len-start.result c.in-Err.error (sym c.why_of.ensures ∙ c.in-None.is)
+          (omega (arith, c.requires.open.room, w.1.1)) w.1.2,
+    )
