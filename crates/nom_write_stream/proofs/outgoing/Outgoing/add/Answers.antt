@@ -1,6 +1,6 @@
-use Rattle.std.proofs.Common.{◌∙◌, length, arith, refl, subst, sym}
+use Rattle.std.proofs.Common.{◌≡◌, ◌∙◌, None, length, arith, refl, subst, sym}
 use Rattle.nom_write.proofs.Lists.{undone}
-use Rattle.nom_write_stream.specs.Outgoing.{AreBytes}
+use Rattle.nom_write_stream.specs.Outgoing.{AreBytes, told_of}
 use Rattle.nom_write_stream.proofs.Adding.{added_item, no_room_now, too_long}
 use Rattle.nom_write_stream.proofs.outgoing.Outgoing.add.Goals as goal
 
@@ -28,9 +28,10 @@ returns-else-end-start-clause-added g c =
 pub returns-in-None-clause-added : goal.returns-in-None-clause-added
 returns-in-None-clause-added g c =
     let old = c.args.self.now.held.bytes in
+    let told : told_of c.in-Err.error c.len-start.result ≡ None = sym c.why_of.ensures ∙ c.in-None.is in
     let w = c.in-Err.ensures.written in (
       w.0,
       no_room_now (g.P.Writer.Form c.args.writer.now c.args.value.now) (g.P.Writer.Fails c.args.writer.now c.args.value.now) c.args.self.now.most
-          w.1.0 (length old.items) c.len-start.result c.in-Err.error (sym c.why_of.ensures ∙ c.in-None.is)
+          w.1.0 (length old.items) c.len-start.result c.in-Err.error told
           (omega (arith, c.requires.open.room, w.1.1)) w.1.2,
     )
