@@ -1,10 +1,11 @@
 -- One item is added to what is held.
-use Rattle.std.proofs.Common.{arith, ◌≡◌, ℕ, ◌+◌, ◌<◌, ◌≤◌, List, [], ◌∷◌, ◌++◌, length, None, refl, sym, ap, subst, ◌∙◌, inl, inr, length-append}
+use Rattle.std.proofs.Common.{arith, ◌≡◌, ℕ, ◌+◌, ◌<◌, ◌≤◌, List, [], ◌∷◌, ◌++◌, length, None, refl, ap, subst, inl, inr}
+use Rattle.std.proofs.Common.{length-append}
 use Rattle.nom_internal.specs.Prelude.{AreValues}
 use Rattle.nom_write.specs.declared.error.WriteError.{WriteError}
 use Rattle.nom_write.specs.declared.error.WriteError.TheVariants as Write
 use Rattle.nom_write.specs.Written.{Space}
-use Rattle.nom_write_stream.specs.Outgoing.{AreBytes, FailsWith, IsItem, NoRoom, told_of}
+use Rattle.nom_write_stream.specs.Outgoing.{AreBytes, IsItem, NoRoom, told_of}
 
 values_after : (xs ys : List ℕ) → AreValues (λ b. b < 256) (xs ++ ys) → AreValues (λ b. b < 256) ys
 values_after [] ys h = h
@@ -38,16 +39,9 @@ module _ (Form : List ℕ → Type 0) (Fails : Space → WriteError → Type 0) 
     added,
   )
 
-  -- it has no bytes
-  pub empty_item : last ≡ start → Form []
-  empty_item e = subst Form (none xs (omega (arith, e, longer))) form
-    where
-      none : (ys : List ℕ) → length ys ≡ 0 → ys ≡ []
-      none [] e = refl
-      none (y ∷ ys) e = absurd (omega (arith, e))
-
 -- there is no room in the memory that is taken
-pub no_room_now : (Form : List ℕ → Type 0) (Fails : Space → WriteError → Type 0) (most room start from : ℕ) (e : WriteError) → told_of e from ≡ None →
+pub no_room_now : (Form : List ℕ → Type 0) (Fails : Space → WriteError → Type 0) (most room start from : ℕ) (e : WriteError) →
+    told_of e from ≡ None →
     most ≤ room → Fails (record { lack = Write.Full; room = room; start = start }) e → NoRoom Form Fails most start
 no_room_now Form Fails most room start from e none enough f = inl (record {
   room = room;

@@ -1,9 +1,10 @@
 -- The outcome that a stream tells of what it holds.
-use Rattle.std.proofs.Common.{arith, ◌≡◌, ℕ, zero, suc, ◌+◌, ◌<◌, ◌⊎◌, true, List, ◌++◌, length, Option, Some, Ok, Err, refl, sym, ◌∙◌, ap, subst, inl, inr}
+use Rattle.std.proofs.Common.{arith, ◌≡◌, ℕ, zero, suc, ◌+◌, ◌<◌, ◌⊎◌, true, List, ◌++◌, length, Option, Some, Ok, sym, ◌∙◌}
+use Rattle.std.proofs.Common.{ap, subst, inl, inr}
 use Rattle.std.proofs.Common.{length-append}
 use Rattle.nom_error.specs.declared.kind.ErrorKind.{ErrorKind}
 use Rattle.nom_error.specs.declared.value.Error.{Error}
-use Rattle.nom_internal.specs.Prelude.{bytes_model, Grammar, IsSuffixOf, items_len-ones, Needed, Outcome, Accept, Refuse, Stop, Fails, Needs, Parses, ParseRanOut, Parsed}
+use Rattle.nom_internal.specs.Prelude.{bytes_model, Grammar, items_len-ones, Needed, Outcome, Accept, Refuse, Stop, Fails, Needs, Parses, ParseRanOut, Parsed}
 use Rattle.nom_stream.specs.declared.step.Taken.{Taken}
 use Rattle.nom_stream.specs.declared.step.Taken.TheVariants as Took
 use Rattle.nom_stream.specs.Items.{Answered, Bytes, IsUndecided, Takes, taken_of}
@@ -41,12 +42,16 @@ module _ {V O : Type 0} (g : Grammar Bytes V O (Error Bytes)) (x : Bytes) (new :
       let size = items_len-ones (h.2).front in
       let long : length (h.2).front ≡ n = sym size ∙ (h.2).length_is in
       let same : took.0 ≡ n = same_size took.0 n (h.2).front (h.0).now took.1 (h.2).whole long in
-      inl (Accept n v, a, (
-        h.1,
-        h.3,
-        took.3 ∙ ap (λ m. taken_of m h.1) same,
-        ((h.2).front, long, (h.2).whole ∙ ap (λ z. (h.2).front ++ z) (sym took.2)),
-      ))
+      inl (
+        Accept n v,
+        a,
+        (
+          h.1,
+          h.3,
+          took.3 ∙ ap (λ m. taken_of m h.1) same,
+          ((h.2).front, long, (h.2).whole ∙ ap (λ z. (h.2).front ++ z) (sym took.2)),
+        ),
+      )
   outcome r (Parsed Refuse a h) k =
       let took = subst (λ z. Items.Took x new z taken) h.2 k in
       inl (Refuse, a, ((h.0).code, length (h.0).input.now, took.1))

@@ -1,26 +1,23 @@
 -- What a stream answers where the bytes that no item had begin with a form of an item, and where there are none.
-use Rattle.std.proofs.Common.{arith, ◌≡◌, ℕ, zero, suc, ◌+◌, ◌<◌, ◌≤◌, ◌⊎◌, Bool, true, false, List, [], ◌∷◌, ◌++◌, length, Option, Some, None, Ok, Err, refl}
+use Rattle.std.proofs.Common.{arith, ◌≡◌, ℕ, ◌<◌, ◌⊎◌, true, List, [], ◌∷◌, ◌++◌, length, Option, Some, None, Ok, Err, refl}
 use Rattle.std.proofs.Common.{sym, ◌∙◌, ap, subst, append_assoc, append-nil, inl, inr, length-append}
-use Rattle.std.specs.Borrow.{Bor}
 use Rattle.std.specs.Io.KnownBytes.{Appends, Consumes, IsAtEnd}
 use Rattle.nom_error.specs.declared.value.Error.{Error}
-use Rattle.nom_internal.specs.Prelude.{AreValues, bytes_model, bytes_lawful, items_len, items_len-ones, Cause, Outright, TooLarge, Grammar, IsDecided, IsLawful, IsPinned, IsSteady}
-use Rattle.nom_internal.specs.Prelude.{NeverTooLarge, Outcome, Accept, Refuse, Stop, Fails, Needs, View, size_of, Needed}
+use Rattle.nom_internal.specs.Prelude.{bytes_model, items_len, items_len-ones, Cause, Outright, TooLarge, Grammar, IsDecided, IsLawful, IsPinned, IsSteady}
+use Rattle.nom_internal.specs.Prelude.{NeverTooLarge, Outcome, Accept, Refuse, Stop, Fails, Needs, View, Needed}
 use Rattle.nom_stream.specs.declared.step.Taken.{Taken}
-use Rattle.nom_stream.specs.declared.step.Taken.TheVariants as Took
 use Rattle.nom_stream.specs.declared.stream.Stop.TheVariants as Stopped
 use Rattle.nom_stream.specs.declared.stream.Stream.{Stream}
 use Rattle.nom_stream.specs.Held.{held_of}
-use Rattle.nom_stream.specs.Items.{Bytes, IsUndecided, Takes}
-use Rattle.nom_stream.specs.Streams.{Answers, Decides, Ends, Gives, Tells, Told}
+use Rattle.nom_stream.specs.Items.{Bytes, IsUndecided}
+use Rattle.nom_stream.specs.Streams.{Answers, Ends, Gives, Tells, Told}
 use Rattle.nom_stream.specs.Streams.Answers.{Decided, AtEnd, Full, Faulted, Lacking}
 use Rattle.nom_stream.specs.Streams.Ends.{Clean, Within, Completed}
 use Rattle.nom_stream.specs.Wholes.{Calls, HasLeft}
 use Rattle.nom_write_stream.proofs.Outcomes.{item_told, lacks, TellsOutcome, told}
 use Rattle.nom_write.specs.Lists.{Each}
-use Rattle.nom_write.specs.Reads.{IsTaken, Reads, ReadsBefore}
-use Rattle.nom_write_stream.specs.declared.outgoing.Outgoing.{Outgoing}
-use Rattle.nom_write_stream.specs.Outgoing.{held_of as not_written, IsItem, Sends}
+use Rattle.nom_write.specs.Reads.{IsTaken, Reads}
+use Rattle.nom_write_stream.specs.Outgoing.{IsItem}
 use Rattle.nom_write_stream.specs.Pipes.{HasOutcomes, ItemsOfPipe, TellsItems}
 
 -- one of two lists that are fronts of one is a front of the other
@@ -52,13 +49,18 @@ end_known : (a : Option (List ℕ)) (xs : List ℕ) → a ≡ Some xs → IsAtEn
 end_known None xs e h = absurd (cc (e))
 end_known (Some a) xs e h = let same : a ≡ xs = cc (e) in sym same ∙ h
 
-consumes_known : (a b : Option (List ℕ)) (xs given : List ℕ) → a ≡ Some xs → Consumes a b given → (ys : List ℕ) × (b ≡ Some ys) × (xs ≡ given ++ ys)
+no_front : (xs front rest : List ℕ) → 0 < length xs → [] ≡ front ++ rest → items_len (λ _. 1) front ≡ items_len (λ _. 1) xs → ⊥
+no_front xs front rest some e n = omega (arith, some, items_len-ones xs, items_len-ones front, n, ap length e, length-append front rest)
+
+consumes_known : (a b : Option (List ℕ)) (xs given : List ℕ) → a ≡ Some xs → Consumes a b given → (ys : List ℕ) × (b ≡ Some ys) ×
+    (xs ≡ given ++ ys)
 consumes_known None b xs given e h = absurd (cc (e))
 consumes_known (Some a) None xs given e h = absurd h
 consumes_known (Some a) (Some b) xs given e h = let same : a ≡ xs = cc (e) in (b, refl, sym same ∙ h)
 
 -- what was read is among the bytes that no item had, before and after
-left_read : {R A : Type 0} (left : R → Option (List ℕ)) (s u : Stream R A) (given xs : List ℕ) → Gives left s u given → HasLeft left s xs → HasLeft left u xs
+left_read : {R A : Type 0} (left : R → Option (List ℕ)) (s u : Stream R A) (given xs : List ℕ) → Gives left s u given → HasLeft left s xs →
+    HasLeft left u xs
 left_read left s u given xs g h =
     let c = consumes_known (left s.source.inner) (left u.source.inner) h.0 given h.1 g.consumed in
     (c.0, c.1, h.2 ∙ (ap (λ z. held_of s.held ++ z) c.2 ∙ (sym (append_assoc (held_of s.held) given c.0) ∙ ap (λ z. z ++ c.0) (sym g.added))))
@@ -111,12 +113,12 @@ module _ {V O : Type 0} (view : View O) (Pins : Type 0) (g : Grammar Bytes V O (
   module _ (v : O) (xs : List ℕ) (item : IsIt v xs) (x : Bytes) (known : bytes_model.IsKnown x) (none : x.now ≡ []) where
     undecided : (o : Outcome V) → g.meaning.answers true x o → IsDecided o → ⊥
     undecided o a d =
-        let w = decided v xs item x known xs [] (ap (λ z. z ++ xs) none ∙ sym (append-nil xs)) o a d in
+        let before : x.now ++ xs ≡ xs ++ [] = ap (λ z. z ++ xs) none ∙ sym (append-nil xs) in
+        let w = decided v xs item x known xs [] before o a d in
         let b = lawful.within true x (items_len bytes_model.item_len xs) w.0 known (subst (g.meaning.answers true x) w.1 a) in
         let front = b.front in
         let rest = b.rest in
-        let nothing : [] ≡ front ++ rest = sym none ∙ b.whole in
-        absurd (omega (arith, item.some, items_len-ones xs, items_len-ones front, b.length_is, ap length nothing, length-append front rest))
+        absurd (no_front xs front rest item.some (sym none ∙ b.whole) b.length_is)
 
   module _ {R A : Type 0} (u t : Stream R A) where
     -- what is told where an item is left
@@ -200,7 +202,8 @@ module _ {V O : Type 0} (view : View O) (Pins : Type 0) (g : Grammar Bytes V O (
         never_failed Outright a = never_decided (Stop (Fails Outright)) a tt
         never_failed TooLarge a = lawful.never_fails TooLarge never true x known a
 
-        told_end : (taken : Taken O) → (IsUndecided taken → ⊥) → TellsOutcome g x (held_of t.held) taken → (r : Told O) → Tells taken r → TellsEnd r
+        told_end : (taken : Taken O) → (IsUndecided taken → ⊥) → TellsOutcome g x (held_of t.held) taken → (r : Told O) → Tells taken r →
+            TellsEnd r
         told_end taken d (inl (Accept n tree, a, h)) r s = absurd (never_decided (Accept n tree) a tt)
         told_end taken d (inl (Refuse, a, h)) r s = absurd (never_decided Refuse a tt)
         told_end taken d (inl (Stop (Fails cause), a, h)) r s = absurd (never_failed cause a)
@@ -257,7 +260,8 @@ module _ {V O : Type 0} (view : View O) (Pins : Type 0) (g : Grammar Bytes V O (
     no_item u t none (Err Stopped.OutOfMemory) rs m h k = k h
 
     -- what the reader has left stays so, where nothing is read
-    still_left : (u t : Stream R A) (after xs : List ℕ) → t.source ≡ u.source → left u.source.inner ≡ Some after → held_of t.held ++ after ≡ xs →
+    still_left : (u t : Stream R A) (after xs : List ℕ) → t.source ≡ u.source → left u.source.inner ≡ Some after →
+        held_of t.held ++ after ≡ xs →
         HasLeft left t xs
     still_left u t after xs same there e = (after, ap (λ z. left z.inner) same ∙ there, sym e)
 
@@ -273,7 +277,8 @@ module _ {V O : Type 0} (view : View O) (Pins : Type 0) (g : Grammar Bytes V O (
         let none : held_of u.held ≡ [] = nil (held_of u.held) (omega (arith, ap length then.2, ap length h, length-append (held_of u.held) then.0)) in
         let over : then.0 ≡ [] = nil then.0 (omega (arith, ap length then.2, ap length h, length-append (held_of u.held) then.0)) in
         no_item u mid none r rs (ap (λ z. z.most) d.settings.0 ∙ m) (ending_tells u mid first form item none r d.answers)
-        (λ e. tells [] [] rs mid t refl (still_left u mid then.0 [] d.source then.1 (ap (λ z. z ++ then.0) e ∙ over)) c.2 (ap (λ z. z.most) d.settings.1 ∙ m))
+        (λ e. tells [] [] rs mid t refl (still_left u mid then.0 [] d.source then.1 (ap (λ z. z ++ then.0) e ∙ over)) c.2
+        (ap (λ z. z.most) d.settings.1 ∙ m))
     tells (v ∷ vs) xs (r ∷ rs) s t h has c m =
         let mid = c.0 in
         let d = c.1 in
@@ -288,7 +293,8 @@ module _ {V O : Type 0} (view : View O) (Pins : Type 0) (g : Grammar Bytes V O (
         (λ z. tells (v ∷ vs) xs rs mid t h (still_left u mid then.0 xs d.source then.1 (z ∙ sym h.whole)) c.2 limit_there)
 
 -- what was appended to known bytes
-appended : (a b : Option (List ℕ)) (before taken written : List ℕ) → a ≡ Some before → b ≡ Some (before ++ taken) → Appends a b written → taken ≡ written
+appended : (a b : Option (List ℕ)) (before taken written : List ℕ) → a ≡ Some before → b ≡ Some (before ++ taken) → Appends a b written →
+    taken ≡ written
 appended None b before taken written e f h = absurd (cc (e))
 appended (Some a) None before taken written e f h = absurd (cc (f))
 appended (Some a) (Some b) before taken written e f h =

@@ -1,9 +1,9 @@
 -- Items, one after another.
-use Rattle.std.proofs.Common.{◌≡◌, ℕ, zero, suc, ◌+◌, ◌<◌, ◌≤◌, List, [], ◌∷◌, ◌++◌, length, take, get_or, Option, Result, Ok, Err, refl, sym, ◌∙◌, ap, subst}
+use Rattle.std.proofs.Common.{◌≡◌, ℕ, zero, suc, ◌+◌, ◌<◌, ◌≤◌, List, [], ◌∷◌, ◌++◌, length, take, get_or, Option, Ok, Err}
+use Rattle.std.proofs.Common.{refl, sym, ◌∙◌, ap, subst}
 use Rattle.std.proofs.Common.{add-one, append_assoc, append-nil, arith}
 use Rattle.nom_write.specs.declared.error.WriteError.{WriteError}
 use Rattle.nom_write.specs.Lists.{Each}
-use Rattle.nom_write.specs.Parts.{Both}
 use Rattle.nom_write.specs.Written.{Space}
 use Rattle.nom_write_stream.specs.declared.outgoing.Outgoing.{Outgoing}
 use Rattle.nom_write_stream.specs.declared.outgoing.Unwritten.{Unwritten}
@@ -51,7 +51,8 @@ counts_then a b c OverLimit p q = none_then a.target b.target c.target p q
 counts_then a b c (Fault e) p q = fault_then a.target b.target c.target p e q
 counts_then a b c OutOfMemory p q = none_then a.target b.target c.target p q
 
-module _ {W A O : Type 0} (contents : W → Option (List ℕ)) (Form : O → List ℕ → Type 0) (Fails : O → Space → WriteError → Type 0) (vs : List O) where
+module _ {W A O : Type 0} (contents : W → Option (List ℕ)) (Form : O → List ℕ → Type 0) (Fails : O → Space → WriteError → Type 0)
+    (vs : List O) where
   -- the first items were added
   pub record Added (k : ℕ) (a b : Outgoing W A) : Type 0 where
     pub bytes : List ℕ

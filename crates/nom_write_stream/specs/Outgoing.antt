@@ -1,5 +1,6 @@
 -- What becomes of items: each is held or written, whole and in its turn.
-use Rattle.std.specs.Prelude.{◌≡◌, ℕ, ◌+◌, ◌-◌, ◌^◌, ◌<◌, ◌≤◌, ◌⊎◌, Bool, true, false, List, [], ◌++◌, length, take, Option, Some, None, Result, Ok, Err}
+use Rattle.std.specs.Prelude.{◌≡◌, ℕ, ◌+◌, ◌-◌, ◌^◌, ◌<◌, ◌≤◌, ◌⊎◌, Bool, true, false, List, [], ◌++◌, length, take}
+use Rattle.std.specs.Prelude.{Option, Some, None, Result, Ok, Err}
 use Rattle.std.specs.Prelude.{vec_capacity, get_or}
 use Rattle.std.specs.Io.KnownBytes.{Appends}
 use Rattle.std_io.specs.declared.io.error.Error.{Error}
@@ -88,7 +89,8 @@ module _ {W A : Type 0} (contents : W → Option (List ℕ)) (a b : Outgoing W A
   Adds Form Fails (Err why) = Sends contents a b [] × WhyNot Form Fails a.most why × Counts a b why
 
   -- what `write_items` does: forms of the items, one after another; or of those before one, and a reason of that one
-  abbrev pub AddsAll : {O : Type 0} → (O → List ℕ → Type 0) → (O → Space → WriteError → Type 0) → List O → Result (Unit {0}) Halted → Type 0
+  abbrev pub AddsAll : {O : Type 0} → (O → List ℕ → Type 0) → (O → Space → WriteError → Type 0) → List O → Result (Unit {0}) Halted →
+      Type 0
   AddsAll Form Fails vs (Ok _) = (xs : List ℕ) × Each (λ v. IsItem (Form v) a.most) vs xs × Sends contents a b xs × NoFault a.target b.target
   AddsAll {O} Form Fails vs (Err h) =
       (xs : List ℕ) × Each (λ v. IsItem (Form v) a.most) (take h.count vs) xs × Sends contents a b xs × (h.count < length vs) ×

@@ -1,8 +1,7 @@
 -- Items that are written to a pipe are those that are read from it.
 use Rattle.std.specs.Prelude.{◌≡◌, ℕ, ◌<◌, true, List, [], ◌∷◌, ◌++◌, Option, Some, None, Ok, Err}
-use Rattle.std.specs.Io.KnownBytes.{Appends}
 use Rattle.nom_error.specs.declared.value.Error.{Error}
-use Rattle.nom_internal.specs.Prelude.{bytes_model, Grammar, NeverTooLarge, Outcome, View}
+use Rattle.nom_internal.specs.Prelude.{bytes_model, Grammar, Outcome, View}
 use Rattle.nom_stream.specs.declared.stream.Stop.TheVariants as Stopped
 use Rattle.nom_stream.specs.declared.stream.Stream.{Stream}
 use Rattle.nom_stream.specs.Items.{Bytes}
@@ -38,6 +37,7 @@ abbrev pub ItemsOfPipe : (A B : Type 0) {R W V O : Type 0} → (R → Option (Li
     Grammar Bytes V O (Error Bytes) → (O → List ℕ → Type 0) → Type 0
 ItemsOfPipe A B {R} {W} {V} {O} left contents view Pins g Form =
     (a b : Outgoing W B) (v : O) (vs : List O) (xs before taken : List ℕ) → Each (λ v. IsItem (Form v) a.most) (v ∷ vs) xs →
-    held_of a ≡ [] → Sends contents a b xs → held_of b ≡ [] → contents a.target.inner ≡ Some before → contents b.target.inner ≡ Some (before ++ taken) →
+    held_of a ≡ [] → Sends contents a b xs → held_of b ≡ [] → contents a.target.inner ≡ Some before → contents b.target.inner ≡ Some
+    (before ++ taken) →
     (s t : Stream R A) (rs : List (Told O)) → HasLeft left s taken → Calls left g rs s t →
     TellsItems view Pins (s.settings.most < a.most) (v ∷ vs) rs

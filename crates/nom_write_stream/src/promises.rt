@@ -36,11 +36,7 @@ pub fn items_of_pipe<
     W: Write,
     B: Allocator,
     P: Writer<&'a [u8], Error = Error<&'a [u8]>>,
->(
-    _stream: &Stream<R, A>,
-    _outgoing: &Outgoing<W, B>,
-    _writer: &P,
-)
+>(_stream: &Stream<R, A>, _outgoing: &Outgoing<W, B>, _writer: &P)
     requires sound { (P.grammar (P.state _writer.now)).meaning.IsSound }
     requires can { P.CanWrite _writer.now }
     requires follows { (rest : List ℕ) → P.MayFollow _writer.now rest }
