@@ -1,0 +1,9 @@
+use Rattle.std.specs.Io.KnownBytes.{Keeps}
+use Rattle.nom_write_stream.specs.Targets.{NoFault}
+use Rattle.nom_write_stream.proofs.target.Target.write.Given as goal
+
+abbrev pub invariant-loop-turn : goal.invariant-loop-turn
+invariant-loop-turn g l = record {
+  kept : Keeps (g.W.Write.contents l.fn.self.inner) (g.W.Write.contents l.self.inner);
+  none : NoFault l.fn.self l.self;
+}

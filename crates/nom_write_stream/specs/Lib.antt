@@ -1,0 +1,3 @@
+pub mod Outgoing
+pub mod Pipes
+pub mod Targets

@@ -1,0 +1,97 @@
+-- What becomes of items: each is held or written, whole and in its turn.
+use Rattle.std.specs.Prelude.{◌≡◌, ℕ, ◌+◌, ◌-◌, ◌^◌, ◌<◌, ◌≤◌, ◌⊎◌, Bool, true, false, List, [], ◌++◌, length, take}
+use Rattle.std.specs.Prelude.{Option, Some, None, Result, Ok, Err}
+use Rattle.std.specs.Prelude.{vec_capacity, get_or}
+use Rattle.std.specs.Io.KnownBytes.{Appends}
+use Rattle.std_io.specs.declared.io.error.Error.{Error}
+use Rattle.nom_internal.specs.Prelude.{AreValues}
+use Rattle.nom_write.specs.declared.error.WriteError.{WriteError}
+use Rattle.nom_write.specs.declared.error.WriteError.TheVariants as Write
+use Rattle.nom_write.specs.Lists.{Each}
+use Rattle.nom_write.specs.Written.{Space}
+use Rattle.nom_write_stream.specs.declared.outgoing.Halted.{Halted}
+use Rattle.nom_write_stream.specs.declared.outgoing.Outgoing.{Outgoing}
+use Rattle.nom_write_stream.specs.declared.outgoing.Unwritten.{Unwritten}
+use Rattle.nom_write_stream.specs.declared.outgoing.Unwritten.TheVariants.{TooLong, Mismatch, Nothing, OverLimit, Fault, OutOfMemory}
+use Rattle.nom_write_stream.specs.Targets.{NoFault, OneFault}
+
+-- the bytes that aren't written yet
+abbrev pub held_of : {W A : Type 0} → Outgoing W A → List ℕ
+held_of o = o.held.bytes.items
+
+-- no more bytes are held than may be, and these need no more memory
+pub record IsOpen {W A : Type 0} (o : Outgoing W A) : Type 0 where
+  pub bounded : length (held_of o) ≤ o.most
+  pub room : o.most ≤ vec_capacity o.held.bytes
+
+-- they are bytes, and not more than an input can have
+abbrev pub AreBytes : List ℕ → Type 0
+AreBytes xs = AreValues (λ b. b < 256) xs × (length xs < 2 ^ 63)
+
+-- a form of an item that can be sent: some bytes, and not more than may be held
+pub record IsItem (Form : List ℕ → Type 0) (most : ℕ) (xs : List ℕ) : Type 0 where
+  pub form : Form xs
+  pub some : 0 < length xs
+  pub fits : length xs ≤ most
+  pub known : AreBytes xs
+
+-- What was held, and then these bytes, is what was written and then what is held: nothing is lost, nothing comes twice.
+abbrev pub Sends : {W A : Type 0} → (W → Option (List ℕ)) → (a b : Outgoing W A) → (xs : List ℕ) → Type 0
+Sends contents a b xs =
+    (written : List ℕ) × (held_of a ++ xs ≡ written ++ held_of b) × Appends (contents a.target.inner) (contents b.target.inner) written
+
+-- why an item isn't written that begins at a place of what is held; none where there is no room for it beside what is held
+abbrev pub told_of : WriteError → (start : ℕ) → Option Unwritten
+told_of Write.OutOfMemory start = Some OutOfMemory
+told_of Write.Full start = None
+told_of (Write.TooLong place) start = Some (TooLong (place - start))
+told_of (Write.Mismatch place) start = Some (Mismatch (place - start))
+
+module _ (Form : List ℕ → Type 0) (Fails : Space → WriteError → Type 0) (most : ℕ) where
+  -- its writer fails with this error, where some bytes are held and there is room for the most that may be, or for more
+  pub record FailsWith (start : ℕ) (e : WriteError) : Type 0 where
+    pub room : ℕ
+    pub enough : most ≤ room
+    pub fails : Fails (record { lack = Write.Full; room = room; start = start }) e
+
+  -- there is no room for it after so many bytes
+  abbrev pub NoRoom : (start : ℕ) → Type 0
+  NoRoom start = FailsWith start Write.Full ⊎ ((xs : List ℕ) × Form xs × (most < start + length xs))
+
+  -- why it isn't written
+  abbrev pub WhyNot : Unwritten → Type 0
+  WhyNot (TooLong at) = (start place : ℕ) × (start ≤ most) × FailsWith start (Write.TooLong place) × (at ≡ place - start)
+  WhyNot (Mismatch at) = (start place : ℕ) × (start ≤ most) × FailsWith start (Write.Mismatch place) × (at ≡ place - start)
+  WhyNot Nothing = Form []
+  WhyNot OverLimit = NoRoom 0
+  WhyNot (Fault e) = Unit {0}
+  WhyNot OutOfMemory = (start : ℕ) × (start ≤ most) × FailsWith start Write.OutOfMemory
+
+-- What `add` does to what is held: a form of the item is added, or there is no room for it, or it can't be written.
+abbrev pub Fits : {W A : Type 0} → (a b : Outgoing W A) → (List ℕ → Type 0) → (Space → WriteError → Type 0) → Result Bool Unwritten → Type 0
+Fits a b Form Fails (Ok true) = (xs : List ℕ) × IsItem Form a.most xs × (held_of b ≡ held_of a ++ xs)
+Fits a b Form Fails (Ok false) = (held_of b ≡ held_of a) × NoRoom Form Fails a.most (length (held_of a))
+Fits a b Form Fails (Err why) = (held_of b ≡ held_of a) × WhyNot Form Fails a.most why × ((e : Error) → why ≡ Fault e → ⊥)
+
+-- a write failed where that is told, and else none did
+abbrev pub Counts : {W A : Type 0} → (a b : Outgoing W A) → Unwritten → Type 0
+Counts a b (TooLong at) = NoFault a.target b.target
+Counts a b (Mismatch at) = NoFault a.target b.target
+Counts a b Nothing = NoFault a.target b.target
+Counts a b OverLimit = NoFault a.target b.target
+Counts a b (Fault e) = OneFault a.target b.target e
+Counts a b OutOfMemory = NoFault a.target b.target
+
+module _ {W A : Type 0} (contents : W → Option (List ℕ)) (a b : Outgoing W A) where
+  -- what one `write_item` does: a form of the item is held or written after what was held, or there is a reason
+  abbrev pub Adds : (List ℕ → Type 0) → (Space → WriteError → Type 0) → Result (Unit {0}) Unwritten → Type 0
+  Adds Form Fails (Ok _) = (xs : List ℕ) × IsItem Form a.most xs × Sends contents a b xs × NoFault a.target b.target
+  Adds Form Fails (Err why) = Sends contents a b [] × WhyNot Form Fails a.most why × Counts a b why
+
+  -- what `write_items` does: forms of the items, one after another; or of those before one, and a reason of that one
+  abbrev pub AddsAll : {O : Type 0} → (O → List ℕ → Type 0) → (O → Space → WriteError → Type 0) → List O → Result (Unit {0}) Halted →
+      Type 0
+  AddsAll Form Fails vs (Ok _) = (xs : List ℕ) × Each (λ v. IsItem (Form v) a.most) vs xs × Sends contents a b xs × NoFault a.target b.target
+  AddsAll {O} Form Fails vs (Err h) =
+      (xs : List ℕ) × Each (λ v. IsItem (Form v) a.most) (take h.count vs) xs × Sends contents a b xs × (h.count < length vs) ×
+      ((v : O) × (v ≡ get_or vs h.count v) × WhyNot (Form v) (Fails v) a.most h.why) × Counts a b h.why

@@ -1,0 +1,63 @@
+//! The bytes that aren't written yet.
+ghost use Rattle.std.specs.Prelude.{◌≡◌, ◌≤◌, [], IfOk, drop, length, vec_capacity};
+ghost use Rattle.nom_write.specs.declared.error.WriteError.{WriteError};
+
+use nom_error::answer::OutOfMemory;
+use nom_write::WriteError;
+use nom_write::sink::Sink;
+use std::alloc::Allocator;
+
+/// The bytes that aren't written yet: a list that never takes more memory than it has, so that it is `Full`.
+#[derive(Drop)]
+pub struct Held<A: Allocator> {
+    pub bytes: Vec<u8, A>,
+}
+
+impl<A: Allocator> Held<A> {
+    /// None, with room for that many. It is all the memory that is taken.
+    pub fn with_room(alloc: A, count: usize) -> Result<Self, OutOfMemory>
+        ensures { IfOk result (λ held. (held.bytes.items ≡ []) × (count ≤ vec_capacity held.bytes)) }
+    {
+        match Vec::with_capacity(alloc, count) {
+            Ok(bytes) => Ok(Held { bytes }),
+            Err(_) => Err(OutOfMemory),
+        }
+    }
+
+    /// The first bytes are written.
+    pub fn remove_front(&mut self, count: usize)
+        requires { count ≤ length self.old.bytes.items }
+        ensures others { self.new.bytes.items ≡ drop count self.old.bytes.items }
+        ensures room { vec_capacity self.old.bytes ≤ vec_capacity self.new.bytes }
+    {
+        let len = self.bytes.len();
+        self.bytes.copy_within(count..len, 0);
+        self.bytes.truncate(len - count);
+    }
+}
+
+/// As many bytes as it has memory for: for want of room `Full`.
+impl<A: Allocator> Sink for Held<A> {
+    ghost model = { record { items = λ h. h.bytes.items; room = λ h. vec_capacity h.bytes; lack = WriteError.Full } };
+
+    #[inline(always)]
+    fn len(&self) -> usize {
+        self.bytes.len()
+    }
+
+    #[inline]
+    fn add(&mut self, bytes: &[u8]) -> Result<(), WriteError> {
+        if bytes.len() > self.bytes.capacity() - self.bytes.len() {
+            return Err(WriteError::Full);
+        }
+        match self.bytes.extend_from_slice(bytes) {
+            Ok(()) => Ok(()),
+            Err(_) => unreachable!(),
+        }
+    }
+
+    #[inline(always)]
+    fn truncate(&mut self, len: usize) {
+        self.bytes.truncate(len);
+    }
+}
