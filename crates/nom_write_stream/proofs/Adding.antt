@@ -5,6 +5,7 @@ use Rattle.nom_internal.specs.Prelude.{AreValues}
 use Rattle.nom_write.specs.declared.error.WriteError.{WriteError}
 use Rattle.nom_write.specs.declared.error.WriteError.TheVariants as Write
 use Rattle.nom_write.specs.Written.{Space}
+use Rattle.nom_write.specs.Written.Lack.{OfSpace}
 use Rattle.nom_write_stream.specs.Outgoing.{AreBytes, IsItem, NoRoom, told_of}
 
 values_after : (xs ys : List ℕ) → AreValues (λ b. b < 256) (xs ++ ys) → AreValues (λ b. b < 256) ys
@@ -42,9 +43,9 @@ module _ (Form : List ℕ → Type 0) (Fails : Space → WriteError → Type 0) 
 -- there is no room in the memory that is taken
 pub no_room_now : (Form : List ℕ → Type 0) (Fails : Space → WriteError → Type 0) (most room start from : ℕ) (e : WriteError) →
     told_of e from ≡ None →
-    most ≤ room → Fails (record { lack = Write.Full; room = room; start = start }) e → NoRoom Form Fails most start
+    most ≤ room → Fails (record { lack = OfSpace; room = room; start = start }) e → NoRoom Form Fails most start
 no_room_now Form Fails most room start from e none enough f = inl (record {
   room = room;
   enough = enough;
-  fails = subst (Fails (record { lack = Write.Full; room = room; start = start })) (full e from none) f;
+  fails = subst (Fails (record { lack = OfSpace; room = room; start = start })) (full e from none) f;
 })

@@ -9,6 +9,7 @@ use Rattle.nom_write.specs.declared.error.WriteError.{WriteError}
 use Rattle.nom_write.specs.declared.error.WriteError.TheVariants as Write
 use Rattle.nom_write.specs.Lists.{Each}
 use Rattle.nom_write.specs.Written.{Space}
+use Rattle.nom_write.specs.Written.Lack.{OfSpace}
 use Rattle.nom_write_stream.specs.declared.outgoing.Halted.{Halted}
 use Rattle.nom_write_stream.specs.declared.outgoing.Outgoing.{Outgoing}
 use Rattle.nom_write_stream.specs.declared.outgoing.Unwritten.{Unwritten}
@@ -52,7 +53,7 @@ module _ (Form : List ℕ → Type 0) (Fails : Space → WriteError → Type 0) 
   pub record FailsWith (start : ℕ) (e : WriteError) : Type 0 where
     pub room : ℕ
     pub enough : most ≤ room
-    pub fails : Fails (record { lack = Write.Full; room = room; start = start }) e
+    pub fails : Fails (record { lack = OfSpace; room = room; start = start }) e
 
   -- there is no room for it after so many bytes
   abbrev pub NoRoom : (start : ℕ) → Type 0

@@ -1,6 +1,6 @@
 //! The bytes that aren't written yet.
 ghost use Rattle.std.specs.Prelude.{◌≡◌, ◌≤◌, [], IfOk, drop, length, vec_capacity};
-ghost use Rattle.nom_write.specs.declared.error.WriteError.{WriteError};
+ghost use Rattle.nom_write.specs.Written.Lack.{OfSpace};
 
 use nom_error::answer::OutOfMemory;
 use nom_write::WriteError;
@@ -38,7 +38,7 @@ impl<A: Allocator> Held<A> {
 
 /// As many bytes as it has memory for: for want of room `Full`.
 impl<A: Allocator> Sink for Held<A> {
-    ghost model = { record { items = λ h. h.bytes.items; room = λ h. vec_capacity h.bytes; lack = WriteError.Full } };
+    ghost model = { record { items = λ h. h.bytes.items; room = λ h. vec_capacity h.bytes; lack = OfSpace } };
 
     #[inline(always)]
     fn len(&self) -> usize {
