@@ -3,9 +3,7 @@
 
 mod configuration;
 pub mod grammars;
-mod key_value;
 pub mod lengths;
 pub mod words;
 
 pub use crate::configuration::{Line, settings};
-pub use crate::key_value::setting;
