@@ -4,9 +4,10 @@
 //! Parsers are composed of the functions of the modules `complete`, with nom's default error, and run by `parse`; only the
 //! first case and the items of readers are of the modules `streaming`, and `check` is of the parsers at the top of nom's
 //! modules, by `process`, since a function always builds. The two cases of nom_bench without a counterpart in nom are left
-//! out: settings with line and column, and expressions by `precedence`.
+//! out: settings with line and column, and expressions by `precedence`. Lists are written by cookie-factory.
 
 mod basics;
+mod factory;
 mod growing;
 mod json;
 mod packets;
@@ -16,6 +17,7 @@ mod streams;
 mod sums;
 mod texts;
 mod wires;
+mod writes;
 
 use nom::error::Error;
 use nom::{Input, Parser};
@@ -142,6 +144,7 @@ fn run() -> io::Result<()> {
     for case in cases.into_iter().flatten() {
         bench(case, contents, rounds);
     }
+    writes::bench(&factory::WRITERS, &bytes, rounds);
     if words.next().is_none() {
         streams::bench(&bytes, rounds);
     }

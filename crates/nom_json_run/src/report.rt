@@ -64,14 +64,6 @@ fn closing(bracket: Bracket) -> char {
     }
 }
 
-fn word_name(word: &'static str) -> &'static str {
-    match word.as_bytes() {
-        [b'n', ..] => "null",
-        [b't', ..] => "true",
-        _ => "false",
-    }
-}
-
 // What a fault tells: the place, and what would have been accepted there.
 pub(crate) fn error_of<'a>(bytes: &'a [u8], fault: Fault) -> Result<Error<'a>, OutOfMemory>
     requires { fault.at ≤ length bytes.now }
@@ -86,7 +78,7 @@ pub(crate) fn error_of<'a>(bytes: &'a [u8], fault: Fault) -> Result<Error<'a>, O
                 value
             }
         }
-        Missing::Word(word) => named(place, word_name(word)),
+        Missing::Word(word) => named(place, word),
         Missing::Digit => named(place, "a digit"),
         Missing::Character => either(named(place, "a character"), character(place, '"')),
         Missing::Escape => named(place, "the letter of an escape"),

@@ -1,4 +1,4 @@
-//! Expressions whose fold may take memory.
+//! Expressions with a fold that may take memory.
 ghost use Rattle.std.specs.Prelude.{◌≡◌, List};
 ghost use Rattle.nom_error.specs.declared.kind.ErrorKind.TheVariants as Kind;
 ghost use Rattle.nom_language.specs.Allocations.{StopsFold, expression_alloc_by};
@@ -18,16 +18,16 @@ use nom_traits::input::{Input, Items};
 use nom_traits::view::Viewed;
 use std::alloc::{AllocError, AllocFailed, Allocator};
 
-/// Why a fold that may take memory gives no value.
+/// Why a fold that may take memory returns no value.
 #[derive(Clone, Copy, Debug, PartialEq, Eq)]
 pub enum FoldError<X> {
     /// It refuses the expression.
     Refused(X),
-    /// It found no memory.
+    /// Memory ran out.
     OutOfMemory,
 }
 
-/// So that `?` passes on that memory ran out.
+/// Lets `?` pass on that memory ran out.
 impl<X> From<OutOfMemory> for FoldError<X> {
     ghost use Rattle.nom_language.specs.declared.allocating.FoldError.{FoldError};
 
@@ -38,7 +38,7 @@ impl<X> From<OutOfMemory> for FoldError<X> {
     }
 }
 
-/// So that `?` passes a refused growth on.
+/// Lets `?` pass on a refused growth.
 impl<X> From<AllocError> for FoldError<X> {
     ghost use Rattle.nom_language.specs.declared.allocating.FoldError.{FoldError};
 
@@ -49,7 +49,7 @@ impl<X> From<AllocError> for FoldError<X> {
     }
 }
 
-/// So that `?` passes on that a value could not be put on the heap, as by `Box::new`; the value is let go.
+/// Lets `?` pass on that a value had no room on the heap, as in `Box::new`. The value is dropped.
 impl<X, V: Drop> From<AllocFailed<V>> for FoldError<X> {
     ghost use Rattle.nom_language.specs.declared.allocating.FoldError.{FoldError};
 
@@ -60,7 +60,8 @@ impl<X, V: Drop> From<AllocFailed<V>> for FoldError<X> {
     }
 }
 
-/// Terms with operators between them, whose fold may take memory, made by `precedence_alloc`.
+/// The parser that `precedence_alloc` returns: terms with operators between them, with a fold that may take
+/// memory.
 #[derive(Drop)]
 pub struct ExpressionAlloc<A, C, T, G> {
     pub alloc: A,
@@ -141,7 +142,7 @@ where
     ghost steady = { λ s k. evaluated_alloc_steady I.lawful T.Error.errors T.Error.externals k.2 (T.steady s.1 k.0) (C.steady s.0 k.1) };
 }
 
-/// What stops where a fold gives no value: a refusal with an error that is made of the fold's, or that memory ran out.
+// Refuses with an error that is made of the fold's, or reports that memory ran out.
 #[inline(always)]
 fn stopped<M: Mode, I: Drop, X: Drop, E: FromExternalError<I, X> + Drop>(
     input: I,

@@ -1,4 +1,4 @@
-//! The value of what is read of an expression.
+//! The value of an expression, as it is read.
 ghost use Rattle.std.specs.Prelude.{◌≡◌, IfSome, IsSome, [], List, true};
 ghost use Rattle.nom_internal.specs.Prelude.{BuiltFrom};
 ghost use Rattle.nom_language.specs.Evaluated.{symbols_of_term};
@@ -19,7 +19,8 @@ use nom_repeat::accumulator::Accumulator;
 use std::alloc::Allocator;
 use std::marker::PhantomData;
 
-/// A first term and pairs, as they are read: operators that wait, and the value after the innermost.
+/// The terms and operators that are read so far: operators that wait for their right operand, and the value
+/// after the last of them.
 #[derive(Drop)]
 pub struct Evaluation<'a, P, Q, B, O, X, A: Allocator, G> {
     pub partial: Option<Partial<P, B, Result<O, X>>>,
@@ -71,7 +72,7 @@ impl<
     }
 }
 
-/// A term's output as a term.
+// Turns a term's output into a term.
 #[inline(always)]
 fn term<P: Drop, O: Drop, Q: Drop, A: Allocator>(
     output: (Vec<Unary<P>, A>, O, Vec<Unary<Q>, A>),
@@ -88,7 +89,7 @@ fn term<P: Drop, O: Drop, Q: Drop, A: Allocator>(
     }
 }
 
-/// What is made of a first term. None where there is no memory for its prefixes.
+/// Begins with the first term. It returns `None` if there is no memory for its prefixes.
 #[inline(always)]
 pub fn begin_evaluation<
     'a,
@@ -122,7 +123,7 @@ pub fn begin_evaluation<
     }
 }
 
-/// The value of all that was read, or the first refusal of the fold.
+/// Returns the value of an evaluation, or the first refusal of the fold, if outputs are built.
 #[inline(always)]
 pub fn evaluated<
     P: Drop,
@@ -144,7 +145,7 @@ pub fn evaluated<
     }
 }
 
-/// The same, of what was read.
+// The value of all that was read, or the first refusal of the fold.
 #[inline(always)]
 fn value_of<
     P: Drop,

@@ -23,7 +23,7 @@ use nom_traits::input::{Input, Items};
 use nom_traits::view::Viewed;
 use std::alloc::Allocator;
 
-/// Terms with operators between them, made by `precedence`.
+/// The parser that `precedence` returns: terms with operators between them.
 #[derive(Drop)]
 pub struct Expression<A, C, T, G> {
     pub alloc: A,
@@ -33,8 +33,9 @@ pub struct Expression<A, C, T, G> {
 }
 
 impl<A, C, T, G> Expression<A, C, T, G> {
-    /// The same, but an operator after the expression whose right operand is missing is refused with `Precedence`, where
-    /// else the expression ends before it.
+    /// Refuses an operator whose right operand is missing, with `Precedence` at the operator.
+    ///
+    /// Without it the expression ends before that operator.
     #[inline(always)]
     pub fn require_operands(self) -> RequireOperands<A, C, T, G>
         ensures { result.expression ≡ self }
@@ -119,8 +120,9 @@ where
     ghost steady = { λ s k. evaluated_steady I.lawful T.Error.errors T.Error.externals k.2 (T.steady s.1 k.0) (C.steady s.0 k.1) };
 }
 
-/// A first term, to whose refusal `Precedence` is added at the start, and then pairs, with the value of them all, or the
-/// first refusal of the fold.
+/// Reads a term and then pairs, and returns the value of them all, or the first refusal of the fold.
+///
+/// If the first term is refused, `append` adds `Precedence` at the start.
 pub(crate) fn terms<
     OM: OutputMode,
     I: Input,
@@ -161,7 +163,7 @@ pub(crate) fn terms<
     }
 }
 
-/// A refusal with an error that is made of another, where errors are built.
+/// Refuses with an error that is made of another one, if errors are built.
 #[inline(always)]
 pub(crate) fn outside_refusal<M: Mode, I: Drop, X: Drop, E: FromExternalError<I, X> + Drop>(
     input: I,

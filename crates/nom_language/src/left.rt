@@ -14,7 +14,7 @@ use nom_repeat::bounds::any_items;
 use nom_traits::input::{Input, Items};
 use std::marker::PhantomData;
 
-/// Items with operators between them, folded from the left; made by `left_assoc`.
+/// The parser that `left_assoc` returns: items with operators between them, folded from the left.
 #[derive(Drop)]
 pub struct LeftAssoc<C, F, G> {
     /// An operator and an item after it.
@@ -74,7 +74,7 @@ impl<
     ghost steady = { λ s k. left_assoc_steady I.lawful F.Error.errors (F.steady s.1 k.0) (C.steady s.0 k.1) };
 }
 
-/// A value that is folded with the pairs that come.
+// A value, which is folded with each pair.
 #[derive(Drop)]
 struct Folded<'a, H, O, G> {
     value: Option<O>,
@@ -106,7 +106,7 @@ impl<'a, H: Drop, O: Drop, G: Fn(O, H, O) -> O> Accumulator<(H, O)> for Folded<'
     }
 }
 
-/// A first value, where it is built.
+// The first value, if it is built.
 #[inline(always)]
 fn begun<'a, H, O, G>(first: Option<O>, builder: &'a G) -> Option<Folded<'a, H, O, G>>
     ensures { BuiltFrom true (λ x k. (k.value ≡ Some x) × (k.builder.now ≡ builder.now)) first result }
@@ -121,7 +121,7 @@ fn begun<'a, H, O, G>(first: Option<O>, builder: &'a G) -> Option<Folded<'a, H, 
     }
 }
 
-/// The value that was folded, where it is built.
+// The folded value, if it is built.
 #[inline(always)]
 fn value_of<H: Drop, O: Drop, G>(folded: Option<Folded<'_, H, O, G>>) -> Option<O>
     ensures { MatchOption folded.entry (result ≡ None) (λ k. result ≡ k.value) }

@@ -1,5 +1,7 @@
-//! Expressions as users of nom-language write them: prefixes, operands, postfixes and binary operators, each operator
-//! with its precedence, and a fold that may refuse. The value is that of the one tree that the precedences give.
+//! Operator precedence, where each operator has its own precedence, as in nom-language.
+//!
+//! The value of an expression is the one that a fold makes of its tree. The precedences allow exactly one tree.
+//! A fold may refuse.
 #![tactic(auto)]
 
 pub mod allocating;

@@ -1,4 +1,4 @@
-//! Expressions that no operator without a right operand follows.
+//! Expressions whose operators all have a right operand.
 ghost use Rattle.std.specs.Prelude.{◌≡◌, List};
 ghost use Rattle.nom_combinator.specs.Verdicts.{not_meaning};
 ghost use Rattle.nom_error.specs.declared.kind.ErrorKind.TheVariants as Kind;
@@ -20,7 +20,7 @@ use nom_traits::input::{Input, Items};
 use nom_traits::view::Viewed;
 use std::alloc::Allocator;
 
-/// An expression whose operators all have their operands, made by `require_operands`.
+/// The parser that `require_operands` returns: an expression that no operator follows.
 #[derive(Drop)]
 pub struct RequireOperands<A, C, T, G> {
     pub expression: Expression<A, C, T, G>,
@@ -95,7 +95,7 @@ where
         (evaluated_steady I.lawful T.Error.errors T.Error.externals {CanFold = Unit {0}} k.2 (T.steady s.1 k.0) (C.steady s.0 k.1)) (C.steady s.0 k.1) };
 }
 
-/// No operator, which is refused with `Precedence`.
+// Refuses with `Precedence` if there is an operator.
 fn no_operator<OM: OutputMode, I: Items, C: Parser<I>>(
     binary: &mut C,
     input: I,

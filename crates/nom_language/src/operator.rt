@@ -1,4 +1,4 @@
-//! Operators with their precedence.
+//! Operators with their precedences.
 ghost use Rattle.std.specs.Prelude.{◌≡◌, ℕ, true};
 ghost use Rattle.nom_internal.specs.Prelude.{BuiltFrom};
 ghost use Rattle.nom_language.specs.Operators.{binary_op_of, unary_op_of};
@@ -11,7 +11,7 @@ use nom_operators::operation::Assoc;
 use nom_operators::precedences::{Binary, Unary};
 use nom_traits::input::Items;
 
-/// A prefix or a postfix with its precedence, made by `unary_op`.
+/// The parser that `unary_op` returns: a prefix or a postfix with its precedence.
 #[derive(Drop)]
 pub struct UnaryOp<F> {
     pub precedence: usize,
@@ -50,7 +50,7 @@ impl<I: Items, F: StreamParser<I> + Drop> StreamParser<I> for UnaryOp<F> {
     ghost steady = { λ s k. F.steady s.0 k };
 }
 
-/// A binary operator with its precedence, made by `binary_op`.
+/// The parser that `binary_op` returns: a binary operator with its precedence.
 #[derive(Drop)]
 pub struct BinaryOp<F> {
     pub precedence: usize,
@@ -90,7 +90,7 @@ impl<I: Items, F: StreamParser<I> + Drop> StreamParser<I> for BinaryOp<F> {
     ghost steady = { λ s k. F.steady s.0 k };
 }
 
-/// An output with a precedence, where it is built.
+// Adds a precedence to an output, if it is built.
 #[inline(always)]
 fn unary<V>(output: Option<V>, precedence: usize) -> Option<Unary<V>>
     ensures { BuiltFrom true (λ v u. (u.value ≡ v) × (u.precedence ≡ precedence)) output result }
@@ -101,7 +101,7 @@ fn unary<V>(output: Option<V>, precedence: usize) -> Option<Unary<V>>
     }
 }
 
-/// An output with a precedence and its grouping, where it is built.
+// Adds a precedence and an associativity to an output, if it is built.
 #[inline(always)]
 fn binary<V>(output: Option<V>, precedence: usize, assoc: Assoc) -> Option<Binary<V>>
     ensures { BuiltFrom true (λ v b. (b.value ≡ v) × (b.precedence ≡ precedence) × (b.assoc ≡ assoc)) output result }

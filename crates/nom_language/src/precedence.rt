@@ -11,7 +11,9 @@ pub use nom_operators::operation::{Assoc, Operation};
 pub use nom_operators::precedences::{Binary, Unary};
 use std::alloc::Allocator;
 
-/// A prefix or a postfix, with its precedence. A lesser precedence binds tighter.
+/// Gives a prefix or a postfix its precedence.
+///
+/// A lower precedence binds tighter.
 #[inline(always)]
 pub fn unary_op<F>(precedence: usize, parser: F) -> UnaryOp<F>
     ensures precedence { result.precedence ≡ precedence }
@@ -20,8 +22,9 @@ pub fn unary_op<F>(precedence: usize, parser: F) -> UnaryOp<F>
     UnaryOp { precedence, parser }
 }
 
-/// A binary operator, with its precedence, and how it is grouped runs_out_beside others of that precedence. A lesser precedence
-/// binds tighter.
+/// Gives a binary operator its precedence and its associativity.
+///
+/// A lower precedence binds tighter. The associativity says how operators of that precedence are grouped.
 #[inline(always)]
 pub fn binary_op<F>(precedence: usize, assoc: Assoc, parser: F) -> BinaryOp<F>
     ensures precedence { result.precedence ≡ precedence }
@@ -35,26 +38,29 @@ pub fn binary_op<F>(precedence: usize, assoc: Assoc, parser: F) -> BinaryOp<F>
     }
 }
 
-/// An expression: a term, and then pairs of a binary operator and a term, with the value that `fold` makes of their
-/// tree. A term is prefixes, an operand and postfixes, each as many as are accepted; `fail` stands for those that there
-/// aren't. `unary_op` gives a prefix or a postfix with its precedence, and `binary_op` a binary operator.
+/// Parses an expression, and returns the value that `fold` makes of its tree.
 ///
-/// In the tree an operator's left operand is all before it that it ends: what binds tighter, or as tight, where it is
-/// grouped from the left. Its right operand is all after it up to an operator that ends it. So the loosest operator is
-/// the root; but a prefix takes nothing before it, and ends nothing: `a * not b + c` is `a * (not (b + c))`, where `not`
-/// is looser than `+`. A postfix ends what one grouped from the left does; postfixes in a row are applied in their order.
+/// An expression is a term, and then pairs of a binary operator and a term. A term is any number of prefixes,
+/// an operand, and any number of postfixes. Use `fail` for prefixes, postfixes or operators that don't exist.
+/// Make prefixes and postfixes by `unary_op`, and operators by `binary_op`.
 ///
-/// `fold` makes the value of an operation of its operands' values, or refuses it: then the expression is refused, with an
-/// error that is made of the fold's, `Precedence` and the start. It is called in every mode, as of `map_res`, and for the
-/// operations in the order in which they are applied; the first refusal is the one that is told. What stands after it is
-/// still read, as long as it belongs to the expression.
+/// An operator's left operand is everything before it that binds tighter, or equally tight if it is grouped
+/// from the left. Its right operand reaches to the next operator that doesn't bind tighter. So the loosest
+/// operator is the root. A prefix takes nothing before it and ends nothing: if `not` is looser than `+`, then
+/// `a * not b + c` is `a * (not (b + c))`. A postfix ends the same operands as an operator that is grouped
+/// from the left. Postfixes in a row are applied in their order.
 ///
-/// A refusal of the first term is passed on, and `append` adds `Precedence` at the start. Where an operator or the term
-/// after it is refused, the expression ends before that operator. An operator and its term that together consume nothing
-/// are refused with `Precedence`, and a prefix or a postfix that consumes nothing is refused with `Many0`.
+/// `fold` returns the value of an operation, or refuses it. Then the expression is refused at its start, and
+/// `from_external_error` makes the error of the fold's error and `Precedence`. `fold` is called in every mode,
+/// in the order in which operations are applied. After its first refusal the rest of the expression is still
+/// read.
 ///
-/// The lists of prefixes and of postfixes, and the operators that wait for their right operand, take memory. The stack
-/// of the program is bounded, whatever the input.
+/// If the first term is refused, `append` adds `Precedence` at the start. If an operator or the term after it
+/// is refused, the expression ends before that operator. An operator and its term that together consume
+/// nothing are refused with `Precedence`. A prefix or a postfix that consumes nothing is refused with `Many0`.
+///
+/// Memory may run out for the lists of prefixes and postfixes, and for operators that wait for their right
+/// operand. The program's stack is bounded, whatever the input.
 #[inline(always)]
 pub fn precedence<A: Allocator + Copy, P, Q, C, F, G>(
     alloc: A,
@@ -78,9 +84,12 @@ pub fn precedence<A: Allocator + Copy, P, Q, C, F, G>(
     }
 }
 
-/// An expression as of `precedence`, whose fold may take memory, as for a tree with `Box`. It gives a value, refuses the
-/// expression by `FoldError::Refused`, or finds no memory: then the answer is `OutOfMemory`, which is no refusal, and that comes
-/// from the fold only where it said so. `?` makes `FoldError::OutOfMemory` of what `Box::new` and `push` of a `Vec` answer.
+/// Parses an expression as `precedence` does, with a fold that may take memory, for example for a tree of
+/// `Box`es.
+///
+/// The fold returns a value, refuses by `FoldError::Refused`, or returns `FoldError::OutOfMemory`. The last one
+/// makes the answer `OutOfMemory`, which isn't a refusal. `?` converts the errors of `Box::new` and of `push` of
+/// a `Vec` to it.
 #[inline(always)]
 pub fn precedence_alloc<A: Allocator + Copy, P, Q, C, F, G>(
     alloc: A,
@@ -104,11 +113,14 @@ pub fn precedence_alloc<A: Allocator + Copy, P, Q, C, F, G>(
     }
 }
 
-/// Items with operators between them, folded from the left: `child`, and then `operator` and `child`, as often as both
-/// are accepted. `builder` makes a value of what stands on the left, an operator and an item.
+/// Parses items with operators between them, and folds them from the left.
 ///
-/// A refusal of the first item is passed on. Where an operator or the item after it is refused, all ends before that
-/// operator. An operator and its item that together consume nothing are refused with `SeparatedList`.
+/// It runs `child`, and then `operator` and `child` as long as both accept. `builder` returns the value of what
+/// stands on the left, an operator and an item.
+///
+/// If the first item is refused, so is the whole. If an operator or the item after it is refused, the whole ends
+/// before that operator. An operator and its item that together consume nothing are refused with
+/// `SeparatedList`.
 #[inline(always)]
 pub fn left_assoc<F, C, G>(child: F, operator: C, builder: G) -> LeftAssoc<C, F, G>
     ensures child { result.pair.1 ≡ child }

@@ -1,3 +1,5 @@
 mod Piped
 pub mod Reported
+pub mod Framed
+mod TypedParts
 mod Whole

@@ -1,3 +1,5 @@
 pub mod Pipe
 pub mod Report
+pub mod Sent
+pub mod Typed
 pub mod Whole

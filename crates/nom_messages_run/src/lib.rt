@@ -1,8 +1,11 @@
 //! The engine of the program `nom_messages`.
 //!
-//! It makes the report on a file of messages, and the lines of messages that come one after another.
+//! It makes the report on a file of messages, the lines of messages that come one after another, and messages of
+//! lines that are typed.
 #![tactic(auto)]
 
 pub mod pipe;
 pub mod promises;
 pub mod report;
+pub mod typed;
+pub mod write;

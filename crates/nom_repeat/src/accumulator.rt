@@ -1,8 +1,9 @@
 //! Accumulators of items.
-ghost use Rattle.std.specs.Prelude.{◌≡◌, ◌+◌, ◌%◌, ◌^◌, ◌≤◌, ◌++◌, ◌∷◌, [], OnOk, OnErr, vec_len, vec_capacity};
+ghost use Rattle.std.specs.Prelude.{◌≡◌, ◌+◌, ◌%◌, ◌^◌, ◌<◌, ◌≤◌, ◌++◌, ◌∷◌, [], OnOk, OnErr, vec_len, vec_capacity};
 ghost use Rattle.nom_internal.specs.Prelude.{Built};
 ghost use Rattle.nom_repeat.specs.Accumulated.{PushesBoth, LacksRoom};
 
+use core::mem::replace_with;
 use nom_error::answer::OutOfMemory;
 use nom_error::mode::Mode;
 use std::alloc::Allocator;
@@ -60,11 +61,11 @@ impl<T: Drop, A: Allocator> Accumulator<T> for Vec<T, A> {
 
     #[inline(always)]
     fn push(&mut self, item: T) -> Result<(), OutOfMemory> {
-        let room = first_room(size_of_val(&item));
-        if room > LEAST_ROOM && self.len() == self.capacity() {
-            make_room(self, room);
+        if self.capacity() <= self.len() {
+            // The list is moved out and back. If it were passed by reference, it would lie in memory, even where it has room.
+            replace_with(self, first_room(size_of_val(&item)), larger)?;
         }
-        self.push(item)?;
+        self.push_reserved(item);
         Ok(())
     }
 }
@@ -103,18 +104,25 @@ fn first_room(item_size: usize) -> usize {
     }
 }
 
-/// Makes room for `room` items in an empty list.
+/// Makes room for another item in a full list.
 ///
-/// If there is no memory for it, nothing changes, and the push requests less.
-// Apart and cold, so that the test alone stands where items are pushed.
+/// An empty list gets room for `first` items if there is memory for them, and else for one.
+// Apart and cold, so that only the test stands where items are pushed.
 #[cold]
 #[inline(never)]
-fn make_room<T, A: Allocator>(list: &mut Vec<T, A>, room: usize)
-    ensures items { list.new.items ≡ list.old.items }
+fn larger<T, A: Allocator>(list: Vec<T, A>, first: usize) -> (Vec<T, A>, Result<(), OutOfMemory>)
+    ensures items { result.0.items ≡ list.items }
+    ensures room { OnOk result.1 (vec_len result.0 < vec_capacity result.0) }
 {
-    if list.is_empty() {
-        let _ = list.reserve(room);
+    let mut list = list;
+    if first > LEAST_ROOM && list.is_empty() {
+        let _ = list.reserve(first);
     }
+    let made = match list.reserve(1) {
+        Ok(()) => Ok(()),
+        Err(_) => Err(OutOfMemory),
+    };
+    (list, made)
 }
 
 /// Pushes an item if outputs are built.

@@ -1,36 +1,27 @@
--- Forms of whole numbers in decimal digits.
-use Rattle.std.specs.Prelude.{◌≡◌, ℕ, ◌<◌, Bool, true, ◌⊎◌, List, [], ◌∷◌, length, ℤ, pos, ◌<ℤ◌}
-use Rattle.std.specs.List.{All}
+-- Forms of integers in decimal digits.
+use Rattle.std.specs.Prelude.{◌≡◌, ℕ, ◌<◌, Bool, true, false, ◌⊎◌, List, ℤ, pos, ◌<ℤ◌}
+use Rattle.nom_character_integer.specs.Integers.{with_sign}
 use Rattle.nom_internal.specs.Prelude.{is_dec_digit_code}
-use Rattle.nom_character_integer.specs.Integers.{decimal_number}
-use Rattle.nom_write.specs.declared.error.WriteError.{WriteError}
-use Rattle.nom_write.specs.declared.error.WriteError.TheVariants.{Mismatch}
-use Rattle.nom_write.specs.Written.{LacksRoom, Space}
+use Rattle.nom_sink.specs.declared.error.WriteError.{WriteError}
+use Rattle.nom_sink.specs.declared.error.WriteError.TheVariants.{Mismatch}
+use Rattle.nom_sink.specs.Numerals.{IsSigned, LacksSigned}
+use Rattle.nom_sink.specs.Written.{Space}
 
 -- the code of a decimal digit, or another
 abbrev pub IsDigit : ℕ → Bool → Type 0
 IsDigit x b = is_dec_digit_code x ≡ b
 
--- the digits that write a number, with no zero before them: 48 is '0'
-pub record AreDigitsOf (n : ℕ) (xs : List ℕ) : Type 0 where
-  pub digits : All (λ x. IsDigit x true) xs
-  pub some : 0 < length xs
-  pub number : decimal_number (λ x. x) xs ≡ n
-  pub none_before : 0 < n → (ys : List ℕ) → xs ≡ 48 ∷ ys → ⊥
-  pub alone : n ≡ 0 → xs ≡ 48 ∷ []
-
--- there is no room for the digits
-abbrev pub LacksDigits : ℕ → Space → WriteError → Type 0
-LacksDigits n s e = (xs : List ℕ) × AreDigitsOf n xs × LacksRoom (length xs) s e
-
-module _ {T : Type 0} (value : T → ℤ) (fits : ℤ → Type 0) where
-  -- the digits of a number that its type has
+module _ {T : Type 0} (signed : Bool) (value : T → ℤ) (fits : ℤ → Type 0) where
+  -- the digits of a number that its type has, after a minus if it is negative and a sign may stand first
   pub record IsDecimal (v : T) (xs : List ℕ) : Type 0 where
+    pub negative : Bool
     pub whole : ℕ
-    pub value_is : value v ≡ pos whole
-    pub fitting : fits (pos whole)
-    pub digits : AreDigitsOf whole xs
+    pub value_is : value v ≡ with_sign negative whole
+    pub fitting : fits (with_sign negative whole)
+    pub minus : negative ≡ true → (signed ≡ true) × (0 < whole)
+    pub written : IsSigned negative whole xs
 
--- it is negative, or there is no room for its digits
-abbrev pub DecimalFails : {T : Type 0} → (T → ℤ) → T → Space → WriteError → Type 0
-DecimalFails value v s e = ((value v <ℤ pos 0) × (e ≡ Mismatch s.start)) ⊎ ((n : ℕ) × (value v ≡ pos n) × LacksDigits n s e)
+-- it is negative and no sign may stand first, or there is no room for what writes it
+abbrev pub DecimalFails : {T : Type 0} → Bool → (T → ℤ) → T → Space → WriteError → Type 0
+DecimalFails signed value v s e = ((signed ≡ false) × (value v <ℤ pos 0) × (e ≡ Mismatch s.start)) ⊎
+    ((negative : Bool) × (n : ℕ) × (value v ≡ with_sign negative n) × (negative ≡ true → signed ≡ true) × LacksSigned negative n s e)

@@ -1,8 +1,8 @@
 -- Forms of a number that is a size.
 use Rattle.std.specs.Prelude.{◌≡◌, ℕ, List, ◌⊎◌}
-use Rattle.nom_write.specs.declared.error.WriteError.{WriteError}
-use Rattle.nom_write.specs.declared.error.WriteError.TheVariants.{TooLong}
-use Rattle.nom_write.specs.Written.{Space}
+use Rattle.nom_sink.specs.declared.error.WriteError.{WriteError}
+use Rattle.nom_sink.specs.declared.error.WriteError.TheVariants.{TooLong}
+use Rattle.nom_sink.specs.Written.{Space}
 
 -- a form of a number of that size
 abbrev pub FormOfSize : {O : Type 0} → (O → ℕ) → (O → List ℕ → Type 0) → ℕ → List ℕ → Type 0

@@ -1,14 +1,9 @@
 pub mod Choices
 pub mod Decimals
-pub mod Digits
 pub mod Leads
 pub mod Lengths
-pub mod Lists
 pub mod Options
-pub mod Parts
 pub mod Reads
 pub mod Runs
 pub mod Separated
-pub mod Slices
-pub mod Written
 pub mod laws

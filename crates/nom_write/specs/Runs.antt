@@ -3,10 +3,10 @@ use Rattle.std.specs.Prelude.{◌≡◌, ℕ, ◌<◌, ◌≤◌, Bool, true, fa
 use Rattle.std.specs.List.{All}
 use Rattle.nom_internal.specs.Prelude.{EndsAt, Model}
 use Rattle.nom_bytes.specs.ParsedRuns.{IsWithin}
-use Rattle.nom_write.specs.declared.error.WriteError.{WriteError}
-use Rattle.nom_write.specs.declared.error.WriteError.TheVariants.{Mismatch}
+use Rattle.nom_sink.specs.declared.error.WriteError.{WriteError}
+use Rattle.nom_sink.specs.declared.error.WriteError.TheVariants.{Mismatch}
 use Rattle.nom_write.specs.Reads.{Holds}
-use Rattle.nom_write.specs.Written.{LacksRoom, Space}
+use Rattle.nom_sink.specs.Written.{LacksRoom, Space}
 
 -- it begins with an item that fails the test
 pub record BeginsOther {A : Type 0} (Test : A → Bool → Type 0) (rest : List A) : Type 0 where

@@ -1,11 +1,14 @@
 pub mod ChoiceReads
 pub mod DecimalReads
+pub mod HexReads
 pub mod LeadLaws
 pub mod LeafReads
 pub mod LengthReads
 pub mod ListReads
 pub mod OutputReads
+pub mod PermutationReads
 pub mod RunReads
 pub mod SequenceReads
 pub mod WholeReads
 pub mod SeparatedReads
+pub mod TillReads

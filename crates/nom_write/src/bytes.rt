@@ -1,21 +1,21 @@
-//! Tags, and pieces of a length that is given.
+//! Tags, and slices of a given length.
 ghost use Rattle.std.specs.Prelude.{◌≡◌, ◌⊎◌, length};
 ghost use Rattle.nom_internal.specs.Prelude.{bytes_model};
 ghost use Rattle.nom_write.specs.Leads.{lead_of};
 ghost use Rattle.nom_write.specs.laws.LeadLaws.{fixed_leads, no_lead, tag_refuses_others};
 ghost use Rattle.nom_write.specs.Reads.{Holds};
-ghost use Rattle.nom_write.specs.Written.{LacksRoom};
-ghost use Rattle.nom_write.specs.declared.error.WriteError.{WriteError};
+ghost use Rattle.nom_sink.specs.Written.{LacksRoom};
+ghost use Rattle.nom_sink.specs.declared.error.WriteError.{WriteError};
 
-use crate::error::WriteError;
 use crate::length::ByteInput;
-use crate::sink::Sink;
 use crate::writer::{Constant, Writer};
 use nom_bytes::{Tag, Take};
 use nom_error::value::ParseError;
+use nom_sink::error::WriteError;
+use nom_sink::sink::Sink;
 use nom_traits::input::Items;
 
-/// Of the tag itself alone: another value is a mismatch.
+/// Writes the tag, if the value is equal to it. Any other value is a mismatch.
 impl<'a, 'b, E: ParseError<&'a [u8]>> Writer<&'a [u8]> for Tag<&'b [u8], &'a [u8], E> {
     ghost use Rattle.nom_write.specs.laws.LeafReads.{tag_reads};
 
@@ -56,7 +56,7 @@ impl<'a, 'b, E: ParseError<&'a [u8]>> Constant<&'a [u8]> for Tag<&'b [u8], &'a [
     ghost others = { λ p. tag_refuses_others E.errors p.tag.now };
 }
 
-/// Bytes of that length; others are a mismatch.
+/// Writes exactly as many bytes as the parser takes. A slice of another length is a mismatch.
 impl<I: ByteInput, E: ParseError<I>> Writer<I> for Take<I, E> {
     ghost use Rattle.nom_write.specs.laws.LeafReads.{take_value_reads};
 

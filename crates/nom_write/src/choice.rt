@@ -1,45 +1,22 @@
-//! Choices: a form of the first branch, or where that can't write a value one of the next.
+//! Choices. The first branch that can write a value writes it.
 ghost use Rattle.nom_write.specs.Leads.{AreApart, either_lead};
 ghost use Rattle.nom_write.specs.laws.LeadLaws.{alt_leads, differ_apart, either_leads, leads_regrouped};
-ghost use Rattle.nom_write.specs.Choices.{Either, EitherFails};
+ghost use Rattle.nom_sink.specs.Choices.{Either, EitherFails};
 ghost use Rattle.nom_write.specs.laws.ChoiceReads.{alt_reads, either_apart, either_reads, either_regrouped};
 
-use crate::error::WriteError;
-use crate::piece::{OneValue, Piece};
-use crate::sink::Sink;
+use crate::piece::OneValue;
 use crate::writer::Writer;
 use nom_branch::Choice;
 use nom_internal::either::Or;
+use nom_sink::error::WriteError;
+use nom_sink::piece::{FirstFit, Piece};
+use nom_sink::sink::Sink;
 use nom_traits::input::Items;
 use std::marker::PhantomData;
 
-/// The first, or where it can't be written the second.
-#[derive(Drop)]
-struct FirstFit<F, G>(F, G);
-
-impl<F: Piece, G: Piece> Piece for FirstFit<F, G> {
-    ghost Form = { λ o. Either (F.Form o.0) (F.Fails o.0) (G.Form o.1) };
-
-    ghost Fails = { λ o. EitherFails (F.Fails o.0) (G.Fails o.1) };
-
-    ghost CanPut = { λ o. F.CanPut o.0 × G.CanPut o.1 };
-
-    #[inline]
-    fn put<S: Sink>(&self, out: &mut S) -> Result<(), WriteError> {
-        match self.0.put(out) {
-            Ok(()) => Ok(()),
-            Err(error) => {
-                if error.is_unfit() {
-                    self.1.put(out)
-                } else {
-                    Err(error)
-                }
-            }
-        }
-    }
-}
-
-/// By the first part, or where that can't write the value by the second. What the second writes the first refuses.
+/// Writes by the first part, or by the second if the value is unfit for the first.
+///
+/// The first part must refuse what the second writes.
 impl<
     I: Items<Item = u8>,
     F: Writer<I> + Drop,

@@ -1,29 +1,30 @@
-//! What stands after a length.
-ghost use Rattle.std.specs.Prelude.{◌≡◌, ◌<◌, ◌≤◌, ℕ, false, List, MatchOption, length};
+//! Parts after their length.
+ghost use Rattle.std.specs.Prelude.{◌≡◌, ◌<◌, ◌≤◌, ℕ, false, List, [], MatchOption, length};
 ghost use Rattle.nom_write.specs.laws.LeadLaws.{no_lead};
-ghost use Rattle.nom_write.specs.Lists.{Each, EachFail, ItemFails, ItemForm};
-ghost use Rattle.nom_write.specs.Parts.{Both, BothFail};
+ghost use Rattle.nom_sink.specs.Lists.{Each, EachFail, ItemFails, ItemForm};
+ghost use Rattle.nom_sink.specs.Parts.{AfterLength, AfterLengthFails, Both, BothFail};
 ghost use Rattle.nom_write.specs.Reads.{Holds};
 ghost use Rattle.nom_write.specs.Lengths.{FormOfSize, SizeFails};
-ghost use Rattle.nom_write.specs.Written.{LacksRoom, Space};
+ghost use Rattle.nom_sink.specs.Written.{LacksRoom, Space};
 
-use crate::error::WriteError;
-use crate::list::Listed;
-use crate::piece::{InTurn, Piece, Plain};
-use crate::sink::Sink;
+use crate::piece::{EachValue, OneValue};
 use crate::writer::Writer;
-use nom_multi_length::{LengthCount, LengthData};
+use nom_multi_length::{LengthCount, LengthData, LengthValue};
+use nom_sink::error::WriteError;
+use nom_sink::items::{EachOf, Measured, PutItem};
+use nom_sink::piece::{InTurn, Piece, Plain};
+use nom_sink::sink::Sink;
 use nom_traits::convert::ToUsize;
 use nom_traits::input::{Input, Items};
 use std::alloc::Allocator;
 use std::marker::PhantomData;
 
-/// A whole number that can be made of a size.
+/// A number type that holds sizes.
 pub trait OfSize: ToUsize {
-    /// Which sizes it can't hold.
+    /// The sizes that it can't hold.
     ghost Exceeds: { ℕ → Type 0 };
 
-    /// The number of that size, if it can hold it.
+    /// Returns the number that stands for `size`, or `None` if the type can't hold it.
     fn of_size(size: usize) -> Option<Self>
         ensures { MatchOption result (Exceeds size) (λ n. Self.size n ≡ size) };
 }
@@ -81,14 +82,17 @@ impl OfSize for usize {
     }
 }
 
-/// An input that is bytes and no more, so that each of its rests and fronts is told by its bytes.
+/// An input that consists of bytes alone. Its fronts and rests are known by their bytes.
 pub trait ByteInput: Input<Item = u8> {
-    /// The bytes.
+    /// Returns the bytes.
     fn as_bytes(&self) -> &[u8]
         ensures { result.now ≡ Self.model.elements self.now };
 
-    /// All marks are one.
+    /// There is one mark.
     ghost one_mark: { (m n : Self.model.Mark) → m ≡ n };
+
+    /// Each byte has a length of 1.
+    ghost one_each: { (b : ℕ) → Self.model.item_len b ≡ 1 };
 }
 
 impl ByteInput for &[u8] {
@@ -100,6 +104,8 @@ impl ByteInput for &[u8] {
     }
 
     ghost one_mark = { λ m n. refl };
+
+    ghost one_each = { λ b. refl };
 }
 
 /// A number of that size, by its writer.
@@ -122,7 +128,7 @@ impl<'a, I: Items<Item = u8>, F: Writer<I, Output: OfSize>> Piece for SizeOf<'a,
     }
 }
 
-/// The length of the data, and the data.
+/// Writes the length of the data, and the data. A length that its number can't hold is `TooLong`.
 impl<I: ByteInput, F: Writer<I, Output: OfSize> + Drop> Writer<I> for LengthData<F> {
     ghost use Rattle.nom_write.specs.laws.LengthReads.{length_data_reads};
 
@@ -149,7 +155,59 @@ impl<I: ByteInput, F: Writer<I, Output: OfSize> + Drop> Writer<I> for LengthData
     ghost leads = { λ p. no_lead };
 }
 
-/// The number of the values, and each of them.
+/// A number of a given size, by its writer.
+#[derive(Drop)]
+struct EachSize<'a, I: Items<Item = u8>, F: Writer<I, Output: OfSize>>(&'a F, PhantomData<I>);
+
+impl<'a, I: Items<Item = u8>, F: Writer<I, Output: OfSize>> PutItem for EachSize<'a, I, F> {
+    type Item = usize;
+
+    ghost Form = { λ o. FormOfSize F.Output.size (F.Form o.0.now) };
+
+    ghost Fails = { λ o. SizeFails F.Output.size F.Output.Exceeds (F.Fails o.0.now) };
+
+    ghost CanPut = { λ o. F.CanWrite o.0.now };
+
+    #[inline(always)]
+    fn put_item<S: Sink>(&self, item: &usize, out: &mut S) -> Result<(), WriteError> {
+        SizeOf::<I, F>(self.0, *item, PhantomData).put(out)
+    }
+}
+
+/// Writes the length of the part's form, and that form. A length that its number can't hold is `TooLong`.
+///
+/// The part must read its form back at the end of an input. A place within the part is counted without the length.
+impl<
+    I: ByteInput,
+    F: Writer<I, Output: OfSize> + Drop,
+    G: Writer<I, Error = F::Error> + Drop,
+> Writer<I> for LengthValue<F, G> {
+    ghost use Rattle.nom_write.specs.laws.LengthReads.{length_value_reads};
+
+    ghost Form = { λ p v. AfterLength (FormOfSize F.Output.size (F.Form p.length)) (G.Form p.parser v) };
+
+    ghost Fails = { λ p v. AfterLengthFails (SizeFails F.Output.size F.Output.Exceeds (F.Fails p.length)) (G.Form p.parser v)
+        (G.Fails p.parser v) };
+
+    ghost CanWrite = { λ p. (F.CanWrite p.length × G.CanWrite p.parser) × ((rest : List ℕ) → F.MayFollow p.length rest) ×
+        G.MayFollow p.parser [] };
+
+    #[inline]
+    fn write<S: Sink>(&self, value: &G::Output, out: &mut S) -> Result<(), WriteError> {
+        Measured(
+            EachSize::<I, F>(&self.length, PhantomData),
+            OneValue::<I, G>(&self.parser, value, PhantomData),
+        )
+        .put(out)
+    }
+
+    ghost reads = { λ p k c. length_value_reads I.lawful F.Error.errors F.Output.size k.1.1 c.1 (F.reads p.length k.0 c.0.0) I.one_each c.2
+        (G.reads p.parser k.1.0 c.0.1) };
+
+    ghost leads = { λ p. no_lead };
+}
+
+/// Writes the number of the values, and each of them. A number that its field can't hold is `TooLong`.
 impl<
     I: Items<Item = u8>,
     M: Allocator + Copy,
@@ -172,7 +230,7 @@ impl<
         let values = value.as_slice();
         InTurn(
             SizeOf::<I, F>(&self.length, values.len(), PhantomData),
-            Listed::<I, G>(&self.parser, values, PhantomData),
+            EachOf(EachValue::<I, G>(&self.parser, PhantomData), values, false),
         )
         .put(out)
     }

@@ -1,94 +1,26 @@
-//! Lists.
+//! Lists without a separator.
 ghost use Rattle.std.specs.Prelude.{◌≡◌, ◌≤◌, ◌⊎◌, ℕ, true, false, List, length};
+ghost use Rattle.nom_sink.specs.Parts.{Both, BothFail};
+ghost use Rattle.nom_write.specs.Leads.{AreApart};
 ghost use Rattle.nom_write.specs.laws.LeadLaws.{no_lead};
-ghost use Rattle.nom_write.specs.Lists.{Each, EachFail, ItemFails, ItemForm};
+ghost use Rattle.nom_sink.specs.Lists.{Each, EachFail, ItemFails, ItemForm};
 ghost use Rattle.nom_write.specs.Reads.{NoItem};
-ghost use Rattle.nom_write.specs.Written.{Space, Written};
-ghost use Rattle.nom_write.specs.declared.error.WriteError.{WriteError};
+ghost use Rattle.nom_write.specs.Separated.{SomeFails, SomeForm};
+ghost use Rattle.nom_sink.specs.Written.{Space, Written};
+ghost use Rattle.nom_sink.specs.declared.error.WriteError.{WriteError};
 
-use crate::error::WriteError;
-use crate::piece::Piece;
-use crate::sink::Sink;
+use crate::piece::{EachValue, OneValue};
 use crate::writer::Writer;
-use nom_multi::{Count, Many0};
+use nom_multi::{Count, Many0, Many1, ManyTill};
+use nom_sink::error::WriteError;
+use nom_sink::items::{EachOf, put_each};
+use nom_sink::piece::{InTurn, Piece};
+use nom_sink::sink::Sink;
 use nom_traits::input::{Input, Items};
 use std::alloc::Allocator;
 use std::marker::PhantomData;
 
-/// Adds a form of an item; where `some`, an empty one is a mismatch. On an error `out` holds what it did.
-#[inline(always)]
-fn write_item<I: Items<Item = u8>, G: Writer<I>, S: Sink>(
-    parser: &G,
-    value: &G::Output,
-    some: bool,
-    out: &mut S,
-) -> Result<(), WriteError>
-    requires { G.CanWrite parser.now }
-    ensures written { Written (ItemForm some (G.Form parser.now) value.now) (ItemFails some (G.Form parser.now)
-        (G.Fails parser.now) value.now) S.model out.old out.new result }
-    ensures room { S.model.room out.old ≤ S.model.room out.new }
-{
-    let start = out.len();
-    match parser.write(value, out) {
-        Ok(()) => {
-            if some && out.len() == start {
-                Err(WriteError::Mismatch(start))
-            } else {
-                Ok(())
-            }
-        }
-        Err(error) => Err(error),
-    }
-}
-
-/// Adds a form of each item, in turn; where `some`, an empty one is a mismatch. On an error `out` holds what it did.
-#[inline]
-pub(crate) fn write_each<I: Items<Item = u8>, G: Writer<I>, S: Sink>(
-    parser: &G,
-    values: &[G::Output],
-    some: bool,
-    out: &mut S,
-) -> Result<(), WriteError>
-    requires { G.CanWrite parser.now }
-    ensures written { Written (Each (ItemForm some (G.Form parser.now)) values.now)
-        (EachFail (ItemForm some (G.Form parser.now)) (ItemFails some (G.Form parser.now) (G.Fails parser.now)) values.now) S.model out.old out.new result }
-    ensures room { S.model.room out.old ≤ S.model.room out.new }
-{
-    let start = out.len();
-    for value in values {
-        match write_item::<I, G, S>(parser, value, some, out) {
-            Ok(()) => {}
-            Err(error) => {
-                out.truncate(start);
-                return Err(error);
-            }
-        }
-    }
-    Ok(())
-}
-
-/// Each item of a slice, in turn, by one writer.
-#[derive(Drop)]
-pub(crate) struct Listed<'a, I: Items<Item = u8>, G: Writer<I>>(
-    pub &'a G,
-    pub &'a [G::Output],
-    pub PhantomData<I>,
-);
-
-impl<'a, I: Items<Item = u8>, G: Writer<I>> Piece for Listed<'a, I, G> {
-    ghost Form = { λ o. Each (ItemForm false (G.Form o.0.now)) o.1.now };
-
-    ghost Fails = { λ o. EachFail (ItemForm false (G.Form o.0.now)) (ItemFails false (G.Form o.0.now) (G.Fails o.0.now)) o.1.now };
-
-    ghost CanPut = { λ o. G.CanWrite o.0.now };
-
-    #[inline(always)]
-    fn put<S: Sink>(&self, out: &mut S) -> Result<(), WriteError> {
-        write_each::<I, G, S>(self.0, self.1, false, out)
-    }
-}
-
-/// Each of the values, whose forms aren't empty. What follows begins with no item.
+/// Writes each value. A value with an empty form is a mismatch. No item may follow.
 impl<I: Input<Item = u8>, M: Allocator + Copy, G: Writer<I> + Drop> Writer<I> for Many0<M, G> {
     ghost use Rattle.nom_write.specs.laws.ListReads.{many0_reads};
 
@@ -102,7 +34,12 @@ impl<I: Input<Item = u8>, M: Allocator + Copy, G: Writer<I> + Drop> Writer<I> fo
 
     #[inline]
     fn write<S: Sink>(&self, value: &Vec<G::Output, M>, out: &mut S) -> Result<(), WriteError> {
-        write_each::<I, G, S>(&self.parser, value.as_slice(), true, out)
+        put_each(
+            &EachValue::<I, G>(&self.parser, PhantomData),
+            value.as_slice(),
+            true,
+            out,
+        )
     }
 
     ghost reads = { λ p k c. many0_reads I.lawful G.Error.errors c.1 (G.reads p.parser k c.0) };
@@ -110,7 +47,36 @@ impl<I: Input<Item = u8>, M: Allocator + Copy, G: Writer<I> + Drop> Writer<I> fo
     ghost leads = { λ p. no_lead };
 }
 
-/// Each of the values, if they are as many as the count says; else they are a mismatch.
+/// Writes each value, at least one. No values are a mismatch. So is a value with an empty form after the first. No item may follow.
+impl<I: Input<Item = u8>, M: Allocator + Copy, G: Writer<I> + Drop> Writer<I> for Many1<M, G> {
+    ghost use Rattle.nom_write.specs.laws.SeparatedReads.{many1_reads};
+
+    ghost Form = { λ p v. SomeForm (G.Form p.parser) (G.Form p.parser) v.items };
+
+    ghost Fails = { λ p v. SomeFails (G.Form p.parser) (G.Fails p.parser) (G.Form p.parser) (G.Fails p.parser) v.items };
+
+    ghost MayFollow = { λ p. NoItem I.model (G.grammar (G.state p.parser)).meaning };
+
+    ghost CanWrite = { λ p. G.CanWrite p.parser × ((rest : List ℕ) → G.MayFollow p.parser rest) };
+
+    #[inline]
+    fn write<S: Sink>(&self, value: &Vec<G::Output, M>, out: &mut S) -> Result<(), WriteError> {
+        match value.as_slice().split_first() {
+            None => Err(WriteError::Mismatch(out.len())),
+            Some((first, others)) => InTurn(
+                OneValue::<I, G>(&self.parser, first, PhantomData),
+                EachOf(EachValue::<I, G>(&self.parser, PhantomData), others, true),
+            )
+            .put(out),
+        }
+    }
+
+    ghost reads = { λ p k c. many1_reads I.lawful G.Error.errors c.1 (G.reads p.parser k.0 c.0) };
+
+    ghost leads = { λ p. no_lead };
+}
+
+/// Writes each value, if their number is the parser's count. Any other number is a mismatch.
 impl<I: Items<Item = u8>, M: Allocator + Copy, G: Writer<I> + Drop> Writer<I> for Count<M, G> {
     ghost use Rattle.nom_write.specs.laws.ListReads.{count_reads};
 
@@ -125,13 +91,60 @@ impl<I: Items<Item = u8>, M: Allocator + Copy, G: Writer<I> + Drop> Writer<I> fo
     fn write<S: Sink>(&self, value: &Vec<G::Output, M>, out: &mut S) -> Result<(), WriteError> {
         let values = value.as_slice();
         if values.len() == self.count {
-            write_each::<I, G, S>(&self.parser, values, false, out)
+            put_each(
+                &EachValue::<I, G>(&self.parser, PhantomData),
+                values,
+                false,
+                out,
+            )
         } else {
             Err(WriteError::Mismatch(out.len()))
         }
     }
 
     ghost reads = { λ p k c. count_reads I.lawful G.Error.errors c.1 (G.reads p.parser k c.0) p.count };
+
+    ghost leads = { λ p. no_lead };
+}
+
+/// Writes each value, and then the end. A value with an empty form is a mismatch. The end must refuse what an item begins with.
+impl<
+    I: Input<Item = u8>,
+    M: Allocator + Copy,
+    F: Writer<I> + Drop,
+    G: Writer<I, Error = F::Error> + Drop,
+> Writer<I> for ManyTill<M, F, G> {
+    ghost use Rattle.nom_write.specs.laws.TillReads.{end_apart, many_till_reads};
+
+    ghost Form = { λ p v. Both (Each (ItemForm true (F.Form p.parser)) v.0.items) (G.Form p.end v.1) };
+
+    ghost Fails = { λ p v. BothFail (Each (ItemForm true (F.Form p.parser)) v.0.items) (EachFail (ItemForm true (F.Form p.parser))
+        (ItemFails true (F.Form p.parser) (F.Fails p.parser)) v.0.items) (G.Fails p.end v.1) };
+
+    ghost MayFollow = { λ p. G.MayFollow p.end };
+
+    ghost CanWrite = { λ p. (F.CanWrite p.parser × G.CanWrite p.end) × ((rest : List ℕ) → F.MayFollow p.parser rest) ×
+        AreApart I.model (G.grammar (G.state p.end)) (G.Lead p.end) (F.Form p.parser) (F.Lead p.parser) };
+
+    #[inline]
+    fn write<S: Sink>(
+        &self,
+        value: &(Vec<F::Output, M>, G::Output),
+        out: &mut S,
+    ) -> Result<(), WriteError> {
+        InTurn(
+            EachOf(
+                EachValue::<I, F>(&self.parser, PhantomData),
+                value.0.as_slice(),
+                true,
+            ),
+            OneValue::<I, G>(&self.end, &value.1, PhantomData),
+        )
+        .put(out)
+    }
+
+    ghost reads = { λ p k c. many_till_reads I.lawful F.Error.errors c.1 (end_apart (G.leads p.end) (F.leads p.parser) c.2)
+        (F.reads p.parser k.1 c.0.0) (G.reads p.end k.0 c.0.1) };
 
     ghost leads = { λ p. no_lead };
 }

@@ -1,32 +1,34 @@
-//! Maps, with a map back.
+//! Maps with a way back.
 ghost use Rattle.std.specs.Prelude.{◌≡◌, ◌⊎◌, Some, None};
 ghost use Rattle.nom_write.specs.laws.LeadLaws.{map_leads};
-ghost use Rattle.nom_write.specs.declared.error.WriteError.{WriteError};
+ghost use Rattle.nom_sink.specs.declared.error.WriteError.{WriteError};
 ghost use Rattle.std.specs.Borrow.{Bor};
 ghost use Rattle.std.specs.Fn.{FnReturnsAt};
 ghost use Rattle.nom_internal.specs.Prelude.{SeesAlike, map_by};
 ghost use Rattle.nom_internal.specs.laws.MappedLaws.{given_pinned, map_lawful, map_steady};
 ghost use Rattle.nom_write.specs.laws.ChoiceReads.{map_back_reads};
 
-use crate::error::WriteError;
-use crate::sink::Sink;
 use crate::writer::Writer;
 use nom_error::answer::PResult;
 use nom_error::mode::OutputMode;
 use nom_internal::map::Map;
 use nom_internal::parser::{Parser, StreamParser};
+use nom_sink::error::WriteError;
+use nom_sink::sink::Sink;
 use nom_traits::input::Items;
 use nom_traits::view::Viewed;
 
-/// A parser whose outputs a closure maps, with a closure that maps a value back; made by `map_both`.
+/// The parser that `map_both` returns.
 #[derive(Drop)]
 pub struct MapBoth<F, G, H> {
     pub map: Map<F, G>,
     pub back: H,
 }
 
-/// Reads as `map(parser, to)`, and writes what `from` makes of a value; where that is none, as of another variant of an enum, the
-/// value is a mismatch. That `to` gives the value for it again has to be proved where a value is written.
+/// Parses like `map(parser, to)`, and writes what `from` returns for a value.
+///
+/// If `from` returns `None`, the value is a mismatch; so each branch for an enum takes its own variant. Callers of
+/// `write` must prove that `to` maps the result of `from` to the value.
 #[inline(always)]
 pub fn map_both<F, G, H>(parser: F, to: G, from: H) -> MapBoth<F, G, H>
     ensures { result ≡ record { map = record { parser = parser; map = to }; back = from } }
@@ -71,7 +73,7 @@ impl<I: Items, F: StreamParser<I> + Drop, O: Viewed + Drop, G: Fn(F::Output) -> 
     ghost steady = { λ s k. map_steady (F.steady s.0 k) };
 }
 
-/// What a closure maps a value back to.
+/// Returns what a closure maps a value back to.
 #[inline(always)]
 fn mapped_back<O, P, H: Fn(&O) -> Option<P>>(back: &H, value: &O) -> Option<P>
     requires callable { (p : Bor O) → p.now ≡ value.now → H.pre back.now p }
@@ -80,7 +82,7 @@ fn mapped_back<O, P, H: Fn(&O) -> Option<P>>(back: &H, value: &O) -> Option<P>
     back(value)
 }
 
-/// What the value is mapped back to, which must be mapped to the value again.
+/// Writes what the value is mapped back to.
 impl<
     I: Items<Item = u8>,
     F: Writer<I> + Drop,

@@ -1,20 +1,20 @@
-//! Values in the place of outputs, and outputs that pass a test.
+//! Fixed values, and outputs that pass a test.
 ghost use Rattle.std.specs.Prelude.{◌≡◌, ◌⊎◌, true, false, length};
 ghost use Rattle.std.specs.Borrow.{Bor};
 ghost use Rattle.std.specs.Fn.{FnReturnsAt};
 ghost use Rattle.nom_write.specs.Leads.{lead_of};
-ghost use Rattle.nom_write.specs.Written.{LacksRoom};
-ghost use Rattle.nom_write.specs.declared.error.WriteError.{WriteError};
+ghost use Rattle.nom_sink.specs.Written.{LacksRoom};
+ghost use Rattle.nom_sink.specs.declared.error.WriteError.{WriteError};
 ghost use Rattle.nom_write.specs.laws.OutputReads.{value_leads, value_reads, verify_leads, verify_reads};
 
-use crate::error::WriteError;
-use crate::sink::Sink;
 use crate::writer::{Constant, Writer};
 use nom_combinator::{Value, Verify};
+use nom_sink::error::WriteError;
+use nom_sink::sink::Sink;
 use nom_traits::input::Items;
 use nom_traits::view::Viewed;
 
-/// The part's bytes, for a value that is equal to the parser's; any other is a mismatch.
+/// Writes the part, if the value is equal to the parser's. Any other value is a mismatch.
 impl<I: Items<Item = u8>, O: Clone + PartialEq + Viewed, F: Constant<I> + Drop> Writer<I>
     for Value<O, F> {
     ghost Form = { λ p v xs. O.is_clone p.value v × (xs ≡ F.bytes p.parser) };
@@ -41,7 +41,7 @@ impl<I: Items<Item = u8>, O: Clone + PartialEq + Viewed, F: Constant<I> + Drop> 
         (F.bytes p.parser) (F.others p.parser) };
 }
 
-/// Whether a value passes a test.
+/// Returns whether a value passes a test.
 #[inline(always)]
 fn passes<O, G: Fn(&O) -> bool>(test: &G, value: &O) -> bool
     requires callable { (p : Bor O) → p.now ≡ value.now → G.pre test.now p }
@@ -50,7 +50,7 @@ fn passes<O, G: Fn(&O) -> bool>(test: &G, value: &O) -> bool
     test(value)
 }
 
-/// The part's, for a value that passes the test; any other is a mismatch.
+/// Writes a value that passes the test. Any other value is a mismatch.
 impl<I: Items<Item = u8>, F: Writer<I> + Drop, G: Fn(&F::Output) -> bool> Writer<I>
     for Verify<F, G> {
     ghost Form = { λ p v xs. FnReturnsAt G.Fn p.test v true × F.Form p.parser v xs };

@@ -7,16 +7,17 @@ use crate::writer::Writer;
 use nom_error::answer::IResult;
 use nom_traits::input::Items;
 
-/// What is written of a value is read back, in either mode, on every input that begins with it and goes on as it may: exactly it
-/// is accepted, and what follows is the rest. The output is equal to the value as viewed, where the parser pins. `OutOfMemory`
-/// aside. The function does nothing: its contract is the promise.
+/// Promises that each form of a value is read back, in both modes, on every input where something follows that may follow.
+///
+/// The parser accepts exactly the form, and the rest is what follows. The output is equal to the value by its view, if the
+/// parser pins. Or the answer is `OutOfMemory`. The function does nothing; its contract is the promise.
 pub fn reads_back<I: Items<Item = u8>, P: Writer<I>>(_parser: &P)
     requires sound { (P.grammar (P.state _parser.now)).meaning.IsSound }
     requires can { P.CanWrite _parser.now }
     ensures { ReadsBack I.model P.Output.view (P.Pins _parser.now) (P.grammar (P.state _parser.now)) (P.Form _parser.now) (P.MayFollow _parser.now) }
 {}
 
-/// What `parse` answers: on an input that begins with what was written of a value that value, as viewed, and what follows.
+/// Parses like `parse`. On an input that begins with a form of a value, it returns that value, and what follows.
 pub fn parse_back<I: Items<Item = u8>, P: Writer<I>>(
     parser: &mut P,
     input: I,

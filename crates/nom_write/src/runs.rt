@@ -1,27 +1,27 @@
-//! Runs of bytes that meet a test. What follows begins with a byte that doesn't meet it.
+//! Runs of bytes that pass a test. A byte that doesn't pass it must follow.
 ghost use Rattle.std.specs.Prelude.{◌≤◌, ◌<◌, None, Some, MatchBool};
 ghost use Rattle.nom_error.specs.declared.kind.ErrorKind.TheVariants as Kind;
 ghost use Rattle.nom_traits.specs.declared.character.AsciiClass.TheVariants as Class;
 ghost use Rattle.nom_bytes.specs.laws.RunLaws.{run_lawful};
 ghost use Rattle.nom_character.specs.ClassRuns.{IsOf, class_lawful, least_of, wanted_error, wanted_grows};
 ghost use Rattle.nom_write.specs.Runs.{BeginsOther, IsNoRun, IsRunForm, RunFails};
-ghost use Rattle.nom_write.specs.Written.{Written};
+ghost use Rattle.nom_sink.specs.Written.{Written};
 ghost use Rattle.nom_write.specs.laws.LeadLaws.{no_lead};
 ghost use Rattle.nom_write.specs.laws.RunReads.{premised_reads, run_reads};
 ghost use Rattle.nom_traits.specs.declared.character.AsciiClass.{AsciiClass};
 
-use crate::error::WriteError;
 use crate::length::ByteInput;
-use crate::sink::Sink;
 use crate::writer::Writer;
 use nom_bytes::predicate::Predicate;
 use nom_bytes::{SplitPosition, SplitPosition1, TakeWhileMN};
 use nom_character::{ClassRun, Digit1};
 use nom_error::value::ParseError;
+use nom_sink::error::WriteError;
+use nom_sink::sink::Sink;
 use nom_traits::character::AsciiClass;
 use nom_traits::input::Input;
 
-/// Whether the bytes all meet a test, and are as many as are wanted.
+/// Returns whether all bytes pass a test, and their number is within the bounds.
 #[inline]
 fn is_run<I: ByteInput, P: Predicate<u8>>(
     predicate: &P,
@@ -49,7 +49,7 @@ fn is_run<I: ByteInput, P: Predicate<u8>>(
     }
 }
 
-/// Adds bytes that all meet a test, if they are as many as are wanted; others are a mismatch. On an error `out` holds what it did.
+/// Adds bytes that all pass a test, and whose number is within the bounds. Others are a mismatch. On an error, `out` is as it was.
 #[inline]
 fn write_run<I: ByteInput, P: Predicate<u8>, S: Sink>(
     predicate: &P,
@@ -70,7 +70,7 @@ fn write_run<I: ByteInput, P: Predicate<u8>, S: Sink>(
     }
 }
 
-/// Bytes that all meet the test.
+/// Writes bytes that all pass the test. Others are a mismatch.
 impl<I: ByteInput, P: Predicate<u8>, E: ParseError<I>> Writer<I> for SplitPosition<P, I, E> {
     ghost Form = { λ p. IsRunForm I.model (P.answers (P.state p.predicate)) 0 None };
 
@@ -93,7 +93,7 @@ impl<I: ByteInput, P: Predicate<u8>, E: ParseError<I>> Writer<I> for SplitPositi
     ghost leads = { λ p. no_lead };
 }
 
-/// Bytes that all meet the test, one at least.
+/// Writes bytes that all pass the test, at least one. Others are a mismatch.
 impl<I: ByteInput, P: Predicate<u8>, E: ParseError<I>> Writer<I> for SplitPosition1<P, I, E> {
     ghost Form = { λ p. IsRunForm I.model (P.answers (P.state p.predicate)) 1 None };
 
@@ -116,7 +116,7 @@ impl<I: ByteInput, P: Predicate<u8>, E: ParseError<I>> Writer<I> for SplitPositi
     ghost leads = { λ p. no_lead };
 }
 
-/// Bytes that all meet the test, as many as the bounds say.
+/// Writes bytes that all pass the test, if their number is within the bounds. Others are a mismatch.
 impl<I: ByteInput, P: Predicate<u8>, E: ParseError<I>> Writer<I> for TakeWhileMN<P, I, E> {
     ghost Form = { λ p. IsRunForm I.model (P.answers (P.state p.predicate)) p.m (Some p.n) };
 
@@ -139,7 +139,7 @@ impl<I: ByteInput, P: Predicate<u8>, E: ParseError<I>> Writer<I> for TakeWhileMN
     ghost leads = { λ p. no_lead };
 }
 
-/// The bytes of a class.
+/// A class of bytes, as a test.
 #[derive(Drop)]
 struct OfClass {
     class: AsciiClass,
@@ -169,7 +169,7 @@ impl Predicate<u8> for OfClass {
     ghost fixed = { λ class h x v meets fails. cc (meets, fails) };
 }
 
-/// Bytes of the class, one at least where the parser wants one.
+/// Writes bytes of the class, at least one if the parser requires one. Others are a mismatch.
 impl<I: ByteInput, E: ParseError<I>> Writer<I> for ClassRun<I, E> {
     ghost Form = { λ p. IsRunForm I.model (IsOf (λ x. x) p.class) (least_of p.wanted) None };
 
@@ -192,7 +192,7 @@ impl<I: ByteInput, E: ParseError<I>> Writer<I> for ClassRun<I, E> {
     ghost leads = { λ p. no_lead };
 }
 
-/// Decimal digits, one at least.
+/// Writes decimal digits, at least one. Other bytes are a mismatch.
 impl<I: ByteInput, E: ParseError<I>> Writer<I> for Digit1<I, E> {
     ghost Form = { λ p. IsRunForm I.model (IsOf (λ x. x) Class.Digit) 1 None };
 

@@ -2,19 +2,21 @@
 ghost use Rattle.std.specs.Prelude.{◌≡◌, ℕ, List, ◌++◌, length};
 ghost use Rattle.nom_write.specs.Leads.{lead_of};
 ghost use Rattle.nom_write.specs.laws.LeadLaws.{both_leads, pair_leads, preceded_leads, terminated_leads};
-ghost use Rattle.nom_write.specs.Written.{LacksRoom};
-ghost use Rattle.nom_write.specs.Parts.{Both, BothFail, Meets};
+ghost use Rattle.nom_sink.specs.Written.{LacksRoom};
+ghost use Rattle.nom_sink.specs.Parts.{Both, BothFail, Meets};
 ghost use Rattle.nom_write.specs.laws.SequenceReads.{pair_reads, preceded_reads, terminated_reads};
 
-use crate::error::WriteError;
-use crate::piece::{Fixed, InTurn, OneValue, Piece};
-use crate::sink::Sink;
+use crate::piece::{Fixed, OneValue};
 use crate::writer::{Constant, Writer};
 use nom_internal::sequence::And;
 use nom_sequence::{Preceded, Terminated};
+use nom_sink::error::WriteError;
+use nom_sink::piece::{InTurn, Piece};
+use nom_sink::sink::Sink;
 use nom_traits::input::Items;
 use std::marker::PhantomData;
 
+/// Writes the first value, and then the second.
 impl<I: Items<Item = u8>, F: Writer<I> + Drop, G: Writer<I, Error = F::Error> + Drop> Writer<I>
     for And<F, G> {
     ghost Form = { λ p v. Both (F.Form p.first v.0) (G.Form p.second v.1) };
@@ -46,6 +48,7 @@ impl<I: Items<Item = u8>, F: Writer<I> + Drop, G: Writer<I, Error = F::Error> + 
     ghost leads = { λ p. both_leads (pair_leads (F.leads p.first) (G.grammar (G.state p.second))) };
 }
 
+/// Writes the constant, and then the value.
 impl<I: Items<Item = u8>, F: Constant<I> + Drop, G: Writer<I, Error = F::Error> + Drop> Writer<I>
     for Preceded<F, G> {
     ghost Form = { λ p v. Both (λ xs. xs ≡ F.bytes p.first) (G.Form p.second v) };
@@ -72,6 +75,7 @@ impl<I: Items<Item = u8>, F: Constant<I> + Drop, G: Writer<I, Error = F::Error> 
     ghost leads = { λ p. preceded_leads (F.grammar (F.state p.first)) (F.bytes p.first) (F.others p.first) };
 }
 
+/// Writes the value, and then the constant.
 impl<I: Items<Item = u8>, F: Writer<I> + Drop, G: Constant<I, Error = F::Error> + Drop> Writer<I>
     for Terminated<F, G> {
     ghost Form = { λ p v. Both (F.Form p.first v) (λ xs. xs ≡ G.bytes p.second) };

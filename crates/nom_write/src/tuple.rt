@@ -1,12 +1,13 @@
-//! Tuples of two to eight members, in sequence. A form of a tuple is one of its first member, and then one of the others.
+//! Tuples of two to eight members. A form is one of the first member, followed by one of the others.
 ghost use Rattle.nom_write.specs.laws.LeadLaws.{both_leads, pair_leads, tuple_leads};
-ghost use Rattle.nom_write.specs.Parts.{Both, BothFail, Meets};
+ghost use Rattle.nom_sink.specs.Parts.{Both, BothFail, Meets};
 ghost use Rattle.nom_write.specs.laws.SequenceReads.{pair_reads, regrouped, tuple_reads};
 
-use crate::error::WriteError;
-use crate::piece::{InTurn, OneValue, Piece};
-use crate::sink::Sink;
+use crate::piece::OneValue;
 use crate::writer::Writer;
+use nom_sink::error::WriteError;
+use nom_sink::piece::{InTurn, Piece};
+use nom_sink::sink::Sink;
 use nom_traits::input::Items;
 use std::marker::PhantomData;
 

@@ -1,17 +1,17 @@
-//! Options, refusals that are final, and errors with a name.
+//! Options, conditions, final refusals and errors with a name.
 ghost use Rattle.nom_write.specs.laws.LeadLaws.{context_leads, no_lead};
-ghost use Rattle.nom_write.specs.Options.{OptFails, OptForm};
+ghost use Rattle.nom_write.specs.Options.{CondFails, CondForm, OfPart, OptFails, OptForm};
 ghost use Rattle.nom_write.specs.Reads.{NoItem};
-ghost use Rattle.nom_write.specs.laws.ChoiceReads.{context_reads, cut_reads, opt_reads};
+ghost use Rattle.nom_write.specs.laws.ChoiceReads.{cond_reads, context_reads, cut_reads, opt_reads};
 
-use crate::error::WriteError;
-use crate::sink::Sink;
 use crate::writer::Writer;
-use nom_combinator::{Context, Cut, Opt};
+use nom_combinator::{Cond, Context, Cut, Opt};
 use nom_error::outside::ContextError;
+use nom_sink::error::WriteError;
+use nom_sink::sink::Sink;
 use nom_traits::input::Items;
 
-/// The part's.
+/// Writes as the part does.
 impl<I: Items<Item = u8>, F: Writer<I> + Drop> Writer<I> for Cut<F> {
     ghost Form = { λ p. F.Form p.parser };
 
@@ -31,7 +31,7 @@ impl<I: Items<Item = u8>, F: Writer<I> + Drop> Writer<I> for Cut<F> {
     ghost leads = { λ p. no_lead };
 }
 
-/// The value, or nothing. What follows begins with no item.
+/// Writes the value of `Some`, and nothing for `None`. No item may follow.
 impl<I: Items<Item = u8>, F: Writer<I> + Drop> Writer<I> for Opt<F> {
     ghost Form = { λ p. OptForm (F.Form p.parser) };
 
@@ -54,7 +54,37 @@ impl<I: Items<Item = u8>, F: Writer<I> + Drop> Writer<I> for Opt<F> {
     ghost leads = { λ p. no_lead };
 }
 
-/// The part's: a name is a matter of errors alone.
+/// If the parser runs, writes the value of `Some`; `None` is a mismatch. If it doesn't run, it is the other way round: `None` is
+/// written as nothing, and `Some` is a mismatch.
+impl<I: Items<Item = u8>, F: Writer<I> + Drop> Writer<I> for Cond<F> {
+    ghost Form = { λ p. CondForm F.Form p.parser };
+
+    ghost Fails = { λ p. CondFails F.Fails p.parser };
+
+    ghost MayFollow = { λ p rest. OfPart (λ f. F.MayFollow f rest) p.parser };
+
+    ghost CanWrite = { λ p. OfPart F.CanWrite p.parser };
+
+    #[inline]
+    fn write<S: Sink>(&self, value: &Option<F::Output>, out: &mut S) -> Result<(), WriteError> {
+        match &self.parser {
+            Some(parser) => match value {
+                Some(value) => parser.write(value, out),
+                None => Err(WriteError::Mismatch(out.len())),
+            },
+            None => match value {
+                Some(_) => Err(WriteError::Mismatch(out.len())),
+                None => Ok(()),
+            },
+        }
+    }
+
+    ghost reads = { λ p k c. cond_reads I.model F.state F.grammar F.Form F.MayFollow F.CanWrite F.reads p.parser k c };
+
+    ghost leads = { λ p. no_lead };
+}
+
+/// Writes as the part does.
 impl<I: Items<Item = u8>, F: Writer<I> + Drop> Writer<I> for Context<F>
 where
     F::Error: ContextError<I>,

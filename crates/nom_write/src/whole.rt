@@ -1,4 +1,4 @@
-//! What is read back of an input that is what was written, and no more.
+//! Whole inputs that are read back.
 ghost use Rattle.std.specs.Prelude.{◌≡◌, ℕ, false, List, []};
 ghost use Rattle.nom_internal.specs.Prelude.{Parses};
 ghost use Rattle.nom_combinator.specs.Ends.{all_consuming_of};
@@ -10,8 +10,9 @@ use nom_error::answer::IResult;
 use nom_internal::parser::Parser;
 use nom_traits::input::Input;
 
-/// What one `parse_complete` of `all_consuming` answers on what was written of a value, where that may stand at the end: the value, as
-/// viewed, and nothing is left. It answers as `parse_complete` does.
+/// Parses like `parse_complete`. On an input that is a form of a value, it returns that value, and an empty rest.
+///
+/// The form must be one that may end an input.
 pub fn parse_whole_back<I: Input<Item = u8>, P: Writer<I> + Drop>(
     parser: &mut AllConsuming<P>,
     input: I,

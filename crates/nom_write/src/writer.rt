@@ -1,61 +1,62 @@
-//! What a parser that also writes is.
+//! The traits of parsers that also write.
 ghost use Rattle.std.specs.Prelude.{Option, None, ◌≡◌, ◌≤◌, ℕ, List, length};
 ghost use Rattle.nom_write.specs.Leads.{Leads, RefusesOthers, lead_of};
 ghost use Rattle.nom_write.specs.Reads.{Reads, ReadsSome};
-ghost use Rattle.nom_write.specs.Written.{LacksRoom, Space, Written};
+ghost use Rattle.nom_sink.specs.Written.{LacksRoom, Space, Written};
 
-use crate::error::WriteError;
-use crate::sink::Sink;
 use nom_internal::parser::StreamParser;
+use nom_sink::error::WriteError;
+use nom_sink::sink::Sink;
 use nom_traits::input::Items;
 
-/// A parser of bytes that also writes: what it writes of a value, it reads back as that value.
+/// A parser of bytes that also writes. What it writes for a value, it reads back as that value.
 pub trait Writer<I: Items<Item = u8>>: StreamParser<I> {
-    ghost use Rattle.nom_write.specs.declared.error.WriteError.{WriteError};
+    ghost use Rattle.nom_sink.specs.declared.error.WriteError.{WriteError};
 
-    /// The bytes that stand for a value.
+    /// The bytes that stand for a value: its forms.
     ghost Form: { Self → Self.Output → List ℕ → Type 0 };
 
-    /// Why a value isn't written, where a sink holds so many bytes and has room for so many.
+    /// Why a value isn't written, by the length and the room of the sink.
     ghost Fails: { Self → Self.Output → Space → WriteError → Type 0 };
 
-    /// What may follow what stands for a value.
+    /// What may follow a form.
     ghost MayFollow: { Self → List ℕ → Type 0 } = { λ _ _. Unit {0} };
 
-    /// What must hold so that a value may be written: that what one part writes may follow the part before it.
+    /// What a caller of `write` must prove: that the form of each part may follow the part before it.
     ghost CanWrite: { Self → Type 0 } = { λ _. Unit {0} };
 
-    /// Bytes one of which each form begins with, if they are known of the parser alone. It refuses whatever begins with another, so
-    /// branches that begin with different bytes are told apart.
+    /// The bytes that forms begin with, if the parser alone determines them. The parser refuses any other first byte.
+    ///
+    /// Branches are kept apart if their bytes differ.
     ghost Lead: { Self → Option (List ℕ) } = { λ _. None };
 
-    /// Adds to `out` the bytes that stand for a value. On an error `out` holds what it did.
+    /// Adds a form of a value to `out`. On an error, `out` is as it was.
     fn write<S: Sink>(&self, value: &Self::Output, out: &mut S) -> Result<(), WriteError>
         requires { CanWrite self.now }
         ensures written { Written (Form self.now value.now) (Fails self.now value.now) S.model out.old out.new result }
         ensures room { S.model.room out.old ≤ S.model.room out.new };
 
-    /// What stands for a value is read back as it.
+    /// Each form of a value is read back as that value.
     ghost reads: { (p : Self) → (Self.grammar (Self.state p)).meaning.IsSound → CanWrite p → Reads I.model (Self.grammar (Self.state p))
         (Form p) (MayFollow p) };
 
-    /// Each form begins with one of the bytes, and what begins with another is refused.
+    /// Each form begins with one of the bytes of `Lead`, and any other first byte is refused.
     ghost leads: { (p : Self) → Leads I.model (Self.grammar (Self.state p)) (Form p) (Lead p) };
 }
 
-/// A parser of bytes that also writes without a value, for parts whose output is dropped.
+/// A parser of bytes that also writes without a value, as a tag does. Parts whose output is dropped must be constants.
 pub trait Constant<I: Items<Item = u8>>: StreamParser<I> {
     /// The bytes.
     ghost bytes: { Self → List ℕ };
 
-    /// Adds the bytes to `out`. On an error `out` holds what it did.
+    /// Adds the bytes to `out`. On an error, `out` is as it was.
     fn write_constant<S: Sink>(&self, out: &mut S) -> Result<(), WriteError>
         ensures written { Written (λ xs. xs ≡ bytes self.now) (LacksRoom (length (bytes self.now))) S.model out.old out.new result }
         ensures room { S.model.room out.old ≤ S.model.room out.new };
 
-    /// They are accepted, whatever follows.
+    /// The bytes are accepted, whatever follows.
     ghost accepts: { (p : Self) → (Self.grammar (Self.state p)).meaning.IsSound → ReadsSome I.model (Self.grammar (Self.state p)) (bytes p) };
 
-    /// What begins with another byte than they do is refused.
+    /// Any other first byte is refused.
     ghost others: { (p : Self) → RefusesOthers I.model (Self.grammar (Self.state p)).meaning (lead_of (bytes p)) };
 }

@@ -1,16 +1,13 @@
 -- One item is added to what is held.
-use Rattle.std.proofs.Common.{arith, ◌≡◌, ℕ, ◌+◌, ◌<◌, ◌≤◌, List, [], ◌∷◌, ◌++◌, length, None, refl, ap, subst, inl, inr}
+use Rattle.std.proofs.Common.{arith, ◌≡◌, ℕ, ◌+◌, ◌<◌, ◌≤◌, List, ◌++◌, length, None, refl, ap, subst, inl, inr}
 use Rattle.std.proofs.Common.{length-append}
 use Rattle.nom_internal.specs.Prelude.{AreValues}
-use Rattle.nom_write.specs.declared.error.WriteError.{WriteError}
-use Rattle.nom_write.specs.declared.error.WriteError.TheVariants as Write
-use Rattle.nom_write.specs.Written.{Space}
-use Rattle.nom_write.specs.Written.Lack.{OfSpace}
+use Rattle.nom_sink.specs.declared.error.WriteError.{WriteError}
+use Rattle.nom_sink.specs.declared.error.WriteError.TheVariants as Write
+use Rattle.nom_sink.specs.Written.{Space}
+use Rattle.nom_sink.specs.Written.Lack.{OfSpace}
 use Rattle.nom_write_stream.specs.Outgoing.{AreBytes, IsItem, NoRoom, told_of}
-
-values_after : (xs ys : List ℕ) → AreValues (λ b. b < 256) (xs ++ ys) → AreValues (λ b. b < 256) ys
-values_after [] ys h = h
-values_after (x ∷ xs) ys h = values_after xs ys h.1
+use Rattle.nom_write_stream.proofs.Everywhere.{values_after}
 
 full : (e : WriteError) (start : ℕ) → told_of e start ≡ None → e ≡ Write.Full
 full Write.OutOfMemory start h = absurd (cc (h))

@@ -1,5 +1,8 @@
 pub mod Adding
+pub mod Counted
+pub mod Everywhere
 pub mod Known
+pub mod Members
 pub mod Outcomes
 pub mod Piped
 pub mod Sending

@@ -15,10 +15,10 @@ use Rattle.nom_stream.specs.Streams.Answers.{Decided, AtEnd, Full, Faulted, Lack
 use Rattle.nom_stream.specs.Streams.Ends.{Clean, Within, Completed}
 use Rattle.nom_stream.specs.Wholes.{Calls, HasLeft}
 use Rattle.nom_write_stream.proofs.Outcomes.{item_told, lacks, TellsOutcome, told}
-use Rattle.nom_write.specs.Lists.{Each}
+use Rattle.nom_sink.specs.Lists.{Each}
 use Rattle.nom_write.specs.Reads.{IsTaken, Reads}
 use Rattle.nom_write_stream.specs.Outgoing.{IsItem}
-use Rattle.nom_write_stream.specs.Pipes.{HasOutcomes, ItemsOfPipe, TellsItems}
+use Rattle.nom_write_stream.specs.Pipes.{HasOutcomes, ItemsOfForms, ItemsOfPipe, TellsItems}
 
 -- one of two lists that are fronts of one is a front of the other
 fronts : (xs ys us vs : List ℕ) → xs ++ us ≡ ys ++ vs → ((more : List ℕ) × (ys ≡ xs ++ more)) ⊎ ((more : List ℕ) × (xs ≡ ys ++ more))
@@ -95,7 +95,7 @@ module _ {V O : Type 0} (view : View O) (Pins : Type 0) (g : Grammar Bytes V O (
           by : ((more : List ℕ) × (xs ≡ x.now ++ more)) ⊎ ((more : List ℕ) × (x.now ≡ xs ++ more)) → Taking v xs o
           by (inl h) =
               let y = input_of xs in
-              let p = outcomes y item.known in
+              let p = outcomes.outcome y item.known in
               let same : o ≡ p.0 = steady.stays x y o p.0 known item.known (record { more = h.0; added = tt; whole = h.1; mark_is = refl }) a d p.1 in
               subst (Taking v xs) (sym same) ((reads.reads v xs item.form true).read y [] p.0 item.known (sym (append-nil xs)) (all []) p.1)
           by (inr h) = at_begun h.0 h.1 o a
@@ -305,10 +305,13 @@ appended (Some a) (Some b) before taken written e f h =
 module _ {V O : Type 0} (view : View O) (Pins : Type 0) (g : Grammar Bytes V O (Error Bytes)) (lawful : IsLawful bytes_model g.meaning)
     (steady : IsSteady bytes_model g.meaning) (pinned : Pins → IsPinned view g.IsOutput) (never : NeverTooLarge g.meaning) (outcomes : HasOutcomes g)
     (Form : O → List ℕ → Type 0) (Follow : List ℕ → Type 0) (all : (rest : List ℕ) → Follow rest) (reads : Reads bytes_model g Form Follow) where
+  pub items_of_forms : (A : Type 0) {R : Type 0} (left : R → Option (List ℕ)) → ItemsOfForms A left view Pins g Form
+  items_of_forms A left most first form item vs xs h s t rs has c =
+      tells view Pins g lawful steady pinned never outcomes Form Follow all reads most left first form item s.settings.most vs xs rs s t h has c refl
+
   pub items_of_pipe : (A B : Type 0) {R W : Type 0} (left : R → Option (List ℕ)) (contents : W → Option (List ℕ)) →
       ItemsOfPipe A B left contents view Pins g Form
   items_of_pipe A B left contents a b v vs xs before taken h none sends sent old new s t rs has c =
       let took : taken ≡ sends.0 = appended (contents a.target.inner) (contents b.target.inner) before taken sends.0 old new sends.2 in
       let is : xs ≡ sends.0 = ap (λ z. z ++ xs) (sym none) ∙ (sends.1 ∙ (ap (λ z. sends.0 ++ z) sent ∙ append-nil sends.0)) in
-      tells view Pins g lawful steady pinned never outcomes Form Follow all reads a.most left v h.front h.first s.settings.most
-      (v ∷ vs) xs rs s t h (subst (HasLeft left s) (took ∙ sym is) has) c refl
+      items_of_forms A left a.most v h.front h.first (v ∷ vs) xs h s t rs (subst (HasLeft left s) (took ∙ sym is) has) c

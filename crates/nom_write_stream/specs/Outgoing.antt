@@ -5,11 +5,11 @@ use Rattle.std.specs.Prelude.{vec_capacity, get_or}
 use Rattle.std.specs.Io.KnownBytes.{Appends}
 use Rattle.std_io.specs.declared.io.error.Error.{Error}
 use Rattle.nom_internal.specs.Prelude.{AreValues}
-use Rattle.nom_write.specs.declared.error.WriteError.{WriteError}
-use Rattle.nom_write.specs.declared.error.WriteError.TheVariants as Write
-use Rattle.nom_write.specs.Lists.{Each}
-use Rattle.nom_write.specs.Written.{Space}
-use Rattle.nom_write.specs.Written.Lack.{OfSpace}
+use Rattle.nom_sink.specs.declared.error.WriteError.{WriteError}
+use Rattle.nom_sink.specs.declared.error.WriteError.TheVariants as Write
+use Rattle.nom_sink.specs.Lists.{Each}
+use Rattle.nom_sink.specs.Written.{Space}
+use Rattle.nom_sink.specs.Written.Lack.{OfSpace}
 use Rattle.nom_write_stream.specs.declared.outgoing.Halted.{Halted}
 use Rattle.nom_write_stream.specs.declared.outgoing.Outgoing.{Outgoing}
 use Rattle.nom_write_stream.specs.declared.outgoing.Unwritten.{Unwritten}

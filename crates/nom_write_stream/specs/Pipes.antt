@@ -7,13 +7,16 @@ use Rattle.nom_stream.specs.declared.stream.Stream.{Stream}
 use Rattle.nom_stream.specs.Items.{Bytes}
 use Rattle.nom_stream.specs.Streams.{Told}
 use Rattle.nom_stream.specs.Wholes.{Calls, HasLeft}
-use Rattle.nom_write.specs.Lists.{Each}
+use Rattle.nom_sink.specs.Lists.{Each}
 use Rattle.nom_write_stream.specs.declared.outgoing.Outgoing.{Outgoing}
 use Rattle.nom_write_stream.specs.Outgoing.{held_of, IsItem, Sends}
 
 -- every input of bytes has an outcome
+pub record HasOutcome {V : Type 0} (P : Bytes → Outcome V → Type 0) : Type 0 where
+  pub outcome : (i : Bytes) → bytes_model.IsKnown i → (o : Outcome V) × P i o
+
 abbrev pub HasOutcomes : {V O : Type 0} → Grammar Bytes V O (Error Bytes) → Type 0
-HasOutcomes {V} g = (i : Bytes) → bytes_model.IsKnown i → (o : Outcome V) × g.meaning.answers true i o
+HasOutcomes g = HasOutcome (g.meaning.answers true)
 
 module _ {O : Type 0} (view : View O) (Pins : Type 0) (Short : Type 0) where
   -- Answers of `next_item` tell these values, in order, and then the end: equal as viewed, where outputs are pinned. A read that
@@ -31,6 +34,15 @@ module _ {O : Type 0} (view : View O) (Pins : Type 0) (Short : Type 0) where
   TellsItems vs (Err Stopped.TooLong ∷ rs) = Short × TellsItems vs rs
   TellsItems vs (Err (Stopped.Fault e) ∷ rs) = TellsItems vs rs
   TellsItems vs (Err Stopped.OutOfMemory ∷ rs) = TellsItems vs rs
+
+module _ (A : Type 0) {R V O : Type 0} (left : R → Option (List ℕ)) (view : View O) (Pins : Type 0) (g : Grammar Bytes V O (Error Bytes))
+    (Form : O → List ℕ → Type 0) where
+  -- A stream reads forms of items, none of more than so many bytes. Its answers tell these items. There is one that has a form, so
+  -- that no item is where there are no bytes.
+  abbrev pub ItemsOfForms : Type 0
+  ItemsOfForms = (most : ℕ) (first : O) (form : List ℕ) → IsItem (Form first) most form → (vs : List O) (xs : List ℕ) →
+      Each (λ v. IsItem (Form v) most) vs xs → (s t : Stream R A) (rs : List (Told O)) → HasLeft left s xs → Calls left g rs s t →
+      TellsItems view Pins (s.settings.most < most) vs rs
 
 -- Items were written, and then all that was held; a stream reads just what the writer took. Its answers tell these items.
 abbrev pub ItemsOfPipe : (A B : Type 0) {R W V O : Type 0} → (R → Option (List ℕ)) → (W → Option (List ℕ)) → View O → (Pins : Type 0) →

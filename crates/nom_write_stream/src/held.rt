@@ -1,20 +1,22 @@
-//! The bytes that aren't written yet.
+//! Bytes that wait to be written.
 ghost use Rattle.std.specs.Prelude.{◌≡◌, ◌≤◌, [], IfOk, drop, length, vec_capacity};
-ghost use Rattle.nom_write.specs.Written.Lack.{OfSpace};
+ghost use Rattle.nom_sink.specs.Written.Lack.{OfSpace};
 
 use nom_error::answer::OutOfMemory;
 use nom_write::WriteError;
 use nom_write::sink::Sink;
 use std::alloc::Allocator;
 
-/// The bytes that aren't written yet: a list that never takes more memory than it has, so that it is `Full`.
+/// Bytes that wait to be written.
+///
+/// All memory is taken at the start. Later a write without room is `Full`.
 #[derive(Drop)]
 pub struct Held<A: Allocator> {
     pub bytes: Vec<u8, A>,
 }
 
 impl<A: Allocator> Held<A> {
-    /// None, with room for that many. It is all the memory that is taken.
+    /// Returns an empty buffer with room for at least `count` bytes.
     pub fn with_room(alloc: A, count: usize) -> Result<Self, OutOfMemory>
         ensures { IfOk result (λ held. (held.bytes.items ≡ []) × (count ≤ vec_capacity held.bytes)) }
     {
@@ -24,7 +26,7 @@ impl<A: Allocator> Held<A> {
         }
     }
 
-    /// The first bytes are written.
+    /// Removes the first `count` bytes, which are written.
     pub fn remove_front(&mut self, count: usize)
         requires { count ≤ length self.old.bytes.items }
         ensures others { self.new.bytes.items ≡ drop count self.old.bytes.items }
@@ -36,7 +38,7 @@ impl<A: Allocator> Held<A> {
     }
 }
 
-/// As many bytes as it has memory for: for want of room `Full`.
+/// Without room for the bytes, the answer is `Full`.
 impl<A: Allocator> Sink for Held<A> {
     ghost model = { record { items = λ h. h.bytes.items; room = λ h. vec_capacity h.bytes; lack = OfSpace } };
 
@@ -59,5 +61,10 @@ impl<A: Allocator> Sink for Held<A> {
     #[inline(always)]
     fn truncate(&mut self, len: usize) {
         self.bytes.truncate(len);
+    }
+
+    #[inline]
+    fn move_behind(&mut self, start: usize, middle: usize) {
+        self.bytes[start..].rotate_left(middle - start);
     }
 }

@@ -1,4 +1,6 @@
-//! Items to a writer, one after another, through a buffer of bounded size: what is written is what `nom_stream` reads.
+//! Writes items to a writer, one after another, through a buffer of bounded size.
+//!
+//! `nom_stream` reads the items back.
 #![tactic(auto)]
 
 pub mod held;

@@ -1,4 +1,4 @@
-//! Items to a writer, one after another.
+//! Items that are written one after another.
 ghost use Rattle.std.specs.Prelude.{◌≡◌, [], IfOk, OnOk};
 ghost use Rattle.nom_write_stream.specs.Outgoing.{Adds, AddsAll, Fits, IsOpen, Sends, held_of, told_of};
 ghost use Rattle.nom_write_stream.specs.Targets.{CountsWrite};
@@ -13,42 +13,46 @@ use std::alloc::Allocator;
 use std::io;
 use std::io::Write;
 
-/// Why an item isn't written. Nothing of it is, and nothing before it is lost: it was written, or is held. A place is counted from
-/// the item's first byte.
+/// Why an item isn't written.
+///
+/// No byte of it is written. The items before it are written or held. A place is an offset from the item's first
+/// byte.
 #[derive(Clone, Copy, Debug)]
 pub enum Unwritten {
-    /// The part at this place is longer than the number before it can say, or a number has more bytes than its field.
+    /// The part at this place is longer than its length field can say, or a number is larger than its field.
     TooLong(usize),
-    /// The part at this place isn't a value that its parser gives.
+    /// The part at this place isn't a value that its parser returns.
     Mismatch(usize),
-    /// The item has no bytes, so that it couldn't be read.
+    /// The item has no bytes, so it couldn't be read back.
     Nothing,
-    /// The item alone has more bytes than may be held.
+    /// The item has more bytes than may be held.
     OverLimit,
-    /// A write failed, other than by an interruption. The call can be made again.
+    /// A write failed, and wasn't interrupted. You may call again.
     Fault(io::Error),
-    /// Memory ran out in the item's writer. The call can be made again.
+    /// Memory ran out in the item's writer. You may call again.
     OutOfMemory,
 }
 
 /// Which item of a list isn't written, and why.
 #[derive(Clone, Copy, Debug)]
 pub struct Halted {
-    /// How many items before it are.
+    /// The number of items that were added before it.
     pub count: usize,
     pub why: Unwritten,
 }
 
-/// Items to a writer, one for each `write_item`.
+/// A buffered writer of items.
+///
+/// Each call of `write_item` adds one item. `flush` writes what is held.
 #[derive(Drop)]
 pub struct Outgoing<W, A: Allocator> {
     pub target: Target<W>,
     pub held: Held<A>,
-    /// The most bytes that are held. An item that is longer can't be written.
+    /// The maximum number of bytes that are held. A longer item can't be written.
     pub most: usize,
 }
 
-// Why an item isn't written that begins at a place of what is held. None where there is no room for it beside what is held.
+// Why an item that begins at `start` of the held bytes isn't written, or `None` if it has no room beside them.
 fn why_of(error: WriteError, start: usize) -> Option<Unwritten>
     ensures { result ≡ told_of error start }
 {
@@ -61,7 +65,7 @@ fn why_of(error: WriteError, start: usize) -> Option<Unwritten>
 }
 
 impl<W: Write, A: Allocator> Outgoing<W, A> {
-    /// Takes the memory for the most bytes that are held.
+    /// Returns an empty buffer before `target`, and takes the memory for `most` bytes.
     pub fn new(alloc: A, target: W, most: usize) -> Result<Self, OutOfMemory>
     where
         W: Drop,
@@ -80,7 +84,7 @@ impl<W: Write, A: Allocator> Outgoing<W, A> {
         }
     }
 
-    // Adds an item, if there is room for it beside what is held.
+    // Adds an item if it has room beside the held bytes, and returns whether it has.
     fn add<I: Items<Item = u8>, P: Writer<I>>(
         &mut self,
         writer: &P,
@@ -114,7 +118,7 @@ impl<W: Write, A: Allocator> Outgoing<W, A> {
         }
     }
 
-    // Writes what is held.
+    // Writes the held bytes.
     fn send(&mut self) -> io::Result<()>
         requires { IsOpen self.old }
         ensures open { IsOpen self.new }
@@ -131,7 +135,7 @@ impl<W: Write, A: Allocator> Outgoing<W, A> {
         }
     }
 
-    /// Adds an item to what is held. Where there is no room for it, what is held is written before.
+    /// Adds an item to the held bytes. If it has no room, the held bytes are written first.
     pub fn write_item<I: Items<Item = u8>, P: Writer<I>>(
         &mut self,
         writer: &P,
@@ -159,7 +163,7 @@ impl<W: Write, A: Allocator> Outgoing<W, A> {
         }
     }
 
-    /// Adds items, one after another, until one can't be written.
+    /// Adds items in order, until one can't be written.
     pub fn write_items<I: Items<Item = u8>, P: Writer<I>>(
         &mut self,
         writer: &P,
@@ -180,7 +184,7 @@ impl<W: Write, A: Allocator> Outgoing<W, A> {
         Ok(())
     }
 
-    /// Writes what is held, and flushes the writer.
+    /// Writes the held bytes, and flushes the writer.
     pub fn flush(&mut self) -> io::Result<()>
         requires { IsOpen self.old }
         ensures open { IsOpen self.new }
@@ -195,7 +199,7 @@ impl<W: Write, A: Allocator> Outgoing<W, A> {
         }
     }
 
-    /// The writer, and the bytes that weren't written.
+    /// Returns the writer, and the bytes that weren't written.
     pub fn into_parts(self) -> (W, Vec<u8, A>)
         ensures target { result.0 ≡ self.target.inner }
         ensures held { result.1.items ≡ held_of self }

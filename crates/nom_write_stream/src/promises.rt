@@ -1,8 +1,9 @@
-//! What items promise that are written to a pipe. The function does nothing: its contract is the promise.
+//! The promises about items that are written to a pipe. These functions do nothing: their contracts are the
+//! promises.
 ghost use Rattle.std.specs.Prelude.{ℕ, List};
 ghost use Rattle.nom_internal.specs.Prelude.{IsLawful, IsPinned, IsSteady, NeverTooLarge};
 ghost use Rattle.nom_write.specs.Reads.{Reads};
-ghost use Rattle.nom_write_stream.specs.Pipes.{HasOutcomes, ItemsOfPipe};
+ghost use Rattle.nom_write_stream.specs.Pipes.{HasOutcomes, ItemsOfForms, ItemsOfPipe};
 
 use crate::outgoing::Outgoing;
 use nom_error::value::Error;
@@ -22,13 +23,36 @@ fn laws_of<I: Items<Item = u8>, P: Writer<I>>(_writer: &P)
     ensures reads { Reads I.model (P.grammar (P.state _writer.now)) (P.Form _writer.now) (P.MayFollow _writer.now) }
 {}
 
-/// For every way in which a writer takes its bytes and a reader gives them: once items were written, and then all that was held,
-/// a stream that reads just what the writer took gives these items, in order, and then the end. They are equal as viewed, where
-/// the parser pins. Reads that fail, and want of memory, lose none of them. A stream that may hold as many bytes as were held
-/// here finds none of them too long.
+/// A stream that reads the bytes of written items returns these items, in order, and then the end.
 ///
-/// It asks for what the parser's laws do; that every form may follow every other; that the parser never lacks more than a size can
-/// say; and that its grammar has an outcome at each input.
+/// It is true however the reader delivers its bytes. The items have equal views, if the parser pins. Failed reads,
+/// and running out of memory, lose no item. No item is too long for a stream that may hold the longest one.
+///
+/// The premises are those of the parser's laws, and three more. Any form may follow any other (`follows`). The
+/// parser never fails because a missing size is too large (`large`). Every input has an outcome (`outcomes`).
+pub fn items_of_forms<
+    'a,
+    R: Read,
+    A: Allocator + Copy,
+    P: Writer<&'a [u8], Error = Error<&'a [u8]>>,
+>(_stream: &Stream<R, A>, _writer: &P)
+    requires sound { (P.grammar (P.state _writer.now)).meaning.IsSound }
+    requires can { P.CanWrite _writer.now }
+    requires follows { (rest : List ℕ) → P.MayFollow _writer.now rest }
+    requires large { NeverTooLarge (P.grammar (P.state _writer.now)).meaning }
+    requires outcomes { HasOutcomes (P.grammar (P.state _writer.now)) }
+    ensures { ItemsOfForms A R.remaining P.Output.view (P.Pins _writer.now) (P.grammar (P.state _writer.now)) (P.Form _writer.now) }
+{
+    laws_of(_writer);
+}
+
+/// A stream that reads what a writer took returns the items that were written, in order, and then the end.
+///
+/// It is true for every way in which the writer takes its bytes and the reader delivers them, once all held bytes
+/// are written. The items have equal views, if the parser pins. Failed reads, and running out of memory, lose no
+/// item. No item is too long for a stream that may hold as many bytes as were held here.
+///
+/// The premises are those of `items_of_forms`.
 pub fn items_of_pipe<
     'a,
     R: Read,

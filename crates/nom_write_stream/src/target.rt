@@ -1,4 +1,4 @@
-//! A writer of std, whose faults are counted.
+//! A writer of std that counts its faults.
 ghost use Rattle.std.specs.Prelude.{◌≡◌, ◌↔◌, ◌<◌, ◌≤◌, None, IfOk, IsTrue, length, take, MatchOption};
 ghost use Rattle.std.specs.Io.{WritesAtMost};
 ghost use Rattle.std.specs.Io.KnownBytes.{Appends, Keeps, WriteAppends};
@@ -8,17 +8,19 @@ ghost use Rattle.nom_write_stream.specs.Targets.{CountsCall, CountsWrite, NoFaul
 use std::io;
 use std::io::{ErrorKind, Write};
 
-/// A writer of std, with the count of its calls that failed. An interrupted write hasn't failed: it is made again. One that takes
-/// none of some bytes has failed, with `WriteZero`.
+/// A writer of std, with the count of its failed calls.
 ///
-/// A trait of std says nothing of how often it is called, nor of its errors. So that `call` calls the writer just once is read
-/// in its first line, and not proved.
+/// An interrupted write hasn't failed: it is made again. A write that takes none of the bytes has failed, with
+/// `WriteZero`.
+///
+/// A trait of std says nothing about how often it is called, nor about its errors. The first line of `call`
+/// shows that it calls the writer exactly once; this isn't proved.
 #[derive(Drop)]
 pub struct Target<W> {
     pub inner: W,
-    /// How many calls failed; it stays at the greatest `u64`.
+    /// The number of failed calls. It stays at the greatest `u64`.
     pub faults: u64,
-    /// The error of the last one.
+    /// The error of the last failed call.
     pub last_fault: Option<io::Error>,
 }
 
@@ -30,7 +32,7 @@ fn is_interrupted(error: io::Error) -> bool
 }
 
 impl<W> Target<W> {
-    /// Counts from 0.
+    /// Returns a writer whose count starts at 0.
     pub fn new(inner: W) -> Self
         ensures inner { result.inner ≡ inner }
         ensures none { (result.faults ≡ 0) × (result.last_fault ≡ None) }
@@ -42,7 +44,7 @@ impl<W> Target<W> {
         }
     }
 
-    /// The writer.
+    /// Returns the inner writer.
     pub fn into_inner(self) -> W
         ensures { result ≡ self.inner }
     {
@@ -78,8 +80,9 @@ impl<W: Write> Target<W> {
         }
     }
 
-    /// One write of some bytes, made again where it is interrupted. One that takes none has failed, as has one that is
-    /// interrupted 2^64 - 1 times.
+    /// Makes one write, and makes it again if it is interrupted.
+    ///
+    /// A write that takes no byte has failed, and so has one that is interrupted 2^64 - 1 times.
     pub fn write(&mut self, bytes: &[u8]) -> io::Result<usize>
         ensures bound { WritesAtMost result bytes.now }
         ensures some { IfOk result (λ n. 0 < n) }
@@ -108,8 +111,9 @@ impl<W: Write> Target<W> {
         Err(error)
     }
 
-    /// Writes bytes, in as many calls as it takes. Tells how many were taken, and the error of a write that failed, which isn't
-    /// made again.
+    /// Writes all bytes, in as many calls as needed.
+    ///
+    /// It returns how many were taken, and the error of a failed write, if one stopped it.
     pub fn write_all(&mut self, bytes: &[u8]) -> (usize, Option<io::Error>)
         ensures within { result.0 ≤ length bytes.now }
         ensures wrote { Appends (W.contents self.old.inner) (W.contents self.new.inner) (take result.0 bytes.now) }
@@ -126,7 +130,7 @@ impl<W: Write> Target<W> {
         (at, None)
     }
 
-    /// One call of `flush`.
+    /// Calls `flush` once.
     pub fn flush(&mut self) -> io::Result<()>
         ensures bytes { Keeps (W.contents self.old.inner) (W.contents self.new.inner) }
         ensures counts { CountsWrite self.old self.new result }

@@ -4,14 +4,18 @@ use Rattle.std.proofs.Common.{sym, ◌∙◌, ap, subst, inl, inr}
 use Rattle.nom_internal.specs.Prelude.{Errors, Model, items_len, Grammar, Outcome, Accept, Refuse, GoesOnRefused, EitherOutput, Meaning}
 use Rattle.nom_internal.specs.Prelude.{OnPart, labelled, either_meaning, either_of, map_by}
 use Rattle.nom_branch.specs.Alternatives.{alt_of}
+use Rattle.nom_combinator.specs.Conditions.{cond_of, state_of}
 use Rattle.nom_combinator.specs.Contexts.{context_of}
 use Rattle.nom_error.specs.Errors.{Contexts}
 use Rattle.nom_combinator.specs.Verdicts.{OptOutput, cut_of, opt_of, opt_outcome}
-use Rattle.nom_write.specs.declared.error.WriteError.{WriteError}
-use Rattle.nom_write.specs.Choices.{Apart, Either, EitherFails, Refuses}
-use Rattle.nom_write.specs.Options.{OptForm}
-use Rattle.nom_write.specs.Reads.{NoItem, Reads, ReadsBefore}
-use Rattle.nom_write.specs.Written.{Space}
+use Rattle.nom_sink.specs.declared.error.WriteError.{WriteError}
+use Rattle.nom_sink.specs.Choices.{Either, EitherFails}
+use Rattle.nom_write.specs.Choices.{Apart, Refuses}
+use Rattle.nom_write.specs.Options.{CondForm, OfPart, OptForm}
+use Rattle.nom_write.specs.Reads.{Anything, NoItem, Reads, ReadsBefore}
+use Rattle.nom_write.specs.laws.LeafReads.{success_reads}
+use Rattle.nom_write.specs.laws.SequenceReads.{as_whole}
+use Rattle.nom_sink.specs.Written.{Space}
 
 -- a part, with what its outcome becomes: of an acceptance one of that length
 module _ {I P T : Type 0} (w : Model I ℕ) (becomes : Outcome P → Outcome T) (label : P → T) (keeps : (n : ℕ) (u : P) → becomes (Accept n u) ≡ Accept n
@@ -26,7 +30,7 @@ module _ {I P T : Type 0} (w : Model I ℕ) (becomes : Outcome P → Outcome T) 
   }
 
 -- what is refused becomes what a refusal becomes
-become_refused : {I P T : Type 0} (w : Model I ℕ) (becomes : Outcome P → Outcome T) (F : I → Outcome P → Type 0) (xs : List ℕ) (i : I) (o : Outcome T) →
+pub become_refused : {I P T : Type 0} (w : Model I ℕ) (becomes : Outcome P → Outcome T) (F : I → Outcome P → Type 0) (xs : List ℕ) (i : I) (o : Outcome T) →
     w.IsKnown i → w.elements i ≡ xs → ((i : I) (o : Outcome P) → w.IsKnown i → w.elements i ≡ xs → F i o → o ≡ Refuse) →
     OnPart (λ (x y : I). x ≡ y) F (λ _ a. o ≡ becomes a) i → o ≡ becomes Refuse
 become_refused w becomes F xs i o known e none a =
@@ -147,3 +151,22 @@ module _ {I V O E : Type 0} {w : Model I ℕ} {g : Grammar I V O E} {Form : O �
         (map_by IsTaken Gives g).IsOutput t v)
         Follow Follow xs (λ rest k. k) (λ u k. record { output = f.0; is_output = k; given = again v f.0 f.1 }) (p.reads f.0 xs f.2 s);
   }
+
+-- a part on a condition
+pub cond_reads : {F I S V O E : Type 0} (w : Model I ℕ) (state : F → S) (g : S → Grammar I V O E) (Form : F → O → List ℕ → Type 0)
+    (Follow : F → List ℕ → Type 0) (Can : F → Type 0) → ((f : F) → (g (state f)).meaning.IsSound → Can f → Reads w (g (state f)) (Form f) (Follow f)) →
+    (part : Option F) → (cond_of g (state_of state part)).meaning.IsSound → OfPart Can part →
+    Reads w (cond_of g (state_of state part)) (CondForm Form part) (λ rest. OfPart (λ f. Follow f rest) part)
+cond_reads {O = O} w state g Form Follow Can p (Some f) k c = record { reads = reads }
+  where
+    reads : (v : Option O) (xs : List ℕ) → CondForm Form (Some f) v xs → (s : Bool) →
+        ReadsBefore w ((cond_of g (Some (state f))).meaning.answers s) (λ t. OptOutput (g (state f)).IsOutput t v) (Follow f) xs
+    reads (Some v) xs h s = become_reads w (labelled Some) Some (λ n u. refl) ((g (state f)).meaning.answers s) (λ u. (g (state f)).IsOutput u v)
+        (λ t. OptOutput (g (state f)).IsOutput t (Some v)) (Follow f) (Follow f) xs (λ rest k. k) (λ u k. (v, refl, k)) ((p f k c).reads v xs h s)
+    reads None xs h s = absurd h
+cond_reads {O = O} {E} w state g Form Follow Can p None k c = record { reads = reads }
+  where
+    reads : (v : Option O) (xs : List ℕ) → CondForm Form None v xs → (s : Bool) →
+        ReadsBefore w ((cond_of g None).meaning.answers s) (λ t. v ≡ None) Anything xs
+    reads (Some v) xs h s = absurd h
+    reads None xs h s = as_whole w h (success_reads E w None s (λ t. ◌≡◌ {A = Option O} None None) Anything refl)

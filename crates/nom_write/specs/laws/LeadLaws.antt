@@ -12,12 +12,13 @@ use Rattle.nom_bytes.specs.Tags.{tag_meaning}
 use Rattle.nom_branch.specs.Alternatives.{alt_of}
 use Rattle.nom_combinator.specs.Contexts.{context_of}
 use Rattle.nom_error.specs.Errors.{Contexts}
-use Rattle.nom_write.specs.declared.error.WriteError.{WriteError}
-use Rattle.nom_write.specs.Choices.{Apart, Either, EitherFails}
+use Rattle.nom_sink.specs.declared.error.WriteError.{WriteError}
+use Rattle.nom_sink.specs.Choices.{Either, EitherFails}
+use Rattle.nom_write.specs.Choices.{Apart}
 use Rattle.nom_write.specs.Leads.{BeginsWith, Differ, Leads, RefusesOthers, are_others, either_lead, is_among, lead_of}
-use Rattle.nom_write.specs.Parts.{Both}
+use Rattle.nom_sink.specs.Parts.{Both}
 use Rattle.nom_write.specs.Reads.{NoItem}
-use Rattle.nom_write.specs.Written.{Space}
+use Rattle.nom_sink.specs.Written.{Space}
 
 -- nothing is told
 pub no_lead : {I V O E : Type 0} {w : Model I ℕ} {g : Grammar I V O E} {Form : O → List ℕ → Type 0} → Leads w g Form None

@@ -5,7 +5,7 @@ use Rattle.nom_internal.specs.Prelude.{Errors, Model, items_len, items_len-ones,
 use Rattle.nom_internal.specs.Prelude.{Accept, OnPart, labelled}
 use Rattle.nom_internal.specs.Prelude.{bytes_model, bytes_lawful, bytes_comparing, ComparesBytes}
 use Rattle.std.specs.Borrow.{Bor}
-use Rattle.nom_internal.specs.Prelude.{IsModelledBy, sliced, valued}
+use Rattle.nom_internal.specs.Prelude.{IsModelledBy, sliced, success_lawful, success_meaning, valued}
 use Rattle.nom_bytes.specs.Takes.{take_meaning}
 use Rattle.nom_bytes.specs.laws.TakeLaws.{take_lawful}
 use Rattle.nom_bytes.specs.Tags.{tag_meaning}
@@ -24,6 +24,13 @@ lawful_reads w m l s IsTree xs f = record {
       let k = f i rest known e in
       (k.0, l.one_outcome s i i o (Accept (items_len w.item_len xs) k.0) known known (same_self w i) a tt k.1, k.2);
 }
+
+-- nothing, which stands for a value
+pub success_reads : {I A V : Type 0} (E : Type 0) (w : Model I A) (v : V) (s : Bool) (IsTree : V → Type 0) (Follow : List A → Type 0) → IsTree v →
+    ReadsBefore w ((success_meaning {E = E} v).answers s) IsTree Follow []
+success_reads E w v s IsTree Follow h =
+    let p = lawful_reads w (success_meaning {E = E} v) success_lawful s IsTree [] (λ i rest known e. (v, (refl, refl), h)) in
+    record { read = λ i rest o known e k a. p.read i rest o known e tt a }
 
 -- a part with its trees labelled
 pub labelled_reads : {I A P T : Type 0} (w : Model I A) (label : P → T) (F : I → Outcome P → Type 0) (IsPart : P → Type 0) (IsTree : T → Type 0)

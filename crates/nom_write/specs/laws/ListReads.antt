@@ -13,7 +13,7 @@ use Rattle.nom_repeat.specs.Repeat.Turn.{Takes, Ends}
 use Rattle.nom_repeat.specs.declared.items.Limits.{Limits}
 use Rattle.nom_repeat.specs.Items.{item_turn, items_meaning, refused_turn}
 use Rattle.nom_repeat.specs.Bounds.{any_limits, exact_limits}
-use Rattle.nom_write.specs.Lists.{Each, ItemForm}
+use Rattle.nom_sink.specs.Lists.{Each, ItemForm}
 use Rattle.nom_write.specs.Reads.{Anything, NoItem, Reads, ReadsBefore}
 use Rattle.nom_write.specs.laws.SequenceReads.{follows}
 

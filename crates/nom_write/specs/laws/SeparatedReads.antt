@@ -1,29 +1,40 @@
--- What is read of lists with a separator.
+-- What is read of lists whose first item is read by itself.
 use Rattle.std.specs.Prelude.{◌≡◌, ℕ, ◌<◌, Bool, true, false, List, [], ◌∷◌, ◌++◌, length, Option, Some, None, zero, suc, refl}
 use Rattle.std.specs.List.{AllZip}
 use Rattle.std.proofs.Common.{arith, sym, ◌∙◌, ap, subst, append_assoc, append-nil}
 use Rattle.std.proofs.lemmas.Bool.{le-ltb}
-use Rattle.nom_internal.specs.Prelude.{Accept, Errors, Grammar, InputLaws, Model, Outcome, items_len}
+use Rattle.nom_internal.specs.Prelude.{Accept, Errors, Grammar, InputLaws, Meaning, Model, Outcome, items_len, sequence_meaning, Then}
 use Rattle.nom_error.specs.declared.kind.ErrorKind.{ErrorKind}
 use Rattle.nom_error.specs.declared.kind.ErrorKind.TheVariants as Kind
-use Rattle.nom_multi.specs.Separated.{separated_list1_of}
+use Rattle.nom_multi.specs.Many.{many1_of}
+use Rattle.nom_multi.specs.Separated.{follows, optional_meaning, separated_list0_of, separated_list1_of}
+use Rattle.nom_repeat.specs.declared.items.Limits.{Limits}
 use Rattle.nom_repeat.specs.declared.items.TooFew.{TooFew}
-use Rattle.nom_repeat.specs.declared.items.TooFew.TheVariants.{Passed}
+use Rattle.nom_repeat.specs.declared.items.TooFew.TheVariants.{Added, Never, Passed}
 use Rattle.nom_repeat.specs.Repeat.{Replies, Turn, TurnsBy}
 use Rattle.nom_repeat.specs.Repeat.Turn.{Ends, Takes}
 use Rattle.nom_repeat.specs.Items.{item_turn, items_meaning, refused_turn}
-use Rattle.nom_repeat.specs.Bounds.{any_limits, one_limits}
+use Rattle.nom_repeat.specs.Bounds.{any_limits}
 use Rattle.nom_sequence.specs.Sequences.{preceded_of}
-use Rattle.nom_write.specs.Lists.{Each, ItemForm}
-use Rattle.nom_write.specs.Parts.{Both}
+use Rattle.nom_sink.specs.Lists.{Each, ItemForm}
 use Rattle.nom_write.specs.Reads.{NoItem, Reads, ReadsBefore, ReadsSome}
-use Rattle.nom_write.specs.Separated.{AfterSeparator, SeparatedForm}
+use Rattle.nom_write.specs.Separated.{AfterSeparator, AnyForm, SomeForm}
+use Rattle.nom_write.specs.laws.LeafReads.{success_reads}
 use Rattle.nom_write.specs.laws.ListReads.{item_reads, list_read, some_len, some_taken}
 use Rattle.nom_write.specs.laws.SequenceReads.{as_whole, preceded_reads, then_reads}
 
-one_taken : {V : Type 0} (few : TooFew) (at_start : Bool) (k a : ℕ) (t : V) → item_turn (one_limits few at_start) k (Some (Accept a t)) ≡ Takes a t
-one_taken few at_start k zero t = refl
-one_taken few at_start k (suc a) t = refl
+-- at most one item, which may be empty
+abbrev single_limits : (least : ℕ) → TooFew → Bool → Limits
+single_limits least few at_start = record { least = least; most = Some 1; too_few = few; at_start = at_start; empty = None }
+
+single_taken : {V : Type 0} (least : ℕ) (few : TooFew) (at_start : Bool) (k a : ℕ) (t : V) →
+    item_turn (single_limits least few at_start) k (Some (Accept a t)) ≡ Takes a t
+single_taken least few at_start k zero t = refl
+single_taken least few at_start k (suc a) t = refl
+
+-- what ends an item, and begins with no further one
+abbrev After : {I V E : Type 0} → Model I ℕ → Meaning I V E → (List ℕ → Type 0) → List ℕ → Type 0
+After w m Follow rest = Follow rest × NoItem w m rest
 
 -- two lists of outputs
 zip_more : {V O : Type 0} (P : V → O → Type 0) (ts us : List V) (v : O) (vs : List O) → AllZip P ts (v ∷ []) → AllZip P us vs → AllZip P (ts ++ us) (v ∷ vs)
@@ -33,47 +44,63 @@ zip_more P (t ∷ u ∷ ts) us v vs a b = absurd a.1
 
 module _ {I V O E : Type 0} (w : Model I ℕ) (l : InputLaws w) (errs : Errors I E) (g : Grammar I V O E) (Form : O → List ℕ → Type 0) (Follow : List ℕ → Type 0)
     (p : Reads w g Form Follow) (s : Bool) where
-  -- a first item
-  one_reads : (few : TooFew) (at_start : Bool) (v : O) (xs : List ℕ) → Form v xs →
-      ReadsBefore w ((items_meaning w errs (one_limits few at_start) (Unit {0}) g.meaning).answers s) (λ ts. AllZip g.IsOutput ts (v ∷ [])) Follow xs
-  one_reads few at_start v xs f = list_read w l g (one_limits few at_start) Form Follow Follow 1 meets p s (λ k i below none. none below)
-      (λ k u ys t h. one_taken few at_start k (items_len w.item_len ys) t) ends errs (v ∷ []) xs refl (record {
-        front = xs;
-        back = [];
-        whole = sym (append-nil xs);
-        first = f;
-        second = refl;
-      })
-    where
-      meets : (vs : List O) (xs rest : List ℕ) → length vs < 1 → Each Form vs xs → Follow rest → Follow (xs ++ rest)
-      meets [] xs rest b e h = subst (λ z. Follow (z ++ rest)) (sym e) h
-      meets (u ∷ us) xs rest b e h = absurd (omega (arith, b))
+  module _ (least : ℕ) (few : TooFew) (at_start : Bool) where
+    -- a first item
+    single_reads : (v : O) (xs : List ℕ) → Form v xs →
+        ReadsBefore w ((items_meaning w errs (single_limits least few at_start) (Unit {0}) g.meaning).answers s) (λ ts. AllZip g.IsOutput ts (v ∷ [])) Follow xs
+    single_reads v xs f = list_read w l g (single_limits least few at_start) Form Follow Follow 1 meets p s (λ k i below none. none below)
+        (λ k u ys t h. single_taken least few at_start k (items_len w.item_len ys) t) ends errs (v ∷ []) xs refl (record {
+          front = xs;
+          back = [];
+          whole = sym (append-nil xs);
+          first = f;
+          second = refl;
+        })
+      where
+        meets : (vs : List O) (xs rest : List ℕ) → length vs < 1 → Each Form vs xs → Follow rest → Follow (xs ++ rest)
+        meets [] xs rest b e h = subst (λ z. Follow (z ++ rest)) (sym e) h
+        meets (u ∷ us) xs rest b e h = absurd (omega (arith, b))
 
-      ends : (i : I) (rest : List ℕ) (turn : Turn V (Unit {0})) → w.IsKnown i → w.elements i ≡ rest → Follow rest →
-          TurnsBy (Some 1) (item_turn (one_limits few at_start)) (λ k. g.meaning.answers s) 1 i turn → turn ≡ Ends (Accept 0 tt)
-      ends i rest turn known e f r = of_reply r.reply r.replied r.fact
+        ends : (i : I) (rest : List ℕ) (turn : Turn V (Unit {0})) → w.IsKnown i → w.elements i ≡ rest → Follow rest →
+            TurnsBy (Some 1) (item_turn (single_limits least few at_start)) (λ k. g.meaning.answers s) 1 i turn → turn ≡ Ends (Accept 0 tt)
+        ends i rest turn known e f r = of_reply r.reply r.replied r.fact
+          where
+            of_reply : (a : Option (Outcome V)) → Replies (Some 1) (λ k. g.meaning.answers s) 1 i a →
+                turn ≡ item_turn (single_limits least few at_start) 1 a → turn ≡ Ends (Accept 0 tt)
+            of_reply None h f = f
+            of_reply (Some o) h f = absurd (omega (arith, h.0))
+
+  -- no first item, before what begins with none
+  none_reads : (few : TooFew) (at_start : Bool) →
+      ReadsBefore w ((items_meaning w errs (single_limits 0 few at_start) (Unit {0}) g.meaning).answers s) (λ ts. AllZip g.IsOutput ts []) (NoItem w
+      g.meaning) []
+  none_reads few at_start = list_read w l g (single_limits 0 few at_start) Form Follow (NoItem w g.meaning) 0
+      (λ vs xs rest b e h. absurd (omega (arith, b))) p s
+      (λ k i below none. absurd (omega (arith, below))) (λ k u ys t h. single_taken 0 few at_start k (items_len w.item_len ys) t) ends errs [] [] refl refl
+    where
+      ends : (i : I) (rest : List ℕ) (turn : Turn V (Unit {0})) → w.IsKnown i → w.elements i ≡ rest → NoItem w g.meaning rest →
+          TurnsBy (Some 1) (item_turn (single_limits 0 few at_start)) (λ k. g.meaning.answers s) 0 i turn → turn ≡ Ends (Accept 0 tt)
+      ends i rest turn known e none r = of_reply r.reply r.replied r.fact
         where
-          of_reply : (a : Option (Outcome V)) → Replies (Some 1) (λ k. g.meaning.answers s) 1 i a → turn ≡ item_turn (one_limits few at_start) 1 a →
-              turn ≡ Ends (Accept 0 tt)
+          of_reply : (a : Option (Outcome V)) → Replies (Some 1) (λ k. g.meaning.answers s) 0 i a →
+              turn ≡ item_turn (single_limits 0 few at_start) 0 a → turn ≡ Ends (Accept 0 tt)
           of_reply None h f = f
-          of_reply (Some o) h f = absurd (omega (arith, h.0))
+          of_reply (Some o) h f = f ∙ ap (λ z. item_turn (single_limits 0 few at_start) 0 (Some z)) (none s i o known e h.1)
 
   -- any number of items that aren't empty, where one may follow another, before what begins with none
-  more_reads : (kind : ErrorKind) → ((v : O) (xs ys rest : List ℕ) → Form v xs → Follow (xs ++ rest)) → (vs : List O) (xs : List ℕ) →
+  more_reads : (kind : ErrorKind) → ((v : O) (xs rest : List ℕ) → Form v xs → Follow (xs ++ rest)) → (vs : List O) (xs : List ℕ) →
       Each (ItemForm true Form) vs xs → ReadsBefore w ((items_meaning w errs (any_limits kind) (Unit {0}) g.meaning).answers s)
-      (λ ts. AllZip g.IsOutput ts vs) (λ rest. Follow rest × NoItem w g.meaning rest) xs
-  more_reads kind one_after vs xs h = list_read w l g (any_limits kind) (ItemForm true Form) Follow After (length vs) meets (item_reads w g true Form Follow p) s
+      (λ ts. AllZip g.IsOutput ts vs) (After w g.meaning Follow) xs
+  more_reads kind one_after vs xs h = list_read w l g (any_limits kind) (ItemForm true Form) Follow (After w g.meaning Follow) (length vs) meets
+      (item_reads w g true Form Follow p) s
       (λ k i below none. none tt) (λ k v xs t f. some_taken kind k (items_len w.item_len xs) t (some_len w l xs (f.1 refl))) ends errs vs xs refl h
     where
-      After : List ℕ → Type 0
-      After rest = Follow rest × NoItem w g.meaning rest
-
-      meets : (us : List O) (xs rest : List ℕ) → length us < length vs → Each (ItemForm true Form) us xs → After rest → Follow (xs ++ rest)
+      meets : (us : List O) (xs rest : List ℕ) → length us < length vs → Each (ItemForm true Form) us xs → After w g.meaning Follow rest → Follow (xs ++ rest)
       meets [] xs rest b e h = subst (λ z. Follow (z ++ rest)) (sym e) h.0
       meets (u ∷ us) xs rest b e h = subst Follow (sym (ap (λ z. z ++ rest) e.whole ∙ append_assoc e.front e.back rest))
-          (one_after u e.front [] (e.back ++ rest) e.first.0)
+          (one_after u e.front (e.back ++ rest) e.first.0)
 
-      ends : (i : I) (rest : List ℕ) (turn : Turn V (Unit {0})) → w.IsKnown i → w.elements i ≡ rest → After rest →
+      ends : (i : I) (rest : List ℕ) (turn : Turn V (Unit {0})) → w.IsKnown i → w.elements i ≡ rest → After w g.meaning Follow rest →
           TurnsBy None (item_turn (any_limits kind)) (λ k. g.meaning.answers s) (length vs) i turn → turn ≡ Ends (Accept 0 tt)
       ends i rest turn known e none r = of_reply r.reply r.replied r.fact
         where
@@ -83,33 +110,97 @@ module _ {I V O E : Type 0} (w : Model I ℕ) (l : InputLaws w) (errs : Errors I
           of_reply (Some o) h f = f ∙ (ap (λ z. item_turn (any_limits kind) (length vs) (Some z)) (none.1 s i o known e h.1) ∙
               ap (λ b. refused_turn {V = V} b) (le-ltb (length vs) 0 (omega arith)))
 
-module _ {I P Q V O E : Type 0} {w : Model I ℕ} (l : InputLaws w) (errs : Errors I E) {sep : Grammar I P Q E} {g : Grammar I V O E} {Form : O → List ℕ → Type 0}
-    {Follow : List ℕ → Type 0} (bytes : List ℕ) (separates : (rest : List ℕ) → Follow (bytes ++ rest)) (q : ReadsSome w sep bytes) (p : Reads w g Form Follow) where
-  -- one item at least, before what ends an item and begins with no further one
-  pub separated_list1_reads : {M : Type 0} → Reads w (separated_list1_of {M = M} w errs sep g) (λ v. SeparatedForm bytes Form v.items)
-      (λ rest. Follow rest × NoItem w (preceded_of w sep g).meaning rest)
-  separated_list1_reads {M} = record { reads = λ v xs f s. reads v.items xs f s }
+-- A first item of a grammar, and then further ones of another meaning, with the same outputs.
+module _ {I V O E : Type 0} {w : Model I ℕ} (l : InputLaws w) (errs : Errors I E) {g : Grammar I V O E} (m : Meaning I V E)
+    {First Further : O → List ℕ → Type 0} {Follow : List ℕ → Type 0} (p : Reads w g First Follow)
+    (q : Reads w (record { meaning = m; IsOutput = g.IsOutput }) Further Follow) (one_after : (v : O) (xs rest : List ℕ) → Further v xs → Follow (xs ++ rest))
+    (kind : ErrorKind) (s : Bool) where
+  next : (vs : List O) (ys rest : List ℕ) → Each (ItemForm true Further) vs ys → After w m Follow rest → Follow (ys ++ rest)
+  next [] ys rest e k = subst (λ z. Follow (z ++ rest)) (sym e) k.0
+  next (v ∷ vs) ys rest e k = subst Follow (sym (ap (λ z. z ++ rest) e.whole ∙ append_assoc e.front e.back rest))
+      (one_after v e.front (e.back ++ rest) e.first.0)
+
+  -- by what follows a first item, whose tree is alone in its list
+  first_then : (least : ℕ) (few : TooFew) (at_start : Bool) (N : List V → I → Outcome (List V) → Type 0) →
+      ((t : V) (us : List O) (ys : List ℕ) → Each (ItemForm true Further) us ys → ReadsBefore w (N (t ∷ [])) (λ ts. AllZip g.IsOutput ts us) (After w m
+      Follow) ys) →
+      (v : O) (vs : List O) (xs : List ℕ) → SomeForm First Further (v ∷ vs) xs →
+      ReadsBefore w (Then w (λ ts us. ts ++ us) ((items_meaning w errs (single_limits least few at_start) (Unit {0}) g.meaning).answers s) N)
+      (λ ts. AllZip g.IsOutput ts (v ∷ vs)) (After w m Follow) xs
+  first_then least few at_start N more v vs xs f = as_whole w f.whole (then_reads w l (λ ts us. ts ++ us)
+      ((items_meaning w errs (single_limits least few at_start) (Unit {0}) g.meaning).answers s) N (λ ts. AllZip g.IsOutput ts (v ∷ []))
+      (λ us. AllZip g.IsOutput us vs) (λ ts. AllZip g.IsOutput ts (v ∷ vs)) (λ ts us a b. zip_more g.IsOutput ts us v vs a b) Follow (After w m Follow)
+      f.front f.back
+      (λ rest k. next vs f.back rest f.second k) (single_reads w l errs g First Follow p s least few at_start v f.front f.first) alone)
     where
-      After : List ℕ → Type 0
-      After rest = Follow rest × NoItem w (preceded_of w sep g).meaning rest
+      alone : (ts : List V) → AllZip g.IsOutput ts (v ∷ []) → ReadsBefore w (N ts) (λ us. AllZip g.IsOutput us vs) (After w m Follow) f.back
+      alone [] a = absurd a
+      alone (t ∷ []) a = more t vs f.back f.second
+      alone (t ∷ u ∷ ts) a = absurd a.1
 
-      -- what begins with a separator may follow an item
-      starts : (v : O) (xs ys rest : List ℕ) → AfterSeparator bytes Form v xs → Follow (xs ++ rest)
-      starts v xs ys rest f = subst Follow (sym (ap (λ z. z ++ rest) (f.whole ∙ ap (λ z. z ++ f.back) f.first) ∙ append_assoc bytes f.back rest))
-          (separates (f.back ++ rest))
+  further : (t : V) (us : List O) (ys : List ℕ) → Each (ItemForm true Further) us ys →
+      ReadsBefore w ((items_meaning w errs (any_limits kind) (Unit {0}) m).answers s) (λ ts. AllZip g.IsOutput ts us) (After w m Follow) ys
+  further t us ys e = more_reads w l errs (record { meaning = m; IsOutput = g.IsOutput }) Further Follow q s kind one_after us ys e
 
-      next : (vs : List O) (ys rest : List ℕ) → Each (ItemForm true (AfterSeparator bytes Form)) vs ys → After rest → Follow (ys ++ rest)
-      next [] ys rest e h = subst (λ z. Follow (z ++ rest)) (sym e) h.0
-      next (v ∷ vs) ys rest e h = subst Follow (sym (ap (λ z. z ++ rest) e.whole ∙ append_assoc e.front e.back rest))
-          (starts v e.front [] (e.back ++ rest) e.first.0)
+  -- one item at least
+  some_reads : (few : TooFew) (at_start : Bool) (vs : List O) (xs : List ℕ) → SomeForm First Further vs xs →
+      ReadsBefore w ((sequence_meaning w (λ ts us. ts ++ us) (λ o. o) (λ o. o) (items_meaning w errs (single_limits 1 few at_start) (Unit {0}) g.meaning)
+      (items_meaning w errs (any_limits kind) (Unit {0}) m)).answers s) (λ ts. AllZip g.IsOutput ts vs) (After w m Follow) xs
+  some_reads few at_start [] xs f = absurd f
+  some_reads few at_start (v ∷ vs) xs f =
+      first_then 1 few at_start (λ ts. (items_meaning w errs (any_limits kind) (Unit {0}) m).answers s) further v vs xs f
 
-      reads : (vs : List O) (xs : List ℕ) → SeparatedForm bytes Form vs xs → (s : Bool) →
-          ReadsBefore w ((separated_list1_of {M = M} w errs sep g).meaning.answers s) (λ ts. AllZip g.IsOutput ts vs) After xs
-      reads [] xs f s = absurd f
-      reads (v ∷ vs) xs f s = as_whole w f.whole (then_reads w l (λ ts us. ts ++ us)
-          ((items_meaning w errs (one_limits Passed false) (Unit {0}) g.meaning).answers s)
-          (λ u. (items_meaning w errs (any_limits Kind.SeparatedList) (Unit {0}) (preceded_of w sep g).meaning).answers s)
-          (λ ts. AllZip g.IsOutput ts (v ∷ [])) (λ us. AllZip g.IsOutput us vs) (λ ts. AllZip g.IsOutput ts (v ∷ vs))
-          (λ ts us a b. zip_more g.IsOutput ts us v vs a b) Follow After f.front f.back (λ rest h. next vs f.back rest f.second h)
-          (one_reads w l errs g Form Follow p s Passed false v f.front f.first) (λ u h.
-          more_reads w l errs (preceded_of w sep g) (AfterSeparator bytes Form) Follow (preceded_reads l q p) s Kind.SeparatedList starts vs f.back f.second))
+module _ {I P Q V O E : Type 0} {w : Model I ℕ} (l : InputLaws w) (errs : Errors I E) {sep : Grammar I P Q E} {g : Grammar I V O E} {Form : O → List ℕ → Type 0}
+    {Follow : List ℕ → Type 0} (bytes : List ℕ) (separates : (rest : List ℕ) → Follow (bytes ++ rest)) (q : ReadsSome w sep bytes) (p : Reads w g Form
+    Follow) where
+  -- what begins with a separator may follow an item
+  starts : (v : O) (xs rest : List ℕ) → AfterSeparator bytes Form v xs → Follow (xs ++ rest)
+  starts v xs rest f = subst Follow (sym (ap (λ z. z ++ rest) (f.whole ∙ ap (λ z. z ++ f.back) f.first) ∙ append_assoc bytes f.back rest))
+      (separates (f.back ++ rest))
+
+  -- one item at least, before what ends an item and begins with no further one
+  pub separated_list1_reads : {M : Type 0} → Reads w (separated_list1_of {M = M} w errs sep g) (λ v. SomeForm Form (AfterSeparator bytes Form) v.items)
+      (λ rest. Follow rest × NoItem w (preceded_of w sep g).meaning rest)
+  separated_list1_reads = record {
+    reads = λ v xs f s. some_reads l errs (preceded_of w sep g).meaning p (preceded_reads l q p) starts Kind.SeparatedList s Passed false v.items xs f;
+  }
+
+  -- any number of items, before what begins with no first one either
+  pub separated_list0_reads : {M : Type 0} → Reads w (separated_list0_of {M = M} w errs sep g) (λ v. AnyForm Form (AfterSeparator bytes Form) v.items)
+      (λ rest. Follow rest × NoItem w (preceded_of w sep g).meaning rest × NoItem w g.meaning rest)
+  separated_list0_reads {M} = record { reads = λ v xs f s. reads v.items xs f s }
+    where
+      Ends : List ℕ → Type 0
+      Ends rest = Follow rest × NoItem w (preceded_of w sep g).meaning rest × NoItem w g.meaning rest
+
+      reads : (vs : List O) (xs : List ℕ) → AnyForm Form (AfterSeparator bytes Form) vs xs → (s : Bool) →
+          ReadsBefore w ((separated_list0_of {M = M} w errs sep g).meaning.answers s) (λ ts. AllZip g.IsOutput ts vs) Ends xs
+      reads [] xs f s = as_whole w (f ∙ refl) (then_reads w l (λ ts us. ts ++ us) ((optional_meaning w errs (Unit {0}) g.meaning).answers s)
+          (λ ts. (follows w errs sep.meaning g.meaning ts).answers s) (λ ts. AllZip g.IsOutput ts []) (λ us. AllZip g.IsOutput us [])
+          (λ ts. AllZip g.IsOutput ts []) none_more (NoItem w g.meaning) Ends [] [] (λ rest k. k.2) (none_reads w l errs g Form Follow p s Never false)
+          none_follow)
+        where
+          none_more : (ts us : List V) → AllZip g.IsOutput ts [] → AllZip g.IsOutput us [] → AllZip g.IsOutput (ts ++ us) []
+          none_more [] us a b = b
+          none_more (t ∷ ts) us a b = absurd a
+
+          none_follow : (ts : List V) → AllZip g.IsOutput ts [] → ReadsBefore w ((follows w errs sep.meaning g.meaning ts).answers s)
+              (λ us. AllZip g.IsOutput us []) Ends []
+          none_follow [] a = success_reads E w [] s (λ us. AllZip g.IsOutput us []) Ends tt
+          none_follow (t ∷ ts) a = absurd a
+      reads (v ∷ vs) xs f s = record {
+        read = λ i rest o known e k a. (first_then l errs (preceded_of w sep g).meaning p (preceded_reads l q p) starts Kind.SeparatedList s 0 Never false
+            (λ ts. (follows w errs sep.meaning g.meaning ts).answers s) (further l errs (preceded_of w sep g).meaning p (preceded_reads l q p) starts
+            Kind.SeparatedList s) v vs xs f).read i rest o known e (k.0, k.1) a;
+      }
+
+-- one item at least, where anything may follow an item
+pub many1_reads : {I V O E M : Type 0} {w : Model I ℕ} (l : InputLaws w) (errs : Errors I E) {g : Grammar I V O E} {Form : O → List ℕ → Type 0}
+    {Follow : List ℕ → Type 0} → ((rest : List ℕ) → Follow rest) → Reads w g Form Follow →
+    Reads w (many1_of {M = M} w errs g) (λ v. SomeForm Form Form v.items) (NoItem w g.meaning)
+many1_reads l errs {g} all p = record {
+  reads = λ v xs f s. record {
+    read = λ i rest o known e k a. (some_reads l errs g.meaning p p (λ v xs rest f. all (xs ++ rest)) Kind.Many0 s (Added Kind.Many1) true v.items xs f).read
+        i rest o known e (all rest, k) a;
+  };
+}

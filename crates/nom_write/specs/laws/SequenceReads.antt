@@ -6,7 +6,7 @@ use Rattle.nom_internal.specs.Prelude.{PairOutput, pair_of}
 use Rattle.nom_internal.specs.Tuples.{tuple_of}
 use Rattle.nom_traits.specs.Rests.{same_cut}
 use Rattle.nom_sequence.specs.Sequences.{preceded_of, terminated_of}
-use Rattle.nom_write.specs.Parts.{Both, Meets}
+use Rattle.nom_sink.specs.Parts.{Both, Meets}
 use Rattle.nom_write.specs.Reads.{Anything, IsTaken, Reads, ReadsBefore, ReadsSome}
 
 -- what follows items of a front, by the front's length

@@ -1,5 +1,5 @@
 use Rattle.std.proofs.Common.{◌≡◌, ◌∙◌, None, length, arith, refl, subst, sym}
-use Rattle.nom_write.proofs.Lists.{undone}
+use Rattle.nom_sink.proofs.Lists.{undone}
 use Rattle.nom_write_stream.specs.Outgoing.{AreBytes, told_of}
 use Rattle.nom_write_stream.proofs.Adding.{added_item, no_room_now, too_long}
 use Rattle.nom_write_stream.proofs.outgoing.Outgoing.add.Goals as goal

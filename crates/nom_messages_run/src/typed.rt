@@ -1,0 +1,51 @@
+//! Messages as they are typed, one in a line.
+ghost use Rattle.std.specs.Prelude.{◌≡◌, ◌-◌, false, length};
+ghost use Rattle.nom.specs.Bytes.{Parses};
+ghost use Rattle.example_protocol.specs.declared.message.Message.TheVariants.{Ping, Text, Close};
+ghost use Rattle.nom_messages_run.specs.Typed.{typed_of};
+
+use example_protocol::Message;
+use nom::branch::alt;
+use nom::bytes::{tag, take};
+use nom::character::u32;
+use nom::combinator::{all_consuming, map};
+use nom::error::Error;
+use nom::sequence::{pair, preceded};
+use nom::{IResult, Parser};
+
+fn ping<'a>(word_and_number: (&'a [u8], u32)) -> Message<'a>
+    ensures { result ≡ Ping word_and_number.entry.1 }
+{
+    Message::Ping(word_and_number.1)
+}
+
+fn text<'a>(bytes: &'a [u8]) -> Message<'a>
+    ensures { result ≡ Text bytes.entry }
+{
+    Message::Text(bytes)
+}
+
+fn close<'a>(_word: &'a [u8]) -> Message<'a>
+    ensures { result ≡ Close }
+{
+    Message::Close
+}
+
+/// Returns the message that a line stands for, which is all of it:
+///
+/// ```text
+/// line = 'ping ' number | 'text ' bytes | 'close'
+/// ```
+///
+/// The number is decimal and fits a `u32`. The bytes are all that is left, as they are. Another line is refused.
+pub fn typed<'a>(line: &'a [u8]) -> IResult<&'a [u8], Message<'a>>
+    ensures { Parses (typed_of (length line.now - 5)) false line.entry result }
+{
+    let count = line.len().saturating_sub(5);
+    let number = pair(tag::<_, _, Error<&[u8]>>(&b"ping "[..]), u32());
+    let bytes = preceded(tag::<_, _, Error<&[u8]>>(&b"text "[..]), take(count));
+    let leave = tag::<_, _, Error<&[u8]>>(&b"close"[..]);
+    all_consuming(alt((map(number, ping), map(bytes, text), map(leave, close)))).parse_complete(
+        line,
+    )
+}

@@ -1,0 +1,5 @@
+pub mod Adding
+pub mod InRadix
+pub mod Digits
+pub mod Lists
+pub mod Moved

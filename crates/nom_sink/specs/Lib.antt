@@ -1,0 +1,7 @@
+pub mod Choices
+pub mod Numerals
+pub mod Digits
+pub mod Lists
+pub mod Parts
+pub mod Slices
+pub mod Written

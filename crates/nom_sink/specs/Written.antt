@@ -1,0 +1,62 @@
+-- What a call of a writer does to what a sink holds.
+use Rattle.std.specs.Prelude.{◌≡◌, ℕ, ◌+◌, ◌-◌, ◌<◌, ◌≤◌, List, ◌++◌, length, take, drop, Result, Ok, Err}
+use Rattle.nom_sink.specs.declared.error.WriteError.{WriteError}
+use Rattle.nom_sink.specs.declared.error.WriteError.TheVariants.{OutOfMemory, Full, TooLong, Mismatch}
+
+-- what there may be too little of
+pub data Lack : Type 0 where
+  OfMemory : Lack
+  OfSpace : Lack
+
+-- the error for it
+abbrev pub lack_error : Lack → WriteError
+lack_error OfMemory = OutOfMemory
+lack_error OfSpace = Full
+
+-- what a sink is: the bytes that it holds, for how many it has room in all, and what it has too little of where it has no room
+pub record SinkModel (S : Type 0) : Type 0 where
+  pub items : S → List ℕ
+  pub room : S → ℕ
+  pub lack : Lack
+
+-- the items from a place on, up to a middle, moved behind those that follow them
+abbrev pub moved_behind : (start middle : ℕ) → List ℕ → List ℕ
+moved_behind start middle xs = take start xs ++ (drop (middle - start) (drop start xs) ++ take (middle - start) (drop start xs))
+
+-- where a part begins, for how many bytes in all there is room, and what lacks where there is none
+pub record Space : Type 0 where
+  pub lack : Lack
+  pub room : ℕ
+  pub start : ℕ
+
+-- the space after some bytes
+abbrev pub after : Space → List ℕ → Space
+after s xs = record { lack = s.lack; room = s.room; start = s.start + length xs }
+
+-- the space after what a sink holds
+abbrev pub space_at : (lack : Lack) (room : ℕ) (items : List ℕ) → Space
+space_at lack room items = record { lack = lack; room = room; start = length items }
+
+-- The sink holds a form of the value more. Or it holds what it did, and there is a reason, by how many bytes it held and for how many it
+-- had room, at the call or later.
+abbrev pub Written : {S : Type 0} → (List ℕ → Type 0) → (Space → WriteError → Type 0) → SinkModel S → (old new : S) → Result (Unit {0}) WriteError → Type 0
+Written Form Fails m old new (Ok _) = (xs : List ℕ) × (m.items new ≡ m.items old ++ xs) × Form xs
+Written Form Fails m old new (Err e) = (m.items new ≡ m.items old) × ((room : ℕ) × (m.room old ≤ room) × Fails (space_at m.lack room (m.items old)) e)
+
+-- there is no room for that many bytes more
+abbrev pub LacksRoom : (count : ℕ) → Space → WriteError → Type 0
+LacksRoom count s e = (e ≡ lack_error s.lack) × (s.room < s.start + count)
+
+-- an error for want of room
+abbrev pub IsLack : WriteError → Type 0
+IsLack OutOfMemory = Unit {0}
+IsLack Full = Unit {0}
+IsLack (TooLong n) = ⊥
+IsLack (Mismatch n) = ⊥
+
+-- the error, with its place that many bytes before
+abbrev pub moved_back : (count : ℕ) → WriteError → WriteError
+moved_back count OutOfMemory = OutOfMemory
+moved_back count Full = Full
+moved_back count (TooLong n) = TooLong (n - count)
+moved_back count (Mismatch n) = Mismatch (n - count)

@@ -1,0 +1,13 @@
+//! What bytes are written into, and what is ready to be written, without a parser.
+#![tactic(auto)]
+
+pub mod bits;
+pub mod decimal;
+pub mod error;
+pub mod items;
+pub mod piece;
+pub mod radix;
+pub mod sink;
+
+pub use crate::error::WriteError;
+pub use crate::sink::{Sink, SliceSink, slice_sink};

@@ -1,0 +1,98 @@
+//! What is ready to be written.
+ghost use Rattle.std.specs.Prelude.{◌≤◌, ◌≡◌, ℕ, List, length};
+ghost use Rattle.nom_sink.specs.Choices.{Either, EitherFails};
+ghost use Rattle.nom_sink.specs.Parts.{Both, BothFail};
+ghost use Rattle.nom_sink.specs.Written.{LacksRoom, Space, Written};
+
+use crate::error::WriteError;
+use crate::sink::Sink;
+
+/// Something that is ready to be written. It needs no value.
+pub trait Piece {
+    ghost use Rattle.nom_sink.specs.declared.error.WriteError.{WriteError};
+
+    /// The bytes that stand for it.
+    ghost Form: { Self → List ℕ → Type 0 };
+
+    /// Why it isn't written.
+    ghost Fails: { Self → Space → WriteError → Type 0 };
+
+    /// What must hold so that it may be written.
+    ghost CanPut: { Self → Type 0 };
+
+    /// Adds the piece to `out`. On an error, `out` is as it was.
+    fn put<S: Sink>(&self, out: &mut S) -> Result<(), WriteError>
+        requires { CanPut self.now }
+        ensures written { Written (Form self.now) (Fails self.now) S.model out.old out.new result }
+        ensures room { S.model.room out.old ≤ S.model.room out.new };
+}
+
+/// Bytes as they are.
+#[derive(Drop)]
+pub struct Plain<'a>(pub &'a [u8]);
+
+impl<'a> Piece for Plain<'a> {
+    ghost Form = { λ o xs. xs ≡ o.0.now };
+
+    ghost Fails = { λ o. LacksRoom (length o.0.now) };
+
+    ghost CanPut = { λ o. Unit {0} };
+
+    #[inline(always)]
+    fn put<S: Sink>(&self, out: &mut S) -> Result<(), WriteError> {
+        out.add(self.0)
+    }
+}
+
+/// The first piece, and then the second. If the second fails, the first is removed again.
+#[derive(Drop)]
+pub struct InTurn<F, G>(pub F, pub G);
+
+impl<F: Piece, G: Piece> Piece for InTurn<F, G> {
+    ghost Form = { λ o. Both (F.Form o.0) (G.Form o.1) };
+
+    ghost Fails = { λ o. BothFail (F.Form o.0) (F.Fails o.0) (G.Fails o.1) };
+
+    ghost CanPut = { λ o. F.CanPut o.0 × G.CanPut o.1 };
+
+    #[inline]
+    fn put<S: Sink>(&self, out: &mut S) -> Result<(), WriteError> {
+        let start = out.len();
+        match self.0.put(out) {
+            Ok(()) => match self.1.put(out) {
+                Ok(()) => Ok(()),
+                Err(error) => {
+                    out.truncate(start);
+                    Err(error)
+                }
+            },
+            Err(error) => Err(error),
+        }
+    }
+}
+
+/// The first piece, or the second if the first is unfit. The second isn't tried if the first lacks room.
+#[derive(Drop)]
+pub struct FirstFit<F, G>(pub F, pub G);
+
+impl<F: Piece, G: Piece> Piece for FirstFit<F, G> {
+    ghost Form = { λ o. Either (F.Form o.0) (F.Fails o.0) (G.Form o.1) };
+
+    ghost Fails = { λ o. EitherFails (F.Fails o.0) (G.Fails o.1) };
+
+    ghost CanPut = { λ o. F.CanPut o.0 × G.CanPut o.1 };
+
+    #[inline]
+    fn put<S: Sink>(&self, out: &mut S) -> Result<(), WriteError> {
+        match self.0.put(out) {
+            Ok(()) => Ok(()),
+            Err(error) => {
+                if error.is_unfit() {
+                    self.1.put(out)
+                } else {
+                    Err(error)
+                }
+            }
+        }
+    }
+}

@@ -1,0 +1,43 @@
+//! Numbers in hexadecimal digits.
+ghost use Rattle.std.specs.Prelude.{◌<◌, ◌^◌};
+ghost use Rattle.nom_character.specs.ClassRuns.{IsOf};
+ghost use Rattle.nom_sink.specs.Numerals.{AreDigitsOf, LacksDigits};
+ghost use Rattle.nom_traits.specs.declared.character.AsciiClass.TheVariants as Class;
+ghost use Rattle.nom_write.specs.Runs.{BeginsOther};
+ghost use Rattle.nom_write.specs.laws.HexReads.{hex_reads};
+ghost use Rattle.nom_write.specs.laws.LeadLaws.{no_lead};
+
+use crate::writer::Writer;
+use nom_error::value::ParseError;
+use nom_number_text::HexU32;
+use nom_sink::error::WriteError;
+use nom_sink::radix::{Sixteen, write_digits};
+use nom_sink::sink::Sink;
+use nom_traits::input::Input;
+use std::marker::PhantomData;
+
+/// Parses a number of at most eight hexadecimal digits, and writes one.
+///
+/// It parses as `hex_u32` of `nom::number::streaming` and `nom::number::complete`, in the requested mode.
+#[inline(always)]
+pub fn hex_u32<I, E>() -> HexU32<I, E> {
+    HexU32 { error: PhantomData }
+}
+
+/// Writes the digits of a number in lower case, without leading zeros. No hexadecimal digit may follow.
+impl<I: Input<Item = u8>, E: ParseError<I>> Writer<I> for HexU32<I, E> {
+    ghost Form = { λ p v xs. (v < 2 ^ 32) × AreDigitsOf 16 v xs };
+
+    ghost Fails = { λ p v. LacksDigits 16 v };
+
+    ghost MayFollow = { λ p. BeginsOther (IsOf (λ x. x) Class.HexDigit) };
+
+    #[inline]
+    fn write<S: Sink>(&self, value: &u32, out: &mut S) -> Result<(), WriteError> {
+        write_digits::<Sixteen, S>(*value as u128, out)
+    }
+
+    ghost reads = { λ p k c. hex_reads I.model I.values E.errors };
+
+    ghost leads = { λ p. no_lead };
+}
