@@ -3,7 +3,5 @@
 #![tactic(auto)]
 
 pub mod closures;
-pub mod dates;
 pub mod own;
-pub mod packets;
 pub mod parts;

@@ -55,7 +55,10 @@ fn text_bytes<'a>(message: &Message<'a>) -> Option<&'a [u8]>
 /// ```text
 /// message = 1 number:u32 | 2 length:u8 bytes | 3
 /// ```
-pub fn write_message<'a, S: Sink>(message: &Message<'a>, out: &mut S) -> Result<(), WriteError> {
+pub fn write_message<'a, S: Sink<u8>>(
+    message: &Message<'a>,
+    out: &mut S,
+) -> Result<(), WriteError> {
     let messages = alt((
         map_both(
             (tag::<_, _, Error<&'a [u8]>>(&b"\x01"[..]), be_u32()),

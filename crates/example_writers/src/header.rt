@@ -12,7 +12,7 @@ use nom_write::{Sink, WriteError, Writer};
 pub type Header<'a> = (u8, u16, u32, u16, &'a [u8], u64);
 
 /// Writes a header.
-pub fn write_header<S: Sink>(header: &Header<'_>, out: &mut S) -> Result<(), WriteError> {
+pub fn write_header<S: Sink<u8>>(header: &Header<'_>, out: &mut S) -> Result<(), WriteError> {
     let version = preceded(tag::<_, _, Error<&[u8]>>(&b"H"[..]), be_u8());
     let fields = (
         version,

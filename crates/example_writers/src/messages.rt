@@ -25,7 +25,7 @@ pub enum Message {
 impl Viewed for Message {}
 
 /// Writes a message.
-pub fn write_message<S: Sink>(message: &Message, out: &mut S) -> Result<(), WriteError> {
+pub fn write_message<S: Sink<u8>>(message: &Message, out: &mut S) -> Result<(), WriteError> {
     let messages = alt((
         map_both(
             preceded(tag::<_, _, Error<&[u8]>>(&b"seek"[..]), be_u32()),

@@ -26,7 +26,7 @@ fn records<'a, M: Allocator + Copy>(alloc: M) -> Terminated<Many0<M, Record<'a>>
 }
 
 /// Writes records.
-pub fn write_records<'a, M: Allocator + Copy, S: Sink>(
+pub fn write_records<'a, M: Allocator + Copy, S: Sink<u8>>(
     alloc: M,
     values: &Vec<&'a [u8], M>,
     out: &mut S,

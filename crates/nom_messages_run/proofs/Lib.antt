@@ -1,5 +1,10 @@
-mod Piped
-pub mod Reported
+mod Again
+pub mod Answered
 pub mod Framed
+pub mod Lacks
+pub mod Lines
+mod Piped
+pub mod ReadBack
+pub mod Reported
 mod TypedParts
 mod Whole

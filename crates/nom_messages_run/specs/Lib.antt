@@ -1,3 +1,5 @@
+pub mod Back
+pub mod Forms
 pub mod Pipe
 pub mod Report
 pub mod Sent

@@ -1,48 +1,32 @@
 -- Messages that are written as they are typed.
-use Rattle.std.specs.Prelude.{◌≡◌, ℕ, false, ◌+◌, ◌-◌, ◌<◌, List, [], ◌∷◌, ◌++◌, length, take, Option, Some, None, Ok, Err, codes}
+use Rattle.std.specs.Prelude.{◌≡◌, ℕ, false, ◌+◌, ◌-◌, ◌^◌, ◌<◌, ◌≤◌, ◌⊎◌, List, [], ◌∷◌, ◌++◌, length, take, Option, Some, None, Ok, Err, codes}
 use Rattle.std.specs.Fmt.{decimal}
+use Rattle.std.specs.List.{All}
+use Rattle.std_io.specs.declared.io.error.Error as Io
 use Rattle.nom_error.specs.declared.value.Error.{Error}
 use Rattle.nom_error.specs.declared.answer.Err.TheVariants as Answer
 use Rattle.nom_internal.specs.Prelude.{IResult}
-use Rattle.nom.specs.Bytes.{Big, Bytes, Parses}
-use Rattle.nom_number.specs.Numbers.{binary_number}
+use Rattle.nom.specs.Bytes.{Bytes, Parses}
 use Rattle.nom_json_run.specs.Lines.{json_line_of}
+use Rattle.nom_sink.specs.declared.error.WriteError.{WriteError}
+use Rattle.nom_sink.specs.declared.error.WriteError.TheVariants as Write
+use Rattle.nom_stream.specs.declared.stream.Stop as Stops
 use Rattle.nom_stream.specs.declared.stream.Stop.TheVariants as Stop
 use Rattle.nom_stream.specs.declared.stream.Stream.{Stream}
 use Rattle.nom_stream.specs.Held.{last_of}
 use Rattle.nom_stream.specs.Streams.{Decides}
 use Rattle.nom_write_stream.specs.declared.outgoing.Outgoing.{Outgoing}
-use Rattle.nom_write_stream.specs.Outgoing.{Sends}
+use Rattle.nom_write_stream.specs.declared.outgoing.Unwritten as Unwrittens
+use Rattle.nom_write_stream.specs.declared.outgoing.Unwritten.TheVariants as Unwritten
+use Rattle.nom_write_stream.specs.Outgoing.{IsItem, Sends, held_of}
+use Rattle.nom_write_stream.specs.Targets.{NoFault, OneFault}
 use Rattle.example_protocol.specs.declared.message.Message.{Message}
-use Rattle.example_protocol.specs.declared.message.Message.TheVariants.{Ping, Text, Close}
+use Rattle.nom_messages_run.specs.Forms.{IsLong, IsMessage, body_len}
 use Rattle.nom_messages_run.specs.Typed.{typed_of}
 use Rattle.nom_messages_run.specs.declared.write.Halt as Halts
 use Rattle.nom_messages_run.specs.declared.write.Halt.TheVariants as Halt
 use Rattle.nom_messages_run.specs.declared.write.Unsent as Why
 use Rattle.nom_messages_run.specs.declared.write.Unsent.TheVariants as Unsent
-
--- the body of a message: the byte of its kind, and what it holds
-abbrev pub IsBody : Message → List ℕ → Type 0
-IsBody (Ping number) xs = (ys : List ℕ) × (xs ≡ 1 ∷ ys) × (length ys ≡ 4) × (binary_number Big ys ≡ number)
-IsBody (Text bytes) xs = xs ≡ 2 ∷ length bytes.now ∷ bytes.now
-IsBody Close xs = xs ≡ 3 ∷ []
-
--- bytes after their length, of two bytes; the highest byte of a number is the first
-pub record IsFrame (body xs : List ℕ) : Type 0 where
-  pub size : List ℕ
-  pub two : length size ≡ 2
-  pub counts : binary_number Big size ≡ length body
-  pub whole : xs ≡ size ++ body
-
--- the bytes of a message: its body after the body's length
-abbrev pub IsMessage : Message → List ℕ → Type 0
-IsMessage m xs = (body : List ℕ) × IsBody m body × IsFrame body xs
-
--- its text has more bytes than the byte before it can say
-abbrev pub IsLong : Message → Type 0
-IsLong (Ping number) = ⊥
-IsLong (Text bytes) = 255 < length bytes.now
-IsLong Close = ⊥
 
 -- what is answered on a line
 abbrev pub Answers : List ℕ → IResult Bytes Message (Error Bytes) → Type 0
@@ -63,86 +47,125 @@ IsStop (Err (Answer.Incomplete k)) = Unit {0}
 abbrev pub IsRefused : List ℕ → Type 0
 IsRefused xs = (r : IResult Bytes Message (Error Bytes)) × IsStop r × Answers xs r
 
+-- a line, without its end, came as the next one
+abbrev pub TakesLine : {R A : Type 0} → (R → Option (List ℕ)) → (s t : Stream R A) → List ℕ → Type 0
+TakesLine left s t xs = (n x : ℕ) × Decides left json_line_of s t (Ok (Some (n, x))) × (xs ≡ take x (last_of n t.held))
+
 -- a message is held or written, after what was held
 abbrev pub SendsMessage : {W B : Type 0} → (W → Option (List ℕ)) → (a b : Outgoing W B) → Message → Type 0
-SendsMessage contents a b m = (xs : List ℕ) × IsMessage m xs × Sends contents a b xs
+SendsMessage contents a b m = (xs : List ℕ) × IsItem (IsMessage m) a.most xs × Sends contents a b xs × NoFault a.target b.target
 
 -- nothing was added to what was held
 abbrev pub SendsNone : {W B : Type 0} → (W → Option (List ℕ)) → (a b : Outgoing W B) → Type 0
 SendsNone contents a b = Sends contents a b []
 
--- a line, without its end, came as the next one
-abbrev pub TakesLine : {R A : Type 0} → (R → Option (List ℕ)) → (s t : Stream R A) → List ℕ → Type 0
-TakesLine left s t xs = (n x : ℕ) × Decides left json_line_of s t (Ok (Some (n, x))) × (xs ≡ take x (last_of n t.held))
+-- Why no body is made, with memory for so many bytes: there is too little, or the text is too long.
+abbrev pub WhyNoBody : (room : ℕ) → Message → WriteError → Type 0
+WhyNoBody room m Write.OutOfMemory = room < body_len m
+WhyNoBody room m Write.Full = ⊥
+WhyNoBody room m (Write.TooLong place) = IsLong m
+WhyNoBody room m (Write.Mismatch place) = ⊥
 
--- why the line after so many isn't sent; at the end there is none
-abbrev pub HaltsAt : {R A : Type 0} → (R → Option (List ℕ)) → Halts.Halt → (count : ℕ) → (t u : Stream R A) → Type 0
-HaltsAt left Halt.End count t u = Decides left json_line_of t u (Ok None)
-HaltsAt left (Halt.NoMessage number) count t u = (number ≡ count + 1) × ((xs : List ℕ) × TakesLine left t u xs × IsRefused xs)
-HaltsAt left (Halt.LongText number) count t u =
-    (number ≡ count + 1) × ((xs : List ℕ) × TakesLine left t u xs × ((m : Message) × Says xs m × IsLong m))
-HaltsAt left (Halt.LongLine number) count t u = number ≡ count + 1
-HaltsAt left Halt.Read count t u = Unit {0}
-HaltsAt left Halt.Write count t u = Unit {0}
-HaltsAt left Halt.OutOfMemory count t u = Unit {0}
+abbrev pub WhyUnmade : (room : ℕ) → Message → Why.Unsent → Type 0
+WhyUnmade room m Unsent.LongText = IsLong m
+WhyUnmade room m Unsent.OverLimit = ⊥
+WhyUnmade room m Unsent.Write = ⊥
+WhyUnmade room m Unsent.OutOfMemory = room < body_len m
 
--- So many lines came, from states of a stream and of what is written to others, and the messages for which they stand were sent, in order.
+module _ {W B : Type 0} (a b : Outgoing W B) where
+  -- one write failed
+  abbrev pub WriteFails : Type 0
+  WriteFails = (e : Io.Error) × OneFault a.target b.target e
+
+  -- Why bytes aren't sent after their length: a write failed, or there are more than may be held, or than the length can say. Memory
+  -- isn't wanted.
+  abbrev pub WhyUnframed : (body : List ℕ) → Unwrittens.Unwritten → Type 0
+  WhyUnframed body (Unwritten.TooLong at) = (65535 < length body) × NoFault a.target b.target
+  WhyUnframed body (Unwritten.Mismatch at) = ⊥
+  WhyUnframed body Unwritten.Nothing = ⊥
+  WhyUnframed body Unwritten.OverLimit = (a.most < 2 + length body) × NoFault a.target b.target
+  WhyUnframed body (Unwritten.Fault e) = OneFault a.target b.target e
+  WhyUnframed body Unwritten.OutOfMemory = ⊥
+
+  -- why a message isn't sent, with memory for a body of so many bytes
+  abbrev pub WhyUnsent : (room : ℕ) → Message → Why.Unsent → Type 0
+  WhyUnsent room m Unsent.LongText = IsLong m × NoFault a.target b.target
+  WhyUnsent room m Unsent.OverLimit = (a.most < 2 + body_len m) × NoFault a.target b.target
+  WhyUnsent room m Unsent.Write = WriteFails
+  WhyUnsent room m Unsent.OutOfMemory = (room < body_len m) × NoFault a.target b.target
+
+-- what isn't written isn't sent
+abbrev pub unsent_of : Unwrittens.Unwritten → Why.Unsent
+unsent_of (Unwritten.TooLong at) = Unsent.OverLimit
+unsent_of (Unwritten.Mismatch at) = Unsent.OverLimit
+unsent_of Unwritten.Nothing = Unsent.OverLimit
+unsent_of Unwritten.OverLimit = Unsent.OverLimit
+unsent_of (Unwritten.Fault e) = Unsent.Write
+unsent_of Unwritten.OutOfMemory = Unsent.OutOfMemory
+
+-- what halts where the message of the line of a number isn't sent
+abbrev pub halt_for : (number : ℕ) → Why.Unsent → Halts.Halt
+halt_for number Unsent.LongText = Halt.LongText number
+halt_for number Unsent.OverLimit = Halt.LongLine number
+halt_for number Unsent.Write = Halt.Write
+halt_for number Unsent.OutOfMemory = Halt.OutOfMemory
+
+-- and where a stream stops before that line
+abbrev pub halt_by : (number : ℕ) → Stops.Stop → Halts.Halt
+halt_by number (Stop.Refused kind len) = Halt.Read
+halt_by number (Stop.Failed kind len) = Halt.Read
+halt_by number Stop.Nothing = Halt.Read
+halt_by number (Stop.Incomplete needed) = Halt.Read
+halt_by number Stop.TooLong = Halt.LongLine number
+halt_by number (Stop.Fault error) = Halt.Read
+halt_by number Stop.OutOfMemory = Halt.OutOfMemory
+
+-- Why the line of a number isn't sent, and what halts for it: it is no message, or the message isn't sent.
+pub data HaltsLine {W B : Type 0} (room : ℕ) (a b : Outgoing W B) (xs : List ℕ) (number : ℕ) (h : Halts.Halt) : Type 0 where
+  Refused : IsRefused xs → NoFault a.target b.target → h ≡ Halt.NoMessage number → HaltsLine room a b xs number h
+  NotSent : (m : Message) (why : Why.Unsent) → Says xs m → WhyUnsent a b room m why → h ≡ halt_for number why → HaltsLine room a b xs number h
+
+-- What halts after some messages, from states of a stream and of what is written to others, and why. Memory is wanted for a body alone that
+-- is longer than those before it.
+pub data HaltsAt {R A W B : Type 0} (left : R → Option (List ℕ)) (messages : List Message) (t u : Stream R A) (a b : Outgoing W B)
+    (h : Halts.Halt) : Type 0 where
+  -- the data end
+  Ended : Decides left json_line_of t u (Ok None) → NoFault a.target b.target → h ≡ Halt.End → HaltsAt left messages t u a b h
+  -- no line comes
+  Stopped : (why : Stops.Stop) → Decides left json_line_of t u (Err why) → NoFault a.target b.target → h ≡ halt_by (length messages + 1) why →
+      HaltsAt left messages t u a b h
+  -- the next line comes, and isn't sent
+  Taken : (xs : List ℕ) (room : ℕ) → TakesLine left t u xs → All (λ m. body_len m ≤ room) messages →
+      HaltsLine room a b xs (length messages + 1) h → HaltsAt left messages t u a b h
+  -- no more lines can be counted
+  Full : length messages ≡ 2 ^ 64 - 1 → u ≡ t → NoFault a.target b.target → h ≡ Halt.Read → HaltsAt left messages t u a b h
+
+-- Lines came, from states of a stream and of what is written to others, and the messages for which they stand were sent, in order.
 pub data SentLines {R A W B : Type 0} (left : R → Option (List ℕ)) (contents : W → Option (List ℕ)) (s : Stream R A) (a : Outgoing W B) :
-    (count : ℕ) (t : Stream R A) (b : Outgoing W B) → Type 0 where
-  none : SentLines left contents s a 0 s a
-  line : {count : ℕ} {t u : Stream R A} {b c : Outgoing W B} (xs : List ℕ) (m : Message) → SentLines left contents s a count t b →
-      TakesLine left t u xs → Says xs m → SendsMessage contents b c m → SentLines left contents s a (count + 1) u c
+    (messages : List Message) (t : Stream R A) (b : Outgoing W B) → Type 0 where
+  none : SentLines left contents s a [] s a
+  line : {messages : List Message} {t u : Stream R A} {b c : Outgoing W B} (xs : List ℕ) (m : Message) →
+      SentLines left contents s a messages t b → TakesLine left t u xs → Says xs m → SendsMessage contents b c m →
+      SentLines left contents s a (messages ++ m ∷ []) u c
 
--- the lines before the one that halted were sent, and nothing of that; and why it halted
-pub record SentBefore {R A W B : Type 0} (left : R → Option (List ℕ)) (contents : W → Option (List ℕ)) (s : Stream R A) (a : Outgoing W B)
+-- the lines before one were sent, and nothing of that; and what halted there, and why
+pub record SentUntil {R A W B : Type 0} (left : R → Option (List ℕ)) (contents : W → Option (List ℕ)) (s : Stream R A) (a : Outgoing W B)
     (h : Halts.Halt) (t : Stream R A) (b : Outgoing W B) : Type 0 where
-  pub count : ℕ
+  pub messages : List Message
   pub stream : Stream R A
   pub outgoing : Outgoing W B
-  pub lines : SentLines left contents s a count stream outgoing
+  pub lines : SentLines left contents s a messages stream outgoing
   pub nothing : SendsNone contents outgoing b
-  pub why : HaltsAt left h count stream t
+  pub why : HaltsAt left messages stream t outgoing b h
 
--- why a message isn't sent
-abbrev pub WhyUnsent : Message → Why.Unsent → Type 0
-WhyUnsent m Unsent.LongText = IsLong m
-WhyUnsent m Unsent.OverLimit = Unit {0}
-WhyUnsent m Unsent.Write = Unit {0}
-WhyUnsent m Unsent.OutOfMemory = Unit {0}
-
--- nothing is told of its text
-abbrev pub WhyUnframed : Why.Unsent → Type 0
-WhyUnframed Unsent.LongText = ⊥
-WhyUnframed Unsent.OverLimit = Unit {0}
-WhyUnframed Unsent.Write = Unit {0}
-WhyUnframed Unsent.OutOfMemory = Unit {0}
-
--- what halts for it at the line of a number
-abbrev pub HaltsFor : ℕ → Why.Unsent → Halts.Halt → Type 0
-HaltsFor number Unsent.LongText h = h ≡ Halt.LongText number
-HaltsFor number Unsent.OverLimit h = h ≡ Halt.LongLine number
-HaltsFor number Unsent.Write h = h ≡ Halt.Write
-HaltsFor number Unsent.OutOfMemory h = h ≡ Halt.OutOfMemory
-
--- why the line of a number isn't sent
-abbrev pub HaltsLine : (xs : List ℕ) (number : ℕ) → Halts.Halt → Type 0
-HaltsLine xs number Halt.End = ⊥
-HaltsLine xs number (Halt.NoMessage k) = (k ≡ number) × IsRefused xs
-HaltsLine xs number (Halt.LongText k) = (k ≡ number) × ((m : Message) × Says xs m × IsLong m)
-HaltsLine xs number (Halt.LongLine k) = k ≡ number
-HaltsLine xs number Halt.Read = ⊥
-HaltsLine xs number Halt.Write = Unit {0}
-HaltsLine xs number Halt.OutOfMemory = Unit {0}
-
--- why there is no line of a number
-abbrev pub StopsAt : ℕ → Halts.Halt → Type 0
-StopsAt number Halt.End = ⊥
-StopsAt number (Halt.NoMessage k) = ⊥
-StopsAt number (Halt.LongText k) = ⊥
-StopsAt number (Halt.LongLine k) = k ≡ number
-StopsAt number Halt.Read = Unit {0}
-StopsAt number Halt.Write = ⊥
-StopsAt number Halt.OutOfMemory = Unit {0}
+-- then all that was held was written; or a write failed then, and that halted
+pub record SentBefore {R A W B : Type 0} (left : R → Option (List ℕ)) (contents : W → Option (List ℕ)) (s : Stream R A) (a : Outgoing W B)
+    (h : Halts.Halt) (t : Stream R A) (b : Outgoing W B) : Type 0 where
+  pub halt : Halts.Halt
+  pub outgoing : Outgoing W B
+  pub until : SentUntil left contents s a halt t outgoing
+  pub nothing : SendsNone contents outgoing b
+  pub flushed : ((h ≡ halt) × (held_of b ≡ []) × NoFault outgoing.target b.target) ⊎ ((h ≡ Halt.Write) × WriteFails outgoing b)
 
 -- the status of the program
 abbrev pub status_of : Halts.Halt → ℕ

@@ -1,12 +1,14 @@
-//! The promise of the lines of messages. The function does nothing: its contract is the promise.
+//! The promises of the lines of messages. The functions do nothing: their contracts are the promises.
+ghost use Rattle.nom_messages_run.specs.Back.{FileReadsBack, SentReadBack, StreamReadsBack};
 ghost use Rattle.nom_messages_run.specs.Whole.{LinesOfWhole};
 
-use example_streams::messages::Received;
+use example_streams::messages::{Messages, Received};
 use nom_stream::grammar::Grammar;
 use nom_stream::promises::{answers_of_whole, bytes_of_whole, items_of_whole};
 use nom_stream::stream::Stream;
+use nom_write_stream::outgoing::Outgoing;
 use std::alloc::Allocator;
-use std::io::Read;
+use std::io::{Read, Write};
 
 /// If `tell_items` answers a status, it wrote the lines of the first items of the whole, in order, and the
 /// last line.
@@ -24,4 +26,26 @@ pub fn lines_of_whole<R: Read, A: Allocator + Copy, G: Grammar<Item = Received>>
     answers_of_whole(stream, grammar);
     items_of_whole(stream, grammar);
     bytes_of_whole(stream, grammar);
+}
+
+/// What is written of a message is read back as that message, whatever follows it, by both readers of messages.
+///
+/// If `write_lines` sent messages, and all of them was written, then `tell_messages` writes their lines and `end` for what
+/// was written. If a read fails or memory runs out, it writes the lines of the first of them, and why no more. This is
+/// true however the writer takes its bytes and the reader delivers them.
+pub fn sent_read_back<
+    R: Read,
+    A: Allocator + Copy,
+    W: Write,
+    B: Allocator,
+    S: Read,
+    C: Allocator + Copy,
+>(_lines: &Stream<R, A>, _outgoing: &Outgoing<W, B>, messages: &Stream<S, C>)
+    ensures stream { StreamReadsBack }
+    ensures file { FileReadsBack }
+    ensures sent { SentReadBack A B C R.remaining W.contents S.remaining }
+{
+    answers_of_whole(messages, &Messages);
+    items_of_whole(messages, &Messages);
+    bytes_of_whole(messages, &Messages);
 }

@@ -1,5 +1,6 @@
 //! Messages as they are typed, one in a line.
-ghost use Rattle.std.specs.Prelude.{◌≡◌, ◌-◌, false, length};
+ghost use Rattle.std.specs.Prelude.{◌≡◌, ◌-◌, false, Err, length};
+ghost use Rattle.nom_error.specs.declared.answer.Err.TheVariants as Answer;
 ghost use Rattle.nom.specs.Bytes.{Parses};
 ghost use Rattle.example_protocol.specs.declared.message.Message.TheVariants.{Ping, Text, Close};
 ghost use Rattle.nom_messages_run.specs.Typed.{typed_of};
@@ -37,9 +38,11 @@ fn close<'a>(_word: &'a [u8]) -> Message<'a>
 /// line = 'ping ' number | 'text ' bytes | 'close'
 /// ```
 ///
-/// The number is decimal and fits a `u32`. The bytes are all that is left, as they are. Another line is refused.
+/// The number is decimal and fits a `u32`. The bytes are all that is left, as they are. Another line is refused. It takes
+/// no memory.
 pub fn typed<'a>(line: &'a [u8]) -> IResult<&'a [u8], Message<'a>>
-    ensures { Parses (typed_of (length line.now - 5)) false line.entry result }
+    ensures shown { Parses (typed_of (length line.now - 5)) false line.entry result }
+    ensures memory { result ≡ Err Answer.OutOfMemory → ⊥ }
 {
     let count = line.len().saturating_sub(5);
     let number = pair(tag::<_, _, Error<&[u8]>>(&b"ping "[..]), u32());

@@ -1,11 +1,14 @@
 //! Messages that are written as they are typed.
-ghost use Rattle.std.specs.Prelude.{◌≡◌, ◌⊎◌, ◌++◌, ℕ, List, [], IfErr, IfOk, MatchOption, string_bytes, take};
-ghost use Rattle.nom_messages_run.specs.Sent.{HaltsLine, IsBody, IsFrame, IsLong, Says, SendsMessage, SendsNone, SentBefore};
-ghost use Rattle.nom_messages_run.specs.Sent.{WhyUnframed, WhyUnsent, HaltsFor, StopsAt, halt_text};
+ghost use Rattle.std.specs.Prelude.{◌≡◌, ◌++◌, ◌≤◌, ℕ, List, [], IfErr, IfOk, MatchOption, string_bytes, take, vec_capacity};
+ghost use Rattle.nom_messages_run.specs.Forms.{IsBody, IsFrame, body_len};
+ghost use Rattle.nom_messages_run.specs.Sent.{HaltsLine, Says, SendsMessage, SendsNone, SentBefore, SentUntil};
+ghost use Rattle.nom_messages_run.specs.Sent.{WhyNoBody, WhyUnframed, WhyUnmade, WhyUnsent, halt_by, halt_for, halt_text, unsent_of};
 ghost use Rattle.example_protocol.specs.declared.message.Message.{Message};
 ghost use Rattle.nom_messages_run.specs.Sent as Sent;
 ghost use Rattle.nom_stream.specs.Streams.{IsOpen};
+ghost use Rattle.nom_write_stream.specs.Outgoing.{IsItem, Sends};
 ghost use Rattle.nom_write_stream.specs.Outgoing as Outgoings;
+ghost use Rattle.nom_write_stream.specs.Targets.{NoFault};
 
 use crate::typed::typed;
 use example_protocol::Message;
@@ -14,7 +17,7 @@ use nom::error::Error;
 use nom::multi::length_data;
 use nom::number::{be_u8, be_u16, be_u32};
 use nom::sequence::preceded;
-use nom::{Err as Answer, OutOfMemory};
+use nom::{Err as Answer, Items, OutOfMemory};
 use nom_json_run::lines::Lines;
 use nom_stream::stream::{Stop, Stream};
 use nom_write::{Constant, WriteError, Writer};
@@ -61,7 +64,8 @@ pub enum Halt {
 fn add_body<A: Allocator>(message: Message<'_>, out: &mut Vec<u8, A>) -> Result<(), WriteError>
     requires { out.old.items ≡ [] }
     ensures body { IfOk result (λ _. IsBody message.entry out.new.items) }
-    ensures error { IfErr result (λ e. (e ≡ WriteError.OutOfMemory) ⊎ IsLong message.entry) }
+    ensures error { IfErr result (λ e. WhyNoBody (vec_capacity out.old) message.entry e) }
+    ensures room { vec_capacity out.old ≤ vec_capacity out.new }
 {
     match message {
         Message::Ping(number) => {
@@ -77,7 +81,8 @@ fn add_body<A: Allocator>(message: Message<'_>, out: &mut Vec<u8, A>) -> Result<
 /// Makes the body of a message.
 fn make_body<A: Allocator>(message: Message<'_>, room: &mut Vec<u8, A>) -> Result<(), Unsent>
     ensures body { IfOk result (λ _. IsBody message.entry room.new.items) }
-    ensures error { IfErr result (λ why. WhyUnsent message.entry why) }
+    ensures error { IfErr result (λ why. WhyUnmade (vec_capacity room.old) message.entry why) }
+    ensures room { vec_capacity room.old ≤ vec_capacity room.new }
 {
     room.clear();
     match add_body(message, room) {
@@ -92,9 +97,9 @@ fn make_body<A: Allocator>(message: Message<'_>, room: &mut Vec<u8, A>) -> Resul
     }
 }
 
-/// Why a frame isn't written.
+/// Why a message isn't sent whose frame isn't written.
 fn why_unsent(why: Unwritten) -> Unsent
-    ensures { WhyUnframed result }
+    ensures { result ≡ unsent_of why }
 {
     match why {
         Unwritten::Fault(_) => Unsent::Write,
@@ -113,8 +118,10 @@ fn write_frame<'a, W: Write, A: Allocator>(
 ) -> Result<(), Unwritten>
     requires open { Outgoings.IsOpen outgoing.old }
     ensures open { Outgoings.IsOpen outgoing.new }
-    ensures sent { IfOk result (λ _. (xs : List ℕ) × IsFrame body.now xs × Outgoings.Sends W.contents outgoing.old outgoing.new xs) }
-    ensures error { IfErr result (λ _. SendsNone W.contents outgoing.old outgoing.new) }
+    ensures sent { IfOk result (λ _. (xs : List ℕ) × IsItem (IsFrame body.now) outgoing.old.most xs ×
+        Sends W.contents outgoing.old outgoing.new xs × NoFault outgoing.old.target outgoing.new.target) }
+    ensures error { IfErr result (λ why. SendsNone W.contents outgoing.old outgoing.new ×
+        WhyUnframed outgoing.old outgoing.new body.now why) }
 {
     let frame = length_data(be_u16::<&'a [u8], Error<&'a [u8]>>());
     outgoing.write_item(&frame, &body)
@@ -128,14 +135,20 @@ pub fn write_message<W: Write, A: Allocator, B: Allocator>(
 ) -> Result<(), Unsent>
     requires open { Outgoings.IsOpen outgoing.old }
     ensures open { Outgoings.IsOpen outgoing.new }
-    ensures sent { IfOk result (λ _. SendsMessage W.contents outgoing.old outgoing.new message.entry) }
-    ensures error { IfErr result (λ why. SendsNone W.contents outgoing.old outgoing.new × WhyUnsent message.entry why) }
+    ensures sent { IfOk result (λ _. SendsMessage W.contents outgoing.old outgoing.new message.entry ×
+        (body_len message.entry ≤ vec_capacity room.new)) }
+    ensures error { IfErr result (λ why. SendsNone W.contents outgoing.old outgoing.new ×
+        WhyUnsent outgoing.old outgoing.new (vec_capacity room.old) message.entry why) }
+    ensures room { vec_capacity room.old ≤ vec_capacity room.new }
 {
     match make_body(message, room) {
         Ok(()) => {}
         Err(why) => return Err(why),
     }
-    match write_frame(outgoing, room.as_slice()) {
+    let body = room.as_slice();
+    // It tells that they are bytes.
+    body.prove_known();
+    match write_frame(outgoing, body) {
         Ok(()) => Ok(()),
         Err(why) => Err(why_unsent(why)),
     }
@@ -143,7 +156,7 @@ pub fn write_message<W: Write, A: Allocator, B: Allocator>(
 
 /// Why the line of a number isn't written.
 fn halt_of(number: u64, why: Unsent) -> Halt
-    ensures { HaltsFor number why result }
+    ensures { result ≡ halt_for number why }
 {
     match why {
         Unsent::LongText => Halt::LongText(number),
@@ -162,8 +175,10 @@ fn write_line<W: Write, A: Allocator, B: Allocator>(
 ) -> Option<Halt>
     requires open { Outgoings.IsOpen outgoing.old }
     ensures open { Outgoings.IsOpen outgoing.new }
-    ensures sent { MatchOption result ((m : Message) × Says line.now m × SendsMessage W.contents outgoing.old outgoing.new m)
-        (λ h. SendsNone W.contents outgoing.old outgoing.new × HaltsLine line.now number h) }
+    ensures sent { MatchOption result ((m : Message) × Says line.now m × SendsMessage W.contents outgoing.old outgoing.new m ×
+        (body_len m ≤ vec_capacity room.new)) (λ h. SendsNone W.contents outgoing.old outgoing.new ×
+        HaltsLine (vec_capacity room.old) outgoing.old outgoing.new line.now number h) }
+    ensures room { vec_capacity room.old ≤ vec_capacity room.new }
 {
     match typed(line) {
         Ok((_, message)) => match write_message(outgoing, room, message) {
@@ -186,7 +201,7 @@ fn inside(line: &[u8], length: usize) -> &[u8]
 
 /// Why there is no line of a number.
 fn stopped(number: u64, why: Stop) -> Halt
-    ensures { StopsAt number result }
+    ensures { result ≡ halt_by number why }
 {
     match why {
         Stop::TooLong => Halt::LongLine(number),
@@ -209,7 +224,7 @@ fn write_each<R: Read, A: Allocator + Copy, W: Write, B: Allocator>(
     requires open { Outgoings.IsOpen outgoing.old }
     ensures stream { IsOpen R.remaining stream.new }
     ensures open { Outgoings.IsOpen outgoing.new }
-    ensures sent { SentBefore R.remaining W.contents stream.old outgoing.old result stream.new outgoing.new }
+    ensures sent { SentUntil R.remaining W.contents stream.old outgoing.old result stream.new outgoing.new }
 {
     let mut grammar = Lines;
     let mut room = Vec::new(alloc);
@@ -243,7 +258,6 @@ pub fn write_lines<R: Read, A: Allocator + Copy, W: Write, B: Allocator>(
     ensures stream { IsOpen R.remaining stream.new }
     ensures open { Outgoings.IsOpen outgoing.new }
     ensures sent { SentBefore R.remaining W.contents stream.old outgoing.old result stream.new outgoing.new }
-    ensures none { (result ≡ Halt.Write → ⊥) → Outgoings.held_of outgoing.new ≡ [] }
 {
     let halt = write_each(alloc, stream, outgoing);
     match outgoing.flush() {

@@ -168,7 +168,7 @@ pub fn with_room<M: Mode, T: Drop, A: Allocator>(alloc: A, count: usize) -> Opti
 {
     if M::BUILDS {
         let mut list = Vec::new(alloc);
-        let _ = list.reserve(count.min(MOST_AHEAD));
+        let _ = list.reserve_exact(count.min(MOST_AHEAD));
         Some(list)
     } else {
         None

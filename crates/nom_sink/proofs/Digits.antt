@@ -116,28 +116,28 @@ take_all : (k n : ℕ) → take k (bytes_high_first k n) ≡ bytes_high_first k 
 take_all zero n = refl
 take_all (suc k) n = ap (λ xs. byte_at k n ∷ xs) (take_all k n)
 
--- as the code cuts them from the bytes of a number of sixteen
-pub big_bytes : (endian : Endianness) (count n : ℕ) → is_big endian ≡ true → count < 17 → n < 2 ^ (8 * count) →
-    AreBytesOf endian count n (take (16 - (16 - count)) (drop (16 - count) (bytes_high_first 16 n)))
-big_bytes Big count n is below fits =
-    let dropped : drop (16 - count) (bytes_high_first 16 n) ≡ bytes_high_first count n =
-    ap (λ m. drop (16 - count) (bytes_high_first m n)) {x = 16} {y = 16 - count + count} (omega (arith, below)) ∙ drop_high (16 - count) count n in
-    let left : 16 - (16 - count) ≡ count = omega (arith, below) in
-    let same : take (16 - (16 - count)) (drop (16 - count) (bytes_high_first 16 n)) ≡ bytes_high_first count n =
-    ap (λ xs. take (16 - (16 - count)) xs) dropped ∙ (ap (λ m. take m (bytes_high_first count n)) left ∙ take_all count n) in
+-- as the code cuts them from the bytes of a wider number
+pub big_bytes : (endian : Endianness) (width count n : ℕ) → is_big endian ≡ true → count ≤ width → n < 2 ^ (8 * count) →
+    AreBytesOf endian count n (take (width - (width - count)) (drop (width - count) (bytes_high_first width n)))
+big_bytes Big width count n is below fits =
+    let dropped : drop (width - count) (bytes_high_first width n) ≡ bytes_high_first count n =
+    ap (λ m. drop (width - count) (bytes_high_first m n)) {x = width} {y = width - count + count} (omega (arith, below)) ∙ drop_high (width - count) count n in
+    let left : width - (width - count) ≡ count = omega (arith, below) in
+    let same : take (width - (width - count)) (drop (width - count) (bytes_high_first width n)) ≡ bytes_high_first count n =
+    ap (λ xs. take (width - (width - count)) xs) dropped ∙ (ap (λ m. take m (bytes_high_first count n)) left ∙ take_all count n) in
     (ap length same ∙ high_length count n, ap (value_of 256) same ∙ high_value count n fits)
-big_bytes Little count n is below fits = absurd (cc (is))
-big_bytes Native count n is below fits = absurd (cc (is))
+big_bytes Little width count n is below fits = absurd (cc (is))
+big_bytes Native width count n is below fits = absurd (cc (is))
 
-low_value : (count n : ℕ) → count < 17 → n < 2 ^ (8 * count) → (length (take count (bytes_low_first 0 16 n)) ≡ count) ×
-    (value_of 256 (reverse (take count (bytes_low_first 0 16 n))) ≡ n)
-low_value count n below fits =
-    let same : take count (bytes_low_first 0 16 n) ≡ bytes_low_first 0 count n =
-    ap (λ m. take count (bytes_low_first 0 m n)) {x = 16} {y = count + (16 - count)} (omega (arith, below)) ∙ take_low 0 count (16 - count) n in
+low_value : (width count n : ℕ) → count ≤ width → n < 2 ^ (8 * count) → (length (take count (bytes_low_first 0 width n)) ≡ count) ×
+    (value_of 256 (reverse (take count (bytes_low_first 0 width n))) ≡ n)
+low_value width count n below fits =
+    let same : take count (bytes_low_first 0 width n) ≡ bytes_low_first 0 count n =
+    ap (λ m. take count (bytes_low_first 0 m n)) {x = width} {y = count + (width - count)} (omega (arith, below)) ∙ take_low 0 count (width - count) n in
     (ap length same ∙ low_length 0 count n, ap (λ xs. value_of 256 (reverse xs)) same ∙ (ap (value_of 256) (turned count n) ∙ high_value count n fits))
 
-pub little_bytes : (endian : Endianness) (count n : ℕ) → is_big endian ≡ false → count < 17 → n < 2 ^ (8 * count) →
-    AreBytesOf endian count n (take count (bytes_low_first 0 16 n))
-little_bytes Big count n is below fits = absurd (cc (is))
-little_bytes Little count n is below fits = low_value count n below fits
-little_bytes Native count n is below fits = low_value count n below fits
+pub little_bytes : (endian : Endianness) (width count n : ℕ) → is_big endian ≡ false → count ≤ width → n < 2 ^ (8 * count) →
+    AreBytesOf endian count n (take count (bytes_low_first 0 width n))
+little_bytes Big width count n is below fits = absurd (cc (is))
+little_bytes Little width count n is below fits = low_value width count n below fits
+little_bytes Native width count n is below fits = low_value width count n below fits

@@ -3,3 +3,4 @@ pub mod InRadix
 pub mod Digits
 pub mod Lists
 pub mod Moved
+pub mod Texts

@@ -15,15 +15,15 @@ drop_none zero (x ∷ xs) h = absurd (omega (arith, h))
 drop_none (suc k) [] h = refl
 drop_none (suc k) (x ∷ xs) h = drop_none k xs (omega (arith, h))
 
-module _ {O : Type 0} (Form : O → List ℕ → Type 0) (Fails : O → Space → WriteError → Type 0) (lack : Lack) (vs : List O) where
+module _ {O A : Type 0} (Form : O → List A → Type 0) (Fails : O → Space → WriteError → Type 0) (lack : Lack) (vs : List O) where
   -- what was added of the first k values: with forms of those that are left it is one of all, and where one of those fails, so do all
-  pub record SoFar (k : ℕ) (old new : List ℕ) : Type 0 where
-    pub added : List ℕ
+  pub record SoFar (k : ℕ) (old new : List A) : Type 0 where
+    pub added : List A
     pub whole : new ≡ old ++ added
-    pub forms : (ys : List ℕ) → Each Form (drop k vs) ys → Each Form vs (added ++ ys)
+    pub forms : (ys : List A) → Each Form (drop k vs) ys → Each Form vs (added ++ ys)
     pub fails : (room : ℕ) (e : WriteError) → EachFail Form Fails (drop k vs) (space_at lack room new) e → EachFail Form Fails vs (space_at lack room old) e
 
-  pub none_added : (old : List ℕ) → SoFar 0 old old
+  pub none_added : (old : List A) → SoFar 0 old old
   none_added old = record { added = []; whole = sym (append-nil old); forms = λ ys h. h; fails = λ room e h. h }
 
   -- one more
@@ -31,7 +31,7 @@ module _ {O : Type 0} (Form : O → List ℕ → Type 0) (Fails : O → Space �
     here : drop k vs ≡ v ∷ drop (k + 1) vs
     here = drop_more vs k v below ∙ ap (λ x. x ∷ drop (k + 1) vs) (sym is)
 
-    pub one_added : (old mid new : List ℕ) → SoFar k old mid → (zs : List ℕ) × (new ≡ mid ++ zs) × Form v zs → SoFar (k + 1) old new
+    pub one_added : (old mid new : List A) → SoFar k old mid → (zs : List A) × (new ≡ mid ++ zs) × Form v zs → SoFar (k + 1) old new
     one_added old mid new a b =
         let longer : length new ≡ length mid + length b.0 = ap length b.1 ∙ length-append mid b.0 in
         record {
@@ -45,11 +45,11 @@ module _ {O : Type 0} (Form : O → List ℕ → Type 0) (Fails : O → Space �
               (inr (b.0, b.2, subst (λ n. EachFail Form Fails (drop (k + 1) vs) (record { lack = lack; room = room; start = n }) e) longer h)));
         }
 
-    pub one_fails : (old mid : List ℕ) → SoFar k old mid → (room : ℕ) (e : WriteError) → Fails v (space_at lack room mid) e →
+    pub one_fails : (old mid : List A) → SoFar k old mid → (room : ℕ) (e : WriteError) → Fails v (space_at lack room mid) e →
         EachFail Form Fails vs (space_at lack room old) e
     one_fails old mid a room e h = a.fails room e (subst (λ us. EachFail Form Fails us (space_at lack room mid) e) (sym here) (inl h))
 
-  pub all_added : (k : ℕ) → length vs ≤ k → (old new : List ℕ) → SoFar k old new → (xs : List ℕ) × (new ≡ old ++ xs) × Each Form vs xs
+  pub all_added : (k : ℕ) → length vs ≤ k → (old new : List A) → SoFar k old new → (xs : List A) × (new ≡ old ++ xs) × Each Form vs xs
   all_added k end old new a = (
     a.added,
     a.whole,

@@ -4,4 +4,5 @@ pub mod Digits
 pub mod Lists
 pub mod Parts
 pub mod Slices
+pub mod Texts
 pub mod Written

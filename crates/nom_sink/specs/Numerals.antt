@@ -6,14 +6,14 @@ use Rattle.nom_sink.specs.declared.error.WriteError.{WriteError}
 use Rattle.nom_sink.specs.Parts.{Both, BothFail}
 use Rattle.nom_sink.specs.Written.{LacksRoom, Space}
 
--- the byte of a digit: 48 is '0', and 97 is 'a'
-abbrev pub digit_byte : ℕ → ℕ
-digit_byte d = cond (nat_lt d 10) (48 + d) (87 + d)
+-- the code of a digit: 48 is '0', and 97 is 'a'
+abbrev pub digit_code : ℕ → ℕ
+digit_code d = cond (nat_lt d 10) (48 + d) (87 + d)
 
--- the digits that write a number in a radix, with no zero before them
-pub record AreDigitsOf (radix n : ℕ) (xs : List ℕ) : Type 0 where
+-- the digits that write a number in a radix, with no zero before them, as items
+pub record AreDigitsOf {A : Type 0} (item_of : ℕ → A) (radix n : ℕ) (xs : List A) : Type 0 where
   pub digits : List ℕ
-  pub bytes : xs ≡ map digit_byte digits
+  pub items : xs ≡ map (λ d. item_of (digit_code d)) digits
   pub below : All (λ d. d < radix) digits
   pub some : 0 < length digits
   pub number : value_of radix digits ≡ n
@@ -21,15 +21,15 @@ pub record AreDigitsOf (radix n : ℕ) (xs : List ℕ) : Type 0 where
   pub alone : n ≡ 0 → digits ≡ 0 ∷ []
 
 -- there is no room for the digits
-abbrev pub LacksDigits : (radix n : ℕ) → Space → WriteError → Type 0
-LacksDigits radix n s e = (xs : List ℕ) × AreDigitsOf radix n xs × LacksRoom (length xs) s e
+abbrev pub LacksDigits : {A : Type 0} → (ℕ → A) → (radix n : ℕ) → Space → WriteError → Type 0
+LacksDigits {A} item_of radix n s e = (xs : List A) × AreDigitsOf item_of radix n xs × LacksRoom (length xs) s e
 
 -- decimal digits, after a minus if the number is negative: 45 is '-'
-abbrev pub IsSigned : (negative : Bool) → ℕ → List ℕ → Type 0
-IsSigned true n = Both (λ ys. ys ≡ 45 ∷ []) (AreDigitsOf 10 n)
-IsSigned false n = AreDigitsOf 10 n
+abbrev pub IsSigned : {A : Type 0} → (ℕ → A) → (negative : Bool) → ℕ → List A → Type 0
+IsSigned item_of true n = Both (λ ys. ys ≡ item_of 45 ∷ []) (AreDigitsOf item_of 10 n)
+IsSigned item_of false n = AreDigitsOf item_of 10 n
 
 -- there is no room for the minus, or for the digits
-abbrev pub LacksSigned : (negative : Bool) → ℕ → Space → WriteError → Type 0
-LacksSigned true n = BothFail (λ ys. ys ≡ 45 ∷ []) (LacksRoom 1) (LacksDigits 10 n)
-LacksSigned false n = LacksDigits 10 n
+abbrev pub LacksSigned : {A : Type 0} → (ℕ → A) → (negative : Bool) → ℕ → Space → WriteError → Type 0
+LacksSigned item_of true n = BothFail (λ ys. ys ≡ item_of 45 ∷ []) (LacksRoom 1) (LacksDigits item_of 10 n)
+LacksSigned item_of false n = LacksDigits item_of 10 n

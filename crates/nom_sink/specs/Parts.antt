@@ -4,30 +4,31 @@ use Rattle.nom_sink.specs.declared.error.WriteError.{WriteError}
 use Rattle.nom_sink.specs.Written.{Space, after, moved_back}
 
 -- a form of the first part, and then one of the second
-pub record Both (First Second : List ℕ → Type 0) (xs : List ℕ) : Type 0 where
-  pub front : List ℕ
-  pub back : List ℕ
+pub record Both {A : Type 0} (First Second : List A → Type 0) (xs : List A) : Type 0 where
+  pub front : List A
+  pub back : List A
   pub whole : xs ≡ front ++ back
   pub first : First front
   pub second : Second back
 
 -- the first part fails, or after a form of it the second
-abbrev pub BothFail : (List ℕ → Type 0) → (Space → WriteError → Type 0) → (Space → WriteError → Type 0) → Space → WriteError → Type 0
-BothFail First FirstFails SecondFails s e = FirstFails s e ⊎ ((xs : List ℕ) × First xs × SecondFails (after s xs) e)
+abbrev pub BothFail : {A : Type 0} → (List A → Type 0) → (Space → WriteError → Type 0) → (Space → WriteError → Type 0) → Space → WriteError → Type 0
+BothFail {A} First FirstFails SecondFails s e = FirstFails s e ⊎ ((xs : List A) × First xs × SecondFails (after s xs) e)
 
 -- what the second part writes, with all that may follow it, may follow the first
-abbrev pub Meets : (First Second Next : List ℕ → Type 0) → Type 0
-Meets First Second Next = (ys rest : List ℕ) → Second ys → Next rest → First (ys ++ rest)
+abbrev pub Meets : {A : Type 0} → (First Second Next : List A → Type 0) → Type 0
+Meets {A} First Second Next = (ys rest : List A) → Second ys → Next rest → First (ys ++ rest)
 
 -- a form of a length, and then a form of a part that is so long
-pub record AfterLength (Size : ℕ → List ℕ → Type 0) (Part : List ℕ → Type 0) (xs : List ℕ) : Type 0 where
-  pub front : List ℕ
-  pub back : List ℕ
+pub record AfterLength {A : Type 0} (Size : ℕ → List A → Type 0) (Part : List A → Type 0) (xs : List A) : Type 0 where
+  pub front : List A
+  pub back : List A
   pub whole : xs ≡ front ++ back
   pub size : Size (length back) front
   pub part : Part back
 
 -- The part fails, where the length would begin. Or the length of a form of it fails; its place is counted without the form.
-abbrev pub AfterLengthFails : (SizeFails : ℕ → Space → WriteError → Type 0) → (List ℕ → Type 0) → (Space → WriteError → Type 0) → Space → WriteError → Type 0
-AfterLengthFails SizeFails Part PartFails s e = PartFails s e ⊎
-    ((xs : List ℕ) × Part xs × (f : WriteError) × SizeFails (length xs) (after s xs) f × (e ≡ moved_back (length xs) f))
+abbrev pub AfterLengthFails : {A : Type 0} → (SizeFails : ℕ → Space → WriteError → Type 0) → (List A → Type 0) →
+    (Space → WriteError → Type 0) → Space → WriteError → Type 0
+AfterLengthFails {A} SizeFails Part PartFails s e = PartFails s e ⊎
+    ((xs : List A) × Part xs × (f : WriteError) × SizeFails (length xs) (after s xs) f × (e ≡ moved_back (length xs) f))

@@ -13,37 +13,39 @@ abbrev pub lack_error : Lack → WriteError
 lack_error OfMemory = OutOfMemory
 lack_error OfSpace = Full
 
--- what a sink is: the bytes that it holds, for how many it has room in all, and what it has too little of where it has no room
-pub record SinkModel (S : Type 0) : Type 0 where
-  pub items : S → List ℕ
+-- what a sink is: the items that it holds, for how many it has room in all, and what it has too little of where it has no room
+pub record SinkModel (S A : Type 0) : Type 0 where
+  pub items : S → List A
   pub room : S → ℕ
   pub lack : Lack
 
 -- the items from a place on, up to a middle, moved behind those that follow them
-abbrev pub moved_behind : (start middle : ℕ) → List ℕ → List ℕ
+abbrev pub moved_behind : {A : Type 0} → (start middle : ℕ) → List A → List A
 moved_behind start middle xs = take start xs ++ (drop (middle - start) (drop start xs) ++ take (middle - start) (drop start xs))
 
--- where a part begins, for how many bytes in all there is room, and what lacks where there is none
+-- where a part begins, for how many items in all there is room, and what lacks where there is none
 pub record Space : Type 0 where
   pub lack : Lack
   pub room : ℕ
   pub start : ℕ
 
--- the space after some bytes
-abbrev pub after : Space → List ℕ → Space
+-- the space after some items
+abbrev pub after : {A : Type 0} → Space → List A → Space
 after s xs = record { lack = s.lack; room = s.room; start = s.start + length xs }
 
 -- the space after what a sink holds
-abbrev pub space_at : (lack : Lack) (room : ℕ) (items : List ℕ) → Space
+abbrev pub space_at : {A : Type 0} (lack : Lack) (room : ℕ) (items : List A) → Space
 space_at lack room items = record { lack = lack; room = room; start = length items }
 
--- The sink holds a form of the value more. Or it holds what it did, and there is a reason, by how many bytes it held and for how many it
+-- The sink holds a form of the value more. Or it holds what it did, and there is a reason, by how many items it held and for how many it
 -- had room, at the call or later.
-abbrev pub Written : {S : Type 0} → (List ℕ → Type 0) → (Space → WriteError → Type 0) → SinkModel S → (old new : S) → Result (Unit {0}) WriteError → Type 0
-Written Form Fails m old new (Ok _) = (xs : List ℕ) × (m.items new ≡ m.items old ++ xs) × Form xs
-Written Form Fails m old new (Err e) = (m.items new ≡ m.items old) × ((room : ℕ) × (m.room old ≤ room) × Fails (space_at m.lack room (m.items old)) e)
+abbrev pub Written : {S A : Type 0} → (List A → Type 0) → (Space → WriteError → Type 0) → SinkModel S A → (old new : S) →
+    Result (Unit {0}) WriteError → Type 0
+Written {A = A} Form Fails m old new (Ok _) = (xs : List A) × (m.items new ≡ m.items old ++ xs) × Form xs
+Written Form Fails m old new (Err e) = (m.items new ≡ m.items old) × ((room : ℕ) × (m.room old ≤ room) ×
+    Fails (space_at m.lack room (m.items old)) e)
 
--- there is no room for that many bytes more
+-- there is no room for that many items more
 abbrev pub LacksRoom : (count : ℕ) → Space → WriteError → Type 0
 LacksRoom count s e = (e ≡ lack_error s.lack) × (s.room < s.start + count)
 
@@ -54,7 +56,7 @@ IsLack Full = Unit {0}
 IsLack (TooLong n) = ⊥
 IsLack (Mismatch n) = ⊥
 
--- the error, with its place that many bytes before
+-- the error, with its place that many items before
 abbrev pub moved_back : (count : ℕ) → WriteError → WriteError
 moved_back count OutOfMemory = OutOfMemory
 moved_back count Full = Full

@@ -157,9 +157,31 @@ impl ToBits for I24 {
     }
 }
 
+/// Adds the lowest `count` bytes of a number of 64 bits.
+#[inline(always)]
+fn add_word<S: Sink<u8>>(
+    bits: u64,
+    count: usize,
+    endian: Endianness,
+    out: &mut S,
+) -> Result<(), WriteError>
+    requires count { count < 9 }
+    requires fits { bits < 2 ^ (8 * count) }
+    ensures written { Written (AreBytesOf endian count bits) (LacksRoom count) S.model out.old out.new result }
+    ensures room { S.model.room out.old ≤ S.model.room out.new }
+{
+    if endian.is_big() {
+        let bytes = bits.to_be_bytes();
+        out.add(&bytes[8 - count..])
+    } else {
+        let bytes = bits.to_le_bytes();
+        out.add(&bytes[..count])
+    }
+}
+
 /// Adds the lowest `count` bytes of a number, in the given order. On an error, `out` is as it was.
 #[inline(always)]
-pub fn add_bits<S: Sink>(
+pub fn add_bits<S: Sink<u8>>(
     bits: u128,
     count: usize,
     endian: Endianness,
@@ -170,6 +192,11 @@ pub fn add_bits<S: Sink>(
     ensures written { Written (AreBytesOf endian count bits) (LacksRoom count) S.model out.old out.new result }
     ensures room { S.model.room out.old ≤ S.model.room out.new }
 {
+    // A number of eight bytes or fewer becomes one store; one of 128 bits doesn't.
+    match u64::try_from(bits) {
+        Ok(word) if count < 9 => return add_word(word, count, endian, out),
+        _ => {}
+    }
     if endian.is_big() {
         let bytes = bits.to_be_bytes();
         out.add(&bytes[16 - count..])

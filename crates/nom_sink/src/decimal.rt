@@ -3,8 +3,8 @@ ghost use Rattle.std.specs.Prelude.{◌≡◌, ◌<◌, neg_ℤ, pos, true, fals
 ghost use Rattle.nom_sink.specs.Numerals.{IsSigned, LacksSigned};
 
 use crate::error::WriteError;
-use crate::piece::{InTurn, Piece, Plain};
-use crate::radix::{Digits, Ten, write_digits};
+use crate::piece::{InTurn, Piece};
+use crate::radix::{Digits, OfCode, OneCode, Ten, write_digits};
 use crate::sink::Sink;
 use nom_traits::view::Viewed;
 use num_traits::PrimInt;
@@ -131,19 +131,19 @@ impl Decimal for isize {
 #[derive(Drop)]
 pub struct Signed(pub bool, pub u128);
 
-impl Piece for Signed {
-    ghost Form = { λ o. IsSigned o.0 o.1 };
+impl<T: OfCode> Piece<T> for Signed {
+    ghost Form = { λ o. IsSigned T.of_code o.0 o.1 };
 
-    ghost Fails = { λ o. LacksSigned o.0 o.1 };
+    ghost Fails = { λ o. LacksSigned T.of_code o.0 o.1 };
 
     ghost CanPut = { λ o. Unit {0} };
 
     #[inline]
-    fn put<S: Sink>(&self, out: &mut S) -> Result<(), WriteError> {
+    fn put<S: Sink<T>>(&self, out: &mut S) -> Result<(), WriteError> {
         if self.0 {
-            InTurn(Plain(b"-"), Digits::<Ten>(self.1, PhantomData)).put(out)
+            InTurn(OneCode(45), Digits::<Ten>(self.1, PhantomData)).put(out)
         } else {
-            write_digits::<Ten, S>(self.1, out)
+            write_digits::<T, Ten, S>(self.1, out)
         }
     }
 }

@@ -9,7 +9,7 @@ pub enum WriteError {
     OutOfMemory,
     /// The sink has no room, and takes no memory.
     Full,
-    /// The part at this place is longer than its length field can say, or a number is too large for its bytes.
+    /// The part at this place is longer than its length field or its group of bits can be, or a number is too large for its field.
     TooLong(usize),
     /// The value of the part at this place isn't one that its parser returns.
     Mismatch(usize),

@@ -1,4 +1,4 @@
-//! What bytes are written into, and what is ready to be written, without a parser.
+//! What items are written into, and what is ready to be written, without a parser.
 #![tactic(auto)]
 
 pub mod bits;
@@ -8,6 +8,8 @@ pub mod items;
 pub mod piece;
 pub mod radix;
 pub mod sink;
+pub mod text;
 
 pub use crate::error::WriteError;
 pub use crate::sink::{Sink, SliceSink, slice_sink};
+pub use crate::text::TextSink;

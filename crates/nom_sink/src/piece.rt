@@ -1,5 +1,5 @@
 //! What is ready to be written.
-ghost use Rattle.std.specs.Prelude.{◌≤◌, ◌≡◌, ℕ, List, length};
+ghost use Rattle.std.specs.Prelude.{◌≤◌, ◌≡◌, List, length};
 ghost use Rattle.nom_sink.specs.Choices.{Either, EitherFails};
 ghost use Rattle.nom_sink.specs.Parts.{Both, BothFail};
 ghost use Rattle.nom_sink.specs.Written.{LacksRoom, Space, Written};
@@ -8,11 +8,11 @@ use crate::error::WriteError;
 use crate::sink::Sink;
 
 /// Something that is ready to be written. It needs no value.
-pub trait Piece {
+pub trait Piece<T> {
     ghost use Rattle.nom_sink.specs.declared.error.WriteError.{WriteError};
 
-    /// The bytes that stand for it.
-    ghost Form: { Self → List ℕ → Type 0 };
+    /// The items that stand for it.
+    ghost Form: { Self → List T → Type 0 };
 
     /// Why it isn't written.
     ghost Fails: { Self → Space → WriteError → Type 0 };
@@ -21,17 +21,17 @@ pub trait Piece {
     ghost CanPut: { Self → Type 0 };
 
     /// Adds the piece to `out`. On an error, `out` is as it was.
-    fn put<S: Sink>(&self, out: &mut S) -> Result<(), WriteError>
+    fn put<S: Sink<T>>(&self, out: &mut S) -> Result<(), WriteError>
         requires { CanPut self.now }
         ensures written { Written (Form self.now) (Fails self.now) S.model out.old out.new result }
         ensures room { S.model.room out.old ≤ S.model.room out.new };
 }
 
-/// Bytes as they are.
+/// Items as they are.
 #[derive(Drop)]
-pub struct Plain<'a>(pub &'a [u8]);
+pub struct Plain<'a, T>(pub &'a [T]);
 
-impl<'a> Piece for Plain<'a> {
+impl<'a, T> Piece<T> for Plain<'a, T> {
     ghost Form = { λ o xs. xs ≡ o.0.now };
 
     ghost Fails = { λ o. LacksRoom (length o.0.now) };
@@ -39,7 +39,7 @@ impl<'a> Piece for Plain<'a> {
     ghost CanPut = { λ o. Unit {0} };
 
     #[inline(always)]
-    fn put<S: Sink>(&self, out: &mut S) -> Result<(), WriteError> {
+    fn put<S: Sink<T>>(&self, out: &mut S) -> Result<(), WriteError> {
         out.add(self.0)
     }
 }
@@ -48,7 +48,7 @@ impl<'a> Piece for Plain<'a> {
 #[derive(Drop)]
 pub struct InTurn<F, G>(pub F, pub G);
 
-impl<F: Piece, G: Piece> Piece for InTurn<F, G> {
+impl<T, F: Piece<T>, G: Piece<T>> Piece<T> for InTurn<F, G> {
     ghost Form = { λ o. Both (F.Form o.0) (G.Form o.1) };
 
     ghost Fails = { λ o. BothFail (F.Form o.0) (F.Fails o.0) (G.Fails o.1) };
@@ -56,7 +56,7 @@ impl<F: Piece, G: Piece> Piece for InTurn<F, G> {
     ghost CanPut = { λ o. F.CanPut o.0 × G.CanPut o.1 };
 
     #[inline]
-    fn put<S: Sink>(&self, out: &mut S) -> Result<(), WriteError> {
+    fn put<S: Sink<T>>(&self, out: &mut S) -> Result<(), WriteError> {
         let start = out.len();
         match self.0.put(out) {
             Ok(()) => match self.1.put(out) {
@@ -75,7 +75,7 @@ impl<F: Piece, G: Piece> Piece for InTurn<F, G> {
 #[derive(Drop)]
 pub struct FirstFit<F, G>(pub F, pub G);
 
-impl<F: Piece, G: Piece> Piece for FirstFit<F, G> {
+impl<T, F: Piece<T>, G: Piece<T>> Piece<T> for FirstFit<F, G> {
     ghost Form = { λ o. Either (F.Form o.0) (F.Fails o.0) (G.Form o.1) };
 
     ghost Fails = { λ o. EitherFails (F.Fails o.0) (G.Fails o.1) };
@@ -83,7 +83,7 @@ impl<F: Piece, G: Piece> Piece for FirstFit<F, G> {
     ghost CanPut = { λ o. F.CanPut o.0 × G.CanPut o.1 };
 
     #[inline]
-    fn put<S: Sink>(&self, out: &mut S) -> Result<(), WriteError> {
+    fn put<S: Sink<T>>(&self, out: &mut S) -> Result<(), WriteError> {
         match self.0.put(out) {
             Ok(()) => Ok(()),
             Err(error) => {

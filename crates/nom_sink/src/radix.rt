@@ -1,12 +1,13 @@
 //! Digits in a radix.
-ghost use Rattle.std.specs.Prelude.{◌≡◌, ◌≤◌, ◌<◌, ◌%◌, ℕ};
+ghost use Rattle.std.specs.Prelude.{◌≡◌, ◌≤◌, ◌<◌, ◌%◌, ◌∷◌, [], ℕ, refl};
 ghost use Rattle.std.proofs.Common.{arith};
-ghost use Rattle.nom_sink.specs.Numerals.{AreDigitsOf, LacksDigits, digit_byte};
-ghost use Rattle.nom_sink.specs.Written.{Written};
+ghost use Rattle.nom_sink.specs.Numerals.{AreDigitsOf, LacksDigits, digit_code};
+ghost use Rattle.nom_sink.specs.Written.{LacksRoom, Written};
 
 use crate::error::WriteError;
 use crate::piece::Piece;
 use crate::sink::Sink;
+use nom_traits::input::Value;
 use std::marker::PhantomData;
 
 /// A radix of at most 16.
@@ -47,27 +48,82 @@ impl Radix for Sixteen {
     ghost most = { omega arith };
 }
 
-/// Returns the byte of a number's last digit.
+/// A type of items that has one of each code below 256.
+pub trait OfCode: Value {
+    ghost of_code: { ℕ → Self };
+
+    /// Adds the item of a code. On an error, `out` is as it was.
+    fn put_code<S: Sink<Self>>(code: u8, out: &mut S) -> Result<(), WriteError>
+        ensures written { Written (λ xs. xs ≡ of_code code ∷ []) (LacksRoom 1) S.model out.old out.new result }
+        ensures room { S.model.room out.old ≤ S.model.room out.new };
+
+    /// The item of a code has the code.
+    ghost coded: { (n : ℕ) → Self.code (of_code n) ≡ n };
+}
+
+impl OfCode for u8 {
+    ghost of_code = { λ n. n };
+
+    #[inline(always)]
+    fn put_code<S: Sink<u8>>(code: u8, out: &mut S) -> Result<(), WriteError> {
+        out.add(&[code])
+    }
+
+    ghost coded = { λ n. refl };
+}
+
+impl OfCode for char {
+    ghost of_code = { λ n. n };
+
+    #[inline(always)]
+    fn put_code<S: Sink<char>>(code: u8, out: &mut S) -> Result<(), WriteError> {
+        out.add(&[code as char])
+    }
+
+    ghost coded = { λ n. refl };
+}
+
+/// The item of a code.
+#[derive(Drop)]
+pub struct OneCode(pub u8);
+
+impl<T: OfCode> Piece<T> for OneCode {
+    ghost Form = { λ o xs. xs ≡ T.of_code o.0 ∷ [] };
+
+    ghost Fails = { λ o. LacksRoom 1 };
+
+    ghost CanPut = { λ o. Unit {0} };
+
+    #[inline(always)]
+    fn put<S: Sink<T>>(&self, out: &mut S) -> Result<(), WriteError> {
+        T::put_code(self.0, out)
+    }
+}
+
+/// Returns the code of a number's last digit.
 #[inline(always)]
 fn last_digit<R: Radix>(number: u128) -> u8
-    ensures { result ≡ digit_byte (number % R.RADIX) }
+    ensures { result ≡ digit_code (number % R.RADIX) }
 {
     let digit = (number % R::RADIX) as u8;
     if digit < 10 { 48 + digit } else { 87 + digit }
 }
 
 /// Adds the digits of a number, without leading zeros. On an error, `out` is as it was.
-pub fn write_digits<R: Radix, S: Sink>(number: u128, out: &mut S) -> Result<(), WriteError>
-    ensures written { Written (AreDigitsOf R.RADIX number) (LacksDigits R.RADIX number) S.model out.old out.new result }
+pub fn write_digits<T: OfCode, R: Radix, S: Sink<T>>(
+    number: u128,
+    out: &mut S,
+) -> Result<(), WriteError>
+    ensures written { Written (AreDigitsOf T.of_code R.RADIX number) (LacksDigits T.of_code R.RADIX number) S.model out.old out.new result }
     ensures room { S.model.room out.old ≤ S.model.room out.new }
 {
-    let last = [last_digit::<R>(number)];
+    let last = last_digit::<R>(number);
     if number < R::RADIX {
-        return out.add(&last);
+        return T::put_code(last, out);
     }
     let start = out.len();
-    match write_digits::<R, S>(number / R::RADIX, out) {
-        Ok(()) => match out.add(&last) {
+    match write_digits::<T, R, S>(number / R::RADIX, out) {
+        Ok(()) => match T::put_code(last, out) {
             Ok(()) => Ok(()),
             Err(error) => {
                 out.truncate(start);
@@ -82,15 +138,15 @@ pub fn write_digits<R: Radix, S: Sink>(number: u128, out: &mut S) -> Result<(), 
 #[derive(Drop)]
 pub struct Digits<R>(pub u128, pub PhantomData<R>);
 
-impl<R: Radix> Piece for Digits<R> {
-    ghost Form = { λ o. AreDigitsOf R.RADIX o.0 };
+impl<T: OfCode, R: Radix> Piece<T> for Digits<R> {
+    ghost Form = { λ o. AreDigitsOf T.of_code R.RADIX o.0 };
 
-    ghost Fails = { λ o. LacksDigits R.RADIX o.0 };
+    ghost Fails = { λ o. LacksDigits T.of_code R.RADIX o.0 };
 
     ghost CanPut = { λ o. Unit {0} };
 
     #[inline(always)]
-    fn put<S: Sink>(&self, out: &mut S) -> Result<(), WriteError> {
-        write_digits::<R, S>(self.0, out)
+    fn put<S: Sink<T>>(&self, out: &mut S) -> Result<(), WriteError> {
+        write_digits::<T, R, S>(self.0, out)
     }
 }

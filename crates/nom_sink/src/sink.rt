@@ -1,32 +1,37 @@
-//! Places that bytes are written to.
-ghost use Rattle.std.specs.Prelude.{◌≡◌, ◌≤◌, [], length, take, vec_capacity};
+//! Places that items are written to.
+ghost use Rattle.std.specs.Prelude.{◌≡◌, ◌+◌, ◌<◌, ◌≤◌, ◌++◌, [], OnErr, OnOk, IfErr, IfOk, length, take, vec_capacity, vec_len};
 ghost use Rattle.nom_sink.specs.Slices.{held, room_of};
 ghost use Rattle.nom_sink.specs.Written.{LacksRoom, SinkModel, Written, moved_behind};
 ghost use Rattle.nom_sink.specs.Written.Lack.{OfMemory, OfSpace};
+ghost use Rattle.nom_sink.specs.declared.error.WriteError.{WriteError};
 
 use crate::error::WriteError;
+use core::mem::replace_with;
 use std::alloc::Allocator;
 
-/// A place that bytes are written to.
-pub trait Sink {
-    /// The bytes that it holds, its room in all, and what it lacks if there is no room.
-    ghost model: { SinkModel Self };
+/// The most items that a list takes one by one. Where their number is known, they are stored at once.
+const FEW: usize = 16;
 
-    /// Returns the number of bytes that it holds.
+/// A place that items are written to, such as bytes or characters.
+pub trait Sink<T> {
+    /// The items that it holds, its room in all, and what it lacks if there is no room.
+    ghost model: { SinkModel Self T };
+
+    /// Returns the number of items that it holds.
     fn len(&self) -> usize
         ensures { result ≡ length (model.items self.now) };
 
-    /// Adds bytes. On an error, it is as it was.
-    fn add(&mut self, bytes: &[u8]) -> Result<(), WriteError>
-        ensures written { Written (λ xs. xs ≡ bytes.now) (LacksRoom (length bytes.now)) model self.old self.new result }
+    /// Adds items. On an error, it is as it was.
+    fn add(&mut self, items: &[T]) -> Result<(), WriteError>
+        ensures written { Written (λ xs. xs ≡ items.now) (LacksRoom (length items.now)) model self.old self.new result }
         ensures room { model.room self.old ≤ model.room self.new };
 
-    /// Removes all bytes but the first `len`.
+    /// Removes all items but the first `len`.
     fn truncate(&mut self, len: usize)
         ensures items { model.items self.new ≡ take len (model.items self.old) }
         ensures room { model.room self.old ≤ model.room self.new };
 
-    /// Moves the bytes from `start` up to `middle` behind the bytes that follow them.
+    /// Moves the items from `start` up to `middle` behind the items that follow them.
     fn move_behind(&mut self, start: usize, middle: usize)
         requires start { start ≤ middle }
         requires middle { middle ≤ length (model.items self.old) }
@@ -34,8 +39,68 @@ pub trait Sink {
         ensures room { model.room self.old ≤ model.room self.new };
 }
 
+/// Makes room for more items in a list.
+// Apart and cold. The list is moved in and out: if it were passed by reference, it would lie in memory, even where it has room.
+#[cold]
+#[inline(never)]
+fn larger<T: Copy, A: Allocator>(
+    list: Vec<T, A>,
+    more: usize,
+) -> (Vec<T, A>, Result<(), WriteError>)
+    ensures items { result.0.items ≡ list.items }
+    ensures capacity { vec_capacity list ≤ vec_capacity result.0 }
+    ensures room { OnOk result.1 (vec_len list + more ≤ vec_capacity result.0) }
+    ensures error { IfErr result.1 (λ e. e ≡ WriteError.OutOfMemory) }
+    ensures full { OnErr result.1 (vec_capacity list < vec_len list + more) }
+{
+    let mut list = list;
+    let made = match list.reserve(more) {
+        Ok(()) => Ok(()),
+        Err(_) => Err(WriteError::OutOfMemory),
+    };
+    (list, made)
+}
+
+/// Adds items to a list.
+#[inline(never)]
+fn extended<T: Copy, A: Allocator>(
+    list: Vec<T, A>,
+    items: &[T],
+) -> (Vec<T, A>, Result<(), WriteError>)
+    ensures capacity { vec_capacity list ≤ vec_capacity result.0 }
+    ensures added { IfOk result.1 (λ _. result.0.items ≡ list.items ++ items.now) }
+    ensures kept { OnErr result.1 (result.0.items ≡ list.items) }
+    ensures error { IfErr result.1 (λ e. e ≡ WriteError.OutOfMemory) }
+    ensures full { OnErr result.1 (vec_capacity list < vec_len list + length items.now) }
+{
+    let mut list = list;
+    let made = match list.extend_from_slice(items) {
+        Ok(()) => Ok(()),
+        Err(_) => Err(WriteError::OutOfMemory),
+    };
+    (list, made)
+}
+
+/// Adds items to a list, one by one.
+#[inline(always)]
+fn add_few<T: Copy, A: Allocator>(list: &mut Vec<T, A>, items: &[T]) -> Result<(), WriteError>
+    ensures capacity { vec_capacity list.old ≤ vec_capacity list.new }
+    ensures added { IfOk result (λ _. list.new.items ≡ list.old.items ++ items.now) }
+    ensures kept { OnErr result (list.new.items ≡ list.old.items) }
+    ensures error { IfErr result (λ e. e ≡ WriteError.OutOfMemory) }
+    ensures full { OnErr result (vec_capacity list.old < vec_len list.old + length items.now) }
+{
+    if list.capacity() - list.len() < items.len() {
+        replace_with(list, items.len(), larger)?;
+    }
+    for item in items {
+        list.push_reserved(*item);
+    }
+    Ok(())
+}
+
 /// A list grows. Its error is `OutOfMemory`.
-impl<A: Allocator> Sink for Vec<u8, A> {
+impl<T: Copy, A: Allocator> Sink<T> for Vec<T, A> {
     ghost model = { record { items = λ v. v.items; room = λ v. vec_capacity v; lack = OfMemory } };
 
     #[inline(always)]
@@ -44,10 +109,11 @@ impl<A: Allocator> Sink for Vec<u8, A> {
     }
 
     #[inline(always)]
-    fn add(&mut self, bytes: &[u8]) -> Result<(), WriteError> {
-        match self.extend_from_slice(bytes) {
-            Ok(()) => Ok(()),
-            Err(_) => Err(WriteError::OutOfMemory),
+    fn add(&mut self, items: &[T]) -> Result<(), WriteError> {
+        if items.len() > FEW {
+            replace_with(self, items, extended)
+        } else {
+            add_few(self, items)
         }
     }
 
@@ -64,8 +130,8 @@ impl<A: Allocator> Sink for Vec<u8, A> {
 
 /// The front of a slice, which `slice_sink` returns.
 #[derive(Drop)]
-pub struct SliceSink<'a> {
-    buffer: &'a mut [u8],
+pub struct SliceSink<'a, T> {
+    buffer: &'a mut [T],
     used: usize,
 }
 
@@ -73,25 +139,25 @@ pub struct SliceSink<'a> {
 ///
 /// If the slice has no room for a value, the answer is `Full`. What was written before stays.
 #[inline(always)]
-pub fn slice_sink<'a>(buffer: &'a mut [u8]) -> SliceSink<'a>
+pub fn slice_sink<'a, T>(buffer: &'a mut [T]) -> SliceSink<'a, T>
     ensures held { held result ≡ [] }
     ensures room { room_of result ≡ length buffer.old }
 {
     SliceSink { buffer, used: 0 }
 }
 
-impl<'a> SliceSink<'a> {
-    /// Returns the bytes that were written.
+impl<'a, T> SliceSink<'a, T> {
+    /// Returns the items that were written.
     #[inline(always)]
-    pub fn written(&self) -> &[u8]
+    pub fn written(&self) -> &[T]
         ensures { result.now ≡ held self.now }
     {
         &self.buffer[..self.used.min(self.buffer.len())]
     }
 }
 
-/// It takes as many bytes as the slice has. Its error is `Full`.
-impl<'a> Sink for SliceSink<'a> {
+/// It takes as many items as the slice has. Its error is `Full`.
+impl<'a, T: Copy> Sink<T> for SliceSink<'a, T> {
     ghost model = { record { items = held; room = room_of; lack = OfSpace } };
 
     #[inline(always)]
@@ -100,11 +166,11 @@ impl<'a> Sink for SliceSink<'a> {
     }
 
     #[inline]
-    fn add(&mut self, bytes: &[u8]) -> Result<(), WriteError> {
+    fn add(&mut self, items: &[T]) -> Result<(), WriteError> {
         let used = self.used.min(self.buffer.len());
-        if bytes.len() <= self.buffer.len() - used {
-            let end = used + bytes.len();
-            self.buffer[used..end].copy_from_slice(bytes);
+        if items.len() <= self.buffer.len() - used {
+            let end = used + items.len();
+            self.buffer[used..end].copy_from_slice(items);
             self.used = end;
             Ok(())
         } else {

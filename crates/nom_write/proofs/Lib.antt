@@ -1,2 +1,3 @@
-pub mod Apart
+pub mod Beside
 pub mod Reading
+pub mod Packed

@@ -7,21 +7,21 @@ use Rattle.nom_sink.specs.declared.error.WriteError.TheVariants.{Mismatch}
 use Rattle.nom_sink.specs.Numerals.{IsSigned, LacksSigned}
 use Rattle.nom_sink.specs.Written.{Space}
 
--- the code of a decimal digit, or another
-abbrev pub IsDigit : ℕ → Bool → Type 0
-IsDigit x b = is_dec_digit_code x ≡ b
+-- an item is a decimal digit, by its code, or not
+abbrev pub IsDigit : {A : Type 0} → (A → ℕ) → A → Bool → Type 0
+IsDigit code x b = is_dec_digit_code (code x) ≡ b
 
-module _ {T : Type 0} (signed : Bool) (value : T → ℤ) (fits : ℤ → Type 0) where
+module _ {T A : Type 0} (item_of : ℕ → A) (signed : Bool) (value : T → ℤ) (fits : ℤ → Type 0) where
   -- the digits of a number that its type has, after a minus if it is negative and a sign may stand first
-  pub record IsDecimal (v : T) (xs : List ℕ) : Type 0 where
+  pub record IsDecimal (v : T) (xs : List A) : Type 0 where
     pub negative : Bool
     pub whole : ℕ
     pub value_is : value v ≡ with_sign negative whole
     pub fitting : fits (with_sign negative whole)
     pub minus : negative ≡ true → (signed ≡ true) × (0 < whole)
-    pub written : IsSigned negative whole xs
+    pub written : IsSigned item_of negative whole xs
 
 -- it is negative and no sign may stand first, or there is no room for what writes it
-abbrev pub DecimalFails : {T : Type 0} → Bool → (T → ℤ) → T → Space → WriteError → Type 0
-DecimalFails signed value v s e = ((signed ≡ false) × (value v <ℤ pos 0) × (e ≡ Mismatch s.start)) ⊎
-    ((negative : Bool) × (n : ℕ) × (value v ≡ with_sign negative n) × (negative ≡ true → signed ≡ true) × LacksSigned negative n s e)
+abbrev pub DecimalFails : {T A : Type 0} → (ℕ → A) → Bool → (T → ℤ) → T → Space → WriteError → Type 0
+DecimalFails item_of signed value v s e = ((signed ≡ false) × (value v <ℤ pos 0) × (e ≡ Mismatch s.start)) ⊎
+    ((negative : Bool) × (n : ℕ) × (value v ≡ with_sign negative n) × (negative ≡ true → signed ≡ true) × LacksSigned item_of negative n s e)

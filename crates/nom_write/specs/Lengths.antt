@@ -5,7 +5,7 @@ use Rattle.nom_sink.specs.declared.error.WriteError.TheVariants.{TooLong}
 use Rattle.nom_sink.specs.Written.{Space}
 
 -- a form of a number of that size
-abbrev pub FormOfSize : {O : Type 0} → (O → ℕ) → (O → List ℕ → Type 0) → ℕ → List ℕ → Type 0
+abbrev pub FormOfSize : {O A : Type 0} → (O → ℕ) → (O → List A → Type 0) → ℕ → List A → Type 0
 FormOfSize {O} size Form n xs = (k : O) × (size k ≡ n) × Form k xs
 
 -- no number is so large, or the number can't be written

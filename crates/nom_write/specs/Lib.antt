@@ -1,9 +1,12 @@
+pub mod BitForms
 pub mod Choices
 pub mod Decimals
+pub mod FlatMaps
 pub mod Leads
 pub mod Lengths
 pub mod Options
 pub mod Reads
 pub mod Runs
 pub mod Separated
+pub mod Texts
 pub mod laws

@@ -1,11 +1,11 @@
 -- Forms of options.
-use Rattle.std.specs.Prelude.{◌≡◌, ℕ, List, [], Option, Some, None}
+use Rattle.std.specs.Prelude.{◌≡◌, List, [], Option, Some, None}
 use Rattle.nom_sink.specs.declared.error.WriteError.{WriteError}
 use Rattle.nom_sink.specs.declared.error.WriteError.TheVariants.{Mismatch}
 use Rattle.nom_sink.specs.Written.{Space}
 
 -- a form of the value, or nothing where there is none
-abbrev pub OptForm : {O : Type 0} → (O → List ℕ → Type 0) → Option O → List ℕ → Type 0
+abbrev pub OptForm : {O A : Type 0} → (O → List A → Type 0) → Option O → List A → Type 0
 OptForm Form (Some v) xs = Form v xs
 OptForm Form None xs = xs ≡ []
 
@@ -14,7 +14,7 @@ OptFails Fails (Some v) s e = Fails v s e
 OptFails Fails None s e = ⊥
 
 -- of a parser on a condition: a form of the value where it runs, and else nothing
-abbrev pub CondForm : {F O : Type 0} → (F → O → List ℕ → Type 0) → Option F → Option O → List ℕ → Type 0
+abbrev pub CondForm : {F O A : Type 0} → (F → O → List A → Type 0) → Option F → Option O → List A → Type 0
 CondForm Form (Some f) (Some v) xs = Form f v xs
 CondForm Form (Some f) None xs = ⊥
 CondForm Form None (Some v) xs = ⊥

@@ -1,5 +1,7 @@
+pub mod BitReads
 pub mod ChoiceReads
 pub mod DecimalReads
+pub mod FlatMapReads
 pub mod HexReads
 pub mod LeadLaws
 pub mod LeafReads
@@ -11,4 +13,6 @@ pub mod RunReads
 pub mod SequenceReads
 pub mod WholeReads
 pub mod SeparatedReads
+pub mod SuccessReads
+pub mod TextReads
 pub mod TillReads

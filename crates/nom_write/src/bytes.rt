@@ -1,4 +1,4 @@
-//! Tags, and slices of a given length.
+//! Tags, and fronts of a given length.
 ghost use Rattle.std.specs.Prelude.{◌≡◌, ◌⊎◌, length};
 ghost use Rattle.nom_internal.specs.Prelude.{bytes_model};
 ghost use Rattle.nom_write.specs.Leads.{lead_of};
@@ -7,7 +7,7 @@ ghost use Rattle.nom_write.specs.Reads.{Holds};
 ghost use Rattle.nom_sink.specs.Written.{LacksRoom};
 ghost use Rattle.nom_sink.specs.declared.error.WriteError.{WriteError};
 
-use crate::length::ByteInput;
+use crate::unmarked::Unmarked;
 use crate::writer::{Constant, Writer};
 use nom_bytes::{Tag, Take};
 use nom_error::value::ParseError;
@@ -23,10 +23,10 @@ impl<'a, 'b, E: ParseError<&'a [u8]>> Writer<&'a [u8]> for Tag<&'b [u8], &'a [u8
 
     ghost Fails = { λ p v s e. LacksRoom (length p.tag.now) s e ⊎ ((v.now ≡ p.tag.now → ⊥) × (e ≡ WriteError.Mismatch s.start)) };
 
-    ghost Lead = { λ p. lead_of p.tag.now };
+    ghost Lead = { λ p. lead_of (λ b. b) p.tag.now };
 
     #[inline]
-    fn write<S: Sink>(&self, value: &&'a [u8], out: &mut S) -> Result<(), WriteError> {
+    fn write<S: Sink<u8>>(&self, value: &&'a [u8], out: &mut S) -> Result<(), WriteError> {
         let data = *value;
         data.prove_known();
         if data == self.tag {
@@ -38,26 +38,26 @@ impl<'a, 'b, E: ParseError<&'a [u8]>> Writer<&'a [u8]> for Tag<&'b [u8], &'a [u8
 
     ghost reads = { λ p k c. tag_reads E.errors p.tag.now };
 
-    ghost leads = { λ p. fixed_leads p.tag.now (λ v xs f. f.0) (tag_refuses_others E.errors p.tag.now) };
+    ghost leads = { λ p. fixed_leads (λ b. b) p.tag.now (λ v xs f. f.0) (tag_refuses_others E.errors p.tag.now) };
 }
 
 impl<'a, 'b, E: ParseError<&'a [u8]>> Constant<&'a [u8]> for Tag<&'b [u8], &'a [u8], E> {
     ghost use Rattle.nom_write.specs.laws.LeafReads.{tag_reads_some};
 
-    ghost bytes = { λ p. p.tag.now };
+    ghost items = { λ p. p.tag.now };
 
     #[inline(always)]
-    fn write_constant<S: Sink>(&self, out: &mut S) -> Result<(), WriteError> {
+    fn write_constant<S: Sink<u8>>(&self, out: &mut S) -> Result<(), WriteError> {
         out.add(self.tag)
     }
 
-    ghost accepts = { λ p k. tag_reads_some E.errors p.tag.now };
+    ghost accepts = { λ p k c. tag_reads_some E.errors p.tag.now };
 
     ghost others = { λ p. tag_refuses_others E.errors p.tag.now };
 }
 
-/// Writes exactly as many bytes as the parser takes. A slice of another length is a mismatch.
-impl<I: ByteInput, E: ParseError<I>> Writer<I> for Take<I, E> {
+/// Writes exactly as many items as the parser takes. A value of another length is a mismatch.
+impl<I: Unmarked, E: ParseError<I>> Writer<I> for Take<I, E> {
     ghost use Rattle.nom_write.specs.laws.LeafReads.{take_value_reads};
 
     ghost Form = { λ p v xs. (length xs ≡ p.count) × Holds I.model v xs };
@@ -65,11 +65,10 @@ impl<I: ByteInput, E: ParseError<I>> Writer<I> for Take<I, E> {
     ghost Fails = { λ p v s e. ((length (I.model.elements v) ≡ p.count → ⊥) × (e ≡ WriteError.Mismatch s.start)) ⊎ LacksRoom p.count s e };
 
     #[inline]
-    fn write<S: Sink>(&self, value: &I, out: &mut S) -> Result<(), WriteError> {
+    fn write<S: Sink<I::Item>>(&self, value: &I, out: &mut S) -> Result<(), WriteError> {
         (*value).prove_known();
-        let data = value.as_bytes();
-        if data.len() == self.count {
-            out.add(data)
+        if value.count_items() == self.count {
+            value.add_to(out)
         } else {
             Err(WriteError::Mismatch(out.len()))
         }

@@ -18,7 +18,7 @@ use std::marker::PhantomData;
 ///
 /// The first part must refuse what the second writes.
 impl<
-    I: Items<Item = u8>,
+    I: Items,
     F: Writer<I> + Drop,
     G: Writer<I, Output = F::Output, Error = F::Error> + Drop,
 > Writer<I> for Or<F, G> {
@@ -34,7 +34,7 @@ impl<
     ghost Lead = { λ p. either_lead (F.Lead p.first) (G.Lead p.second) };
 
     #[inline]
-    fn write<X: Sink>(&self, value: &F::Output, out: &mut X) -> Result<(), WriteError> {
+    fn write<X: Sink<I::Item>>(&self, value: &F::Output, out: &mut X) -> Result<(), WriteError> {
         FirstFit(
             OneValue::<I, F>(&self.first, value, PhantomData),
             OneValue::<I, G>(&self.second, value, PhantomData),
@@ -48,9 +48,8 @@ impl<
     ghost leads = { λ p. either_leads F.Error.errors (F.leads p.first) (G.leads p.second) };
 }
 
-impl<I: Items<Item = u8>, P: Writer<I>, Q: Writer<I, Error = P::Error, Output = P::Output>> Writer<
-    I,
-> for Choice<(P, Q)> {
+impl<I: Items, P: Writer<I>, Q: Writer<I, Error = P::Error, Output = P::Output>> Writer<I>
+    for Choice<(P, Q)> {
     ghost Form = { λ p v. Either (P.Form p.parsers.0 v) (P.Fails p.parsers.0 v) (Q.Form p.parsers.1 v) };
 
     ghost Fails = { λ p v. EitherFails (P.Fails p.parsers.0 v) (Q.Fails p.parsers.1 v) };
@@ -63,7 +62,7 @@ impl<I: Items<Item = u8>, P: Writer<I>, Q: Writer<I, Error = P::Error, Output = 
     ghost Lead = { λ p. either_lead (P.Lead p.parsers.0) (Q.Lead p.parsers.1) };
 
     #[inline]
-    fn write<X: Sink>(&self, value: &P::Output, out: &mut X) -> Result<(), WriteError> {
+    fn write<X: Sink<I::Item>>(&self, value: &P::Output, out: &mut X) -> Result<(), WriteError> {
         FirstFit(
             OneValue::<I, P>(&self.parsers.0, value, PhantomData),
             OneValue::<I, Q>(&self.parsers.1, value, PhantomData),
@@ -79,7 +78,7 @@ impl<I: Items<Item = u8>, P: Writer<I>, Q: Writer<I, Error = P::Error, Output = 
 }
 
 impl<
-    I: Items<Item = u8>,
+    I: Items,
     P: Writer<I>,
     Q: Writer<I, Error = P::Error, Output = P::Output>,
     R: Writer<I, Error = P::Error, Output = P::Output>,
@@ -99,7 +98,7 @@ impl<
     ghost Lead = { λ p. either_lead (either_lead (P.Lead p.parsers.0) (Q.Lead p.parsers.1)) (R.Lead p.parsers.2) };
 
     #[inline]
-    fn write<X: Sink>(&self, value: &P::Output, out: &mut X) -> Result<(), WriteError> {
+    fn write<X: Sink<I::Item>>(&self, value: &P::Output, out: &mut X) -> Result<(), WriteError> {
         FirstFit(
             OneValue::<I, P>(&self.parsers.0, value, PhantomData),
             FirstFit(
@@ -120,7 +119,7 @@ impl<
 }
 
 impl<
-    I: Items<Item = u8>,
+    I: Items,
     P: Writer<I>,
     Q: Writer<I, Error = P::Error, Output = P::Output>,
     R: Writer<I, Error = P::Error, Output = P::Output>,
@@ -146,7 +145,7 @@ impl<
     ghost Lead = { λ p. either_lead (either_lead (either_lead (P.Lead p.parsers.0) (Q.Lead p.parsers.1)) (R.Lead p.parsers.2)) (S.Lead p.parsers.3) };
 
     #[inline]
-    fn write<X: Sink>(&self, value: &P::Output, out: &mut X) -> Result<(), WriteError> {
+    fn write<X: Sink<I::Item>>(&self, value: &P::Output, out: &mut X) -> Result<(), WriteError> {
         FirstFit(
             OneValue::<I, P>(&self.parsers.0, value, PhantomData),
             FirstFit(
@@ -174,7 +173,7 @@ impl<
 }
 
 impl<
-    I: Items<Item = u8>,
+    I: Items,
     P: Writer<I>,
     Q: Writer<I, Error = P::Error, Output = P::Output>,
     R: Writer<I, Error = P::Error, Output = P::Output>,
@@ -207,7 +206,7 @@ impl<
         p.parsers.3)) (T.Lead p.parsers.4) };
 
     #[inline]
-    fn write<X: Sink>(&self, value: &P::Output, out: &mut X) -> Result<(), WriteError> {
+    fn write<X: Sink<I::Item>>(&self, value: &P::Output, out: &mut X) -> Result<(), WriteError> {
         FirstFit(
             OneValue::<I, P>(&self.parsers.0, value, PhantomData),
             FirstFit(
@@ -242,7 +241,7 @@ impl<
 }
 
 impl<
-    I: Items<Item = u8>,
+    I: Items,
     P: Writer<I>,
     Q: Writer<I, Error = P::Error, Output = P::Output>,
     R: Writer<I, Error = P::Error, Output = P::Output>,
@@ -282,7 +281,7 @@ impl<
         p.parsers.2)) (S.Lead p.parsers.3)) (T.Lead p.parsers.4)) (U.Lead p.parsers.5) };
 
     #[inline]
-    fn write<X: Sink>(&self, value: &P::Output, out: &mut X) -> Result<(), WriteError> {
+    fn write<X: Sink<I::Item>>(&self, value: &P::Output, out: &mut X) -> Result<(), WriteError> {
         FirstFit(
             OneValue::<I, P>(&self.parsers.0, value, PhantomData),
             FirstFit(
@@ -324,7 +323,7 @@ impl<
 }
 
 impl<
-    I: Items<Item = u8>,
+    I: Items,
     P: Writer<I>,
     Q: Writer<I, Error = P::Error, Output = P::Output>,
     R: Writer<I, Error = P::Error, Output = P::Output>,
@@ -371,7 +370,7 @@ impl<
         (R.Lead p.parsers.2)) (S.Lead p.parsers.3)) (T.Lead p.parsers.4)) (U.Lead p.parsers.5)) (V.Lead p.parsers.6) };
 
     #[inline]
-    fn write<X: Sink>(&self, value: &P::Output, out: &mut X) -> Result<(), WriteError> {
+    fn write<X: Sink<I::Item>>(&self, value: &P::Output, out: &mut X) -> Result<(), WriteError> {
         FirstFit(
             OneValue::<I, P>(&self.parsers.0, value, PhantomData),
             FirstFit(
@@ -423,7 +422,7 @@ impl<
 }
 
 impl<
-    I: Items<Item = u8>,
+    I: Items,
     P: Writer<I>,
     Q: Writer<I, Error = P::Error, Output = P::Output>,
     R: Writer<I, Error = P::Error, Output = P::Output>,
@@ -481,7 +480,7 @@ impl<
         p.parsers.1)) (R.Lead p.parsers.2)) (S.Lead p.parsers.3)) (T.Lead p.parsers.4)) (U.Lead p.parsers.5)) (V.Lead p.parsers.6)) (W.Lead p.parsers.7) };
 
     #[inline]
-    fn write<X: Sink>(&self, value: &P::Output, out: &mut X) -> Result<(), WriteError> {
+    fn write<X: Sink<I::Item>>(&self, value: &P::Output, out: &mut X) -> Result<(), WriteError> {
         FirstFit(
             OneValue::<I, P>(&self.parsers.0, value, PhantomData),
             FirstFit(

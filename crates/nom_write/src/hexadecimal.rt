@@ -11,8 +11,9 @@ use crate::writer::Writer;
 use nom_error::value::ParseError;
 use nom_number_text::HexU32;
 use nom_sink::error::WriteError;
-use nom_sink::radix::{Sixteen, write_digits};
+use nom_sink::radix::{OfCode, Sixteen, write_digits};
 use nom_sink::sink::Sink;
+use nom_traits::character::AsChar;
 use nom_traits::input::Input;
 use std::marker::PhantomData;
 
@@ -25,19 +26,22 @@ pub fn hex_u32<I, E>() -> HexU32<I, E> {
 }
 
 /// Writes the digits of a number in lower case, without leading zeros. No hexadecimal digit may follow.
-impl<I: Input<Item = u8>, E: ParseError<I>> Writer<I> for HexU32<I, E> {
-    ghost Form = { λ p v xs. (v < 2 ^ 32) × AreDigitsOf 16 v xs };
+impl<I: Input, E: ParseError<I>> Writer<I> for HexU32<I, E>
+where
+    I::Item: AsChar + OfCode,
+{
+    ghost Form = { λ p v xs. (v < 2 ^ 32) × AreDigitsOf I.Item.of_code 16 v xs };
 
-    ghost Fails = { λ p v. LacksDigits 16 v };
+    ghost Fails = { λ p v. LacksDigits I.Item.of_code 16 v };
 
-    ghost MayFollow = { λ p. BeginsOther (IsOf (λ x. x) Class.HexDigit) };
+    ghost MayFollow = { λ p. BeginsOther (IsOf I.Item.code Class.HexDigit) };
 
     #[inline]
-    fn write<S: Sink>(&self, value: &u32, out: &mut S) -> Result<(), WriteError> {
-        write_digits::<Sixteen, S>(*value as u128, out)
+    fn write<S: Sink<I::Item>>(&self, value: &u32, out: &mut S) -> Result<(), WriteError> {
+        write_digits::<I::Item, Sixteen, S>(*value as u128, out)
     }
 
-    ghost reads = { λ p k c. hex_reads I.model I.values E.errors };
+    ghost reads = { λ p k c. hex_reads I.Item.code I.Item.of_code I.Item.coded I.model I.Item.IsValue I.values E.errors };
 
     ghost leads = { λ p. no_lead };
 }

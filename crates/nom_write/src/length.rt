@@ -1,5 +1,5 @@
 //! Parts after their length.
-ghost use Rattle.std.specs.Prelude.{◌≡◌, ◌<◌, ◌≤◌, ℕ, false, List, [], MatchOption, length};
+ghost use Rattle.std.specs.Prelude.{◌≡◌, ◌<◌, ℕ, false, List, [], MatchOption, length};
 ghost use Rattle.nom_write.specs.laws.LeadLaws.{no_lead};
 ghost use Rattle.nom_sink.specs.Lists.{Each, EachFail, ItemFails, ItemForm};
 ghost use Rattle.nom_sink.specs.Parts.{AfterLength, AfterLengthFails, Both, BothFail};
@@ -7,15 +7,16 @@ ghost use Rattle.nom_write.specs.Reads.{Holds};
 ghost use Rattle.nom_write.specs.Lengths.{FormOfSize, SizeFails};
 ghost use Rattle.nom_sink.specs.Written.{LacksRoom, Space};
 
-use crate::piece::{EachValue, OneValue};
+use crate::piece::{AllItems, EachValue, OneValue};
+use crate::unmarked::{UnitItems, Unmarked};
 use crate::writer::Writer;
 use nom_multi_length::{LengthCount, LengthData, LengthValue};
 use nom_sink::error::WriteError;
 use nom_sink::items::{EachOf, Measured, PutItem};
-use nom_sink::piece::{InTurn, Piece, Plain};
+use nom_sink::piece::{InTurn, Piece};
 use nom_sink::sink::Sink;
 use nom_traits::convert::ToUsize;
-use nom_traits::input::{Input, Items};
+use nom_traits::input::Items;
 use std::alloc::Allocator;
 use std::marker::PhantomData;
 
@@ -82,37 +83,11 @@ impl OfSize for usize {
     }
 }
 
-/// An input that consists of bytes alone. Its fronts and rests are known by their bytes.
-pub trait ByteInput: Input<Item = u8> {
-    /// Returns the bytes.
-    fn as_bytes(&self) -> &[u8]
-        ensures { result.now ≡ Self.model.elements self.now };
-
-    /// There is one mark.
-    ghost one_mark: { (m n : Self.model.Mark) → m ≡ n };
-
-    /// Each byte has a length of 1.
-    ghost one_each: { (b : ℕ) → Self.model.item_len b ≡ 1 };
-}
-
-impl ByteInput for &[u8] {
-    ghost use Rattle.std.specs.Prelude.{refl};
-
-    #[inline(always)]
-    fn as_bytes(&self) -> &[u8] {
-        self
-    }
-
-    ghost one_mark = { λ m n. refl };
-
-    ghost one_each = { λ b. refl };
-}
-
 /// A number of that size, by its writer.
 #[derive(Drop)]
-struct SizeOf<'a, I: Items<Item = u8>, F: Writer<I, Output: OfSize>>(&'a F, usize, PhantomData<I>);
+struct SizeOf<'a, I: Items, F: Writer<I, Output: OfSize>>(&'a F, usize, PhantomData<I>);
 
-impl<'a, I: Items<Item = u8>, F: Writer<I, Output: OfSize>> Piece for SizeOf<'a, I, F> {
+impl<'a, I: Items, F: Writer<I, Output: OfSize>> Piece<I::Item> for SizeOf<'a, I, F> {
     ghost Form = { λ o. FormOfSize F.Output.size (F.Form o.0.now) o.1 };
 
     ghost Fails = { λ o. SizeFails F.Output.size F.Output.Exceeds (F.Fails o.0.now) o.1 };
@@ -120,7 +95,7 @@ impl<'a, I: Items<Item = u8>, F: Writer<I, Output: OfSize>> Piece for SizeOf<'a,
     ghost CanPut = { λ o. F.CanWrite o.0.now };
 
     #[inline]
-    fn put<S: Sink>(&self, out: &mut S) -> Result<(), WriteError> {
+    fn put<S: Sink<I::Item>>(&self, out: &mut S) -> Result<(), WriteError> {
         match F::Output::of_size(self.1) {
             Some(number) => self.0.write(&number, out),
             None => Err(WriteError::TooLong(out.len())),
@@ -128,8 +103,8 @@ impl<'a, I: Items<Item = u8>, F: Writer<I, Output: OfSize>> Piece for SizeOf<'a,
     }
 }
 
-/// Writes the length of the data, and the data. A length that its number can't hold is `TooLong`.
-impl<I: ByteInput, F: Writer<I, Output: OfSize> + Drop> Writer<I> for LengthData<F> {
+/// Writes the number of the items, and the items. A number that its field can't hold is `TooLong`.
+impl<I: Unmarked, F: Writer<I, Output: OfSize> + Drop> Writer<I> for LengthData<F> {
     ghost use Rattle.nom_write.specs.laws.LengthReads.{length_data_reads};
 
     ghost Form = { λ p v. Both (FormOfSize F.Output.size (F.Form p.parser) (length (I.model.elements v))) (Holds I.model v) };
@@ -137,15 +112,14 @@ impl<I: ByteInput, F: Writer<I, Output: OfSize> + Drop> Writer<I> for LengthData
     ghost Fails = { λ p v. BothFail (FormOfSize F.Output.size (F.Form p.parser) (length (I.model.elements v)))
         (SizeFails F.Output.size F.Output.Exceeds (F.Fails p.parser) (length (I.model.elements v))) (LacksRoom (length (I.model.elements v))) };
 
-    ghost CanWrite = { λ p. F.CanWrite p.parser × ((rest : List ℕ) → F.MayFollow p.parser rest) };
+    ghost CanWrite = { λ p. F.CanWrite p.parser × ((rest : List I.Item) → F.MayFollow p.parser rest) };
 
     #[inline]
-    fn write<S: Sink>(&self, value: &I, out: &mut S) -> Result<(), WriteError> {
+    fn write<S: Sink<I::Item>>(&self, value: &I, out: &mut S) -> Result<(), WriteError> {
         (*value).prove_known();
-        let data = value.as_bytes();
         InTurn(
-            SizeOf::<I, F>(&self.parser, data.len(), PhantomData),
-            Plain(data),
+            SizeOf::<I, F>(&self.parser, value.count_items(), PhantomData),
+            AllItems(*value),
         )
         .put(out)
     }
@@ -157,9 +131,9 @@ impl<I: ByteInput, F: Writer<I, Output: OfSize> + Drop> Writer<I> for LengthData
 
 /// A number of a given size, by its writer.
 #[derive(Drop)]
-struct EachSize<'a, I: Items<Item = u8>, F: Writer<I, Output: OfSize>>(&'a F, PhantomData<I>);
+struct EachSize<'a, I: Items, F: Writer<I, Output: OfSize>>(&'a F, PhantomData<I>);
 
-impl<'a, I: Items<Item = u8>, F: Writer<I, Output: OfSize>> PutItem for EachSize<'a, I, F> {
+impl<'a, I: Items, F: Writer<I, Output: OfSize>> PutItem<I::Item> for EachSize<'a, I, F> {
     type Item = usize;
 
     ghost Form = { λ o. FormOfSize F.Output.size (F.Form o.0.now) };
@@ -169,7 +143,7 @@ impl<'a, I: Items<Item = u8>, F: Writer<I, Output: OfSize>> PutItem for EachSize
     ghost CanPut = { λ o. F.CanWrite o.0.now };
 
     #[inline(always)]
-    fn put_item<S: Sink>(&self, item: &usize, out: &mut S) -> Result<(), WriteError> {
+    fn put_item<S: Sink<I::Item>>(&self, item: &usize, out: &mut S) -> Result<(), WriteError> {
         SizeOf::<I, F>(self.0, *item, PhantomData).put(out)
     }
 }
@@ -178,7 +152,7 @@ impl<'a, I: Items<Item = u8>, F: Writer<I, Output: OfSize>> PutItem for EachSize
 ///
 /// The part must read its form back at the end of an input. A place within the part is counted without the length.
 impl<
-    I: ByteInput,
+    I: UnitItems,
     F: Writer<I, Output: OfSize> + Drop,
     G: Writer<I, Error = F::Error> + Drop,
 > Writer<I> for LengthValue<F, G> {
@@ -189,11 +163,11 @@ impl<
     ghost Fails = { λ p v. AfterLengthFails (SizeFails F.Output.size F.Output.Exceeds (F.Fails p.length)) (G.Form p.parser v)
         (G.Fails p.parser v) };
 
-    ghost CanWrite = { λ p. (F.CanWrite p.length × G.CanWrite p.parser) × ((rest : List ℕ) → F.MayFollow p.length rest) ×
+    ghost CanWrite = { λ p. (F.CanWrite p.length × G.CanWrite p.parser) × ((rest : List I.Item) → F.MayFollow p.length rest) ×
         G.MayFollow p.parser [] };
 
     #[inline]
-    fn write<S: Sink>(&self, value: &G::Output, out: &mut S) -> Result<(), WriteError> {
+    fn write<S: Sink<I::Item>>(&self, value: &G::Output, out: &mut S) -> Result<(), WriteError> {
         Measured(
             EachSize::<I, F>(&self.length, PhantomData),
             OneValue::<I, G>(&self.parser, value, PhantomData),
@@ -209,7 +183,7 @@ impl<
 
 /// Writes the number of the values, and each of them. A number that its field can't hold is `TooLong`.
 impl<
-    I: Items<Item = u8>,
+    I: Items,
     M: Allocator + Copy,
     F: Writer<I, Output: OfSize> + Drop,
     G: Writer<I, Error = F::Error> + Drop,
@@ -222,11 +196,15 @@ impl<
         (SizeFails F.Output.size F.Output.Exceeds (F.Fails p.length) (length v.items)) (EachFail (ItemForm false (G.Form p.parser))
         (ItemFails false (G.Form p.parser) (G.Fails p.parser)) v.items) };
 
-    ghost CanWrite = { λ p. (F.CanWrite p.length × G.CanWrite p.parser) × ((rest : List ℕ) → F.MayFollow p.length rest) ×
-        ((rest : List ℕ) → G.MayFollow p.parser rest) };
+    ghost CanWrite = { λ p. (F.CanWrite p.length × G.CanWrite p.parser) × ((rest : List I.Item) → F.MayFollow p.length rest) ×
+        ((rest : List I.Item) → G.MayFollow p.parser rest) };
 
     #[inline]
-    fn write<S: Sink>(&self, value: &Vec<G::Output, M>, out: &mut S) -> Result<(), WriteError> {
+    fn write<S: Sink<I::Item>>(
+        &self,
+        value: &Vec<G::Output, M>,
+        out: &mut S,
+    ) -> Result<(), WriteError> {
         let values = value.as_slice();
         InTurn(
             SizeOf::<I, F>(&self.length, values.len(), PhantomData),

@@ -1,16 +1,19 @@
-//! Parsers of bytes that also write. A parser reads back what it writes.
+//! Parsers that also write. A parser reads back what it writes.
 //!
 //! These parsers don't write:
 //!
-//! - Functions under `func` and `map` can't be turned around. `map_both` takes the way back.
+//! - Functions under `func`, `map` and `flat_map` can't be turned around. `map_both` and `flat_map_both` take the way back.
 //! - `complete` and `all_consuming` aren't stream parsers, because what they accept depends on where the input ends.
-//! - `recognize` returns bytes. Whether they are a form of its part is known only by parsing them.
+//! - `recognize` returns items. Whether they are a form of its part is known only by parsing them.
+//! - `bytes`, among bits, skips the rest of a byte. How many bits that is depends on where it stands.
 //! - `peek`, `not`, `rest` and `fail` return nothing that could be read back.
 #![tactic(auto)]
 
+pub mod bits;
 pub mod bytes;
 pub mod choice;
 pub mod decimal;
+pub mod flat_map;
 pub mod hexadecimal;
 pub mod length;
 pub mod list;
@@ -23,12 +26,16 @@ pub mod promises;
 pub mod runs;
 pub mod separated;
 pub mod sequence;
+pub mod success;
+pub mod texts;
 pub mod tuple;
+pub mod unmarked;
 pub mod verdict;
 pub mod whole;
 pub mod writer;
 
+pub use crate::flat_map::{FlatMapBoth, flat_map_both};
 pub use crate::hexadecimal::hex_u32;
 pub use crate::map::{MapBoth, map_both};
 pub use crate::writer::{Constant, Writer};
-pub use nom_sink::{Sink, SliceSink, WriteError, error, sink, slice_sink};
+pub use nom_sink::{Sink, SliceSink, TextSink, WriteError, error, sink, slice_sink};

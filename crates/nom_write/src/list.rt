@@ -21,7 +21,7 @@ use std::alloc::Allocator;
 use std::marker::PhantomData;
 
 /// Writes each value. A value with an empty form is a mismatch. No item may follow.
-impl<I: Input<Item = u8>, M: Allocator + Copy, G: Writer<I> + Drop> Writer<I> for Many0<M, G> {
+impl<I: Input, M: Allocator + Copy, G: Writer<I> + Drop> Writer<I> for Many0<M, G> {
     ghost use Rattle.nom_write.specs.laws.ListReads.{many0_reads};
 
     ghost Form = { λ p v. Each (ItemForm true (G.Form p.parser)) v.items };
@@ -30,10 +30,14 @@ impl<I: Input<Item = u8>, M: Allocator + Copy, G: Writer<I> + Drop> Writer<I> fo
 
     ghost MayFollow = { λ p. NoItem I.model (G.grammar (G.state p.parser)).meaning };
 
-    ghost CanWrite = { λ p. G.CanWrite p.parser × ((rest : List ℕ) → G.MayFollow p.parser rest) };
+    ghost CanWrite = { λ p. G.CanWrite p.parser × ((rest : List I.Item) → G.MayFollow p.parser rest) };
 
     #[inline]
-    fn write<S: Sink>(&self, value: &Vec<G::Output, M>, out: &mut S) -> Result<(), WriteError> {
+    fn write<S: Sink<I::Item>>(
+        &self,
+        value: &Vec<G::Output, M>,
+        out: &mut S,
+    ) -> Result<(), WriteError> {
         put_each(
             &EachValue::<I, G>(&self.parser, PhantomData),
             value.as_slice(),
@@ -48,7 +52,7 @@ impl<I: Input<Item = u8>, M: Allocator + Copy, G: Writer<I> + Drop> Writer<I> fo
 }
 
 /// Writes each value, at least one. No values are a mismatch. So is a value with an empty form after the first. No item may follow.
-impl<I: Input<Item = u8>, M: Allocator + Copy, G: Writer<I> + Drop> Writer<I> for Many1<M, G> {
+impl<I: Input, M: Allocator + Copy, G: Writer<I> + Drop> Writer<I> for Many1<M, G> {
     ghost use Rattle.nom_write.specs.laws.SeparatedReads.{many1_reads};
 
     ghost Form = { λ p v. SomeForm (G.Form p.parser) (G.Form p.parser) v.items };
@@ -57,10 +61,14 @@ impl<I: Input<Item = u8>, M: Allocator + Copy, G: Writer<I> + Drop> Writer<I> fo
 
     ghost MayFollow = { λ p. NoItem I.model (G.grammar (G.state p.parser)).meaning };
 
-    ghost CanWrite = { λ p. G.CanWrite p.parser × ((rest : List ℕ) → G.MayFollow p.parser rest) };
+    ghost CanWrite = { λ p. G.CanWrite p.parser × ((rest : List I.Item) → G.MayFollow p.parser rest) };
 
     #[inline]
-    fn write<S: Sink>(&self, value: &Vec<G::Output, M>, out: &mut S) -> Result<(), WriteError> {
+    fn write<S: Sink<I::Item>>(
+        &self,
+        value: &Vec<G::Output, M>,
+        out: &mut S,
+    ) -> Result<(), WriteError> {
         match value.as_slice().split_first() {
             None => Err(WriteError::Mismatch(out.len())),
             Some((first, others)) => InTurn(
@@ -77,7 +85,7 @@ impl<I: Input<Item = u8>, M: Allocator + Copy, G: Writer<I> + Drop> Writer<I> fo
 }
 
 /// Writes each value, if their number is the parser's count. Any other number is a mismatch.
-impl<I: Items<Item = u8>, M: Allocator + Copy, G: Writer<I> + Drop> Writer<I> for Count<M, G> {
+impl<I: Items, M: Allocator + Copy, G: Writer<I> + Drop> Writer<I> for Count<M, G> {
     ghost use Rattle.nom_write.specs.laws.ListReads.{count_reads};
 
     ghost Form = { λ p v xs. (length v.items ≡ p.count) × Each (ItemForm false (G.Form p.parser)) v.items xs };
@@ -85,10 +93,14 @@ impl<I: Items<Item = u8>, M: Allocator + Copy, G: Writer<I> + Drop> Writer<I> fo
     ghost Fails = { λ p v s e. ((length v.items ≡ p.count → ⊥) × (e ≡ WriteError.Mismatch s.start)) ⊎
         EachFail (ItemForm false (G.Form p.parser)) (ItemFails false (G.Form p.parser) (G.Fails p.parser)) v.items s e };
 
-    ghost CanWrite = { λ p. G.CanWrite p.parser × ((rest : List ℕ) → G.MayFollow p.parser rest) };
+    ghost CanWrite = { λ p. G.CanWrite p.parser × ((rest : List I.Item) → G.MayFollow p.parser rest) };
 
     #[inline]
-    fn write<S: Sink>(&self, value: &Vec<G::Output, M>, out: &mut S) -> Result<(), WriteError> {
+    fn write<S: Sink<I::Item>>(
+        &self,
+        value: &Vec<G::Output, M>,
+        out: &mut S,
+    ) -> Result<(), WriteError> {
         let values = value.as_slice();
         if values.len() == self.count {
             put_each(
@@ -109,7 +121,7 @@ impl<I: Items<Item = u8>, M: Allocator + Copy, G: Writer<I> + Drop> Writer<I> fo
 
 /// Writes each value, and then the end. A value with an empty form is a mismatch. The end must refuse what an item begins with.
 impl<
-    I: Input<Item = u8>,
+    I: Input,
     M: Allocator + Copy,
     F: Writer<I> + Drop,
     G: Writer<I, Error = F::Error> + Drop,
@@ -123,11 +135,11 @@ impl<
 
     ghost MayFollow = { λ p. G.MayFollow p.end };
 
-    ghost CanWrite = { λ p. (F.CanWrite p.parser × G.CanWrite p.end) × ((rest : List ℕ) → F.MayFollow p.parser rest) ×
+    ghost CanWrite = { λ p. (F.CanWrite p.parser × G.CanWrite p.end) × ((rest : List I.Item) → F.MayFollow p.parser rest) ×
         AreApart I.model (G.grammar (G.state p.end)) (G.Lead p.end) (F.Form p.parser) (F.Lead p.parser) };
 
     #[inline]
-    fn write<S: Sink>(
+    fn write<S: Sink<I::Item>>(
         &self,
         value: &(Vec<F::Output, M>, G::Output),
         out: &mut S,

@@ -75,7 +75,7 @@ impl<I: Items, F: StreamParser<I> + Drop, O: Viewed + Drop, G: Fn(F::Output) -> 
 
 /// Returns what a closure maps a value back to.
 #[inline(always)]
-fn mapped_back<O, P, H: Fn(&O) -> Option<P>>(back: &H, value: &O) -> Option<P>
+pub(crate) fn mapped_back<O, P, H: Fn(&O) -> Option<P>>(back: &H, value: &O) -> Option<P>
     requires callable { (p : Bor O) → p.now ≡ value.now → H.pre back.now p }
     ensures { FnReturnsAt H.Fn back.now value.now result }
 {
@@ -84,7 +84,7 @@ fn mapped_back<O, P, H: Fn(&O) -> Option<P>>(back: &H, value: &O) -> Option<P>
 
 /// Writes what the value is mapped back to.
 impl<
-    I: Items<Item = u8>,
+    I: Items,
     F: Writer<I> + Drop,
     O: Viewed + Drop,
     G: Fn(F::Output) -> O,
@@ -103,7 +103,7 @@ impl<
     ghost Lead = { λ p. F.Lead p.map.parser };
 
     #[inline]
-    fn write<S: Sink>(&self, value: &O, out: &mut S) -> Result<(), WriteError> {
+    fn write<S: Sink<I::Item>>(&self, value: &O, out: &mut S) -> Result<(), WriteError> {
         match mapped_back(&self.back, value) {
             Some(part) => self.map.parser.write(&part, out),
             None => Err(WriteError::Mismatch(out.len())),

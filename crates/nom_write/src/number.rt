@@ -22,7 +22,7 @@ impl<I: Input<Item = u8>, E: ParseError<I>> Writer<I> for BeU8<I, E> {
     ghost Fails = { λ p v. LacksRoom 1 };
 
     #[inline(always)]
-    fn write<S: Sink>(&self, value: &u8, out: &mut S) -> Result<(), WriteError> {
+    fn write<S: Sink<u8>>(&self, value: &u8, out: &mut S) -> Result<(), WriteError> {
         out.add(&[*value])
     }
 
@@ -40,7 +40,7 @@ impl<F: ToBits, I: Input<Item = u8>, E: ParseError<I>> Writer<I> for Binary<F, I
     ghost Fails = { λ p v s e. LacksRoom F.BYTES s e ⊎ (F.Exceeds v × (e ≡ WriteError.TooLong s.start)) };
 
     #[inline]
-    fn write<S: Sink>(&self, value: &F::Number, out: &mut S) -> Result<(), WriteError> {
+    fn write<S: Sink<u8>>(&self, value: &F::Number, out: &mut S) -> Result<(), WriteError> {
         match F::to_bits(value) {
             Some(bits) => add_bits(bits, F::BYTES, self.endian, out),
             None => Err(WriteError::TooLong(out.len())),

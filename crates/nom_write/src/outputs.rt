@@ -15,18 +15,17 @@ use nom_traits::input::Items;
 use nom_traits::view::Viewed;
 
 /// Writes the part, if the value is equal to the parser's. Any other value is a mismatch.
-impl<I: Items<Item = u8>, O: Clone + PartialEq + Viewed, F: Constant<I> + Drop> Writer<I>
-    for Value<O, F> {
-    ghost Form = { λ p v xs. O.is_clone p.value v × (xs ≡ F.bytes p.parser) };
+impl<I: Items, O: Clone + PartialEq + Viewed, F: Constant<I> + Drop> Writer<I> for Value<O, F> {
+    ghost Form = { λ p v xs. O.is_clone p.value v × (xs ≡ F.items p.parser) };
 
-    ghost Fails = { λ p v s e. ((O.eq p.value v ≡ false) × (e ≡ WriteError.Mismatch s.start)) ⊎ LacksRoom (length (F.bytes p.parser)) s e };
+    ghost Fails = { λ p v s e. ((O.eq p.value v ≡ false) × (e ≡ WriteError.Mismatch s.start)) ⊎ LacksRoom (length (F.items p.parser)) s e };
 
-    ghost CanWrite = { λ p. (v : O) → O.eq p.value v ≡ true → O.is_clone p.value v };
+    ghost CanWrite = { λ p. F.Fits p.parser × ((v : O) → O.eq p.value v ≡ true → O.is_clone p.value v) };
 
-    ghost Lead = { λ p. lead_of (F.bytes p.parser) };
+    ghost Lead = { λ p. lead_of I.Item.code (F.items p.parser) };
 
     #[inline]
-    fn write<S: Sink>(&self, value: &O, out: &mut S) -> Result<(), WriteError> {
+    fn write<S: Sink<I::Item>>(&self, value: &O, out: &mut S) -> Result<(), WriteError> {
         if self.value == *value {
             self.parser.write_constant(out)
         } else {
@@ -35,10 +34,10 @@ impl<I: Items<Item = u8>, O: Clone + PartialEq + Viewed, F: Constant<I> + Drop> 
     }
 
     ghost reads = { λ p k c. value_reads (F.grammar (F.state p.parser)) p.value (O.is_infallible p.value) (O.is_clone p.value)
-        (F.bytes p.parser) (F.accepts p.parser k) };
+        (F.items p.parser) (F.accepts p.parser k c.0) };
 
     ghost leads = { λ p. value_leads (F.grammar (F.state p.parser)) p.value (O.is_infallible p.value) (O.is_clone p.value)
-        (F.bytes p.parser) (F.others p.parser) };
+        (F.items p.parser) I.Item.code (F.others p.parser) };
 }
 
 /// Returns whether a value passes a test.
@@ -51,8 +50,7 @@ fn passes<O, G: Fn(&O) -> bool>(test: &G, value: &O) -> bool
 }
 
 /// Writes a value that passes the test. Any other value is a mismatch.
-impl<I: Items<Item = u8>, F: Writer<I> + Drop, G: Fn(&F::Output) -> bool> Writer<I>
-    for Verify<F, G> {
+impl<I: Items, F: Writer<I> + Drop, G: Fn(&F::Output) -> bool> Writer<I> for Verify<F, G> {
     ghost Form = { λ p v xs. FnReturnsAt G.Fn p.test v true × F.Form p.parser v xs };
 
     ghost Fails = { λ p v s e. (FnReturnsAt G.Fn p.test v false × (e ≡ WriteError.Mismatch s.start)) ⊎
@@ -65,7 +63,7 @@ impl<I: Items<Item = u8>, F: Writer<I> + Drop, G: Fn(&F::Output) -> bool> Writer
     ghost Lead = { λ p. F.Lead p.parser };
 
     #[inline]
-    fn write<S: Sink>(&self, value: &F::Output, out: &mut S) -> Result<(), WriteError> {
+    fn write<S: Sink<I::Item>>(&self, value: &F::Output, out: &mut S) -> Result<(), WriteError> {
         if passes(&self.test, value) {
             self.parser.write(value, out)
         } else {

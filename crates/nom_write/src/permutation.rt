@@ -30,8 +30,7 @@ type Seven<A, B, C, D, E, F, G> = More<Six<A, B, C, D, E, F>, G>;
 type Eight<A, B, C, D, E, F, G, H> = More<Seven<A, B, C, D, E, F, G>, H>;
 
 /// Writes each member, in the order of the tuple.
-impl<I: Items<Item = u8>, A: Writer<I>, B: Writer<I, Error = A::Error>> Writer<I>
-    for OnceEach<Two<A, B>> {
+impl<I: Items, A: Writer<I>, B: Writer<I, Error = A::Error>> Writer<I> for OnceEach<Two<A, B>> {
     ghost Form = { λ p v. Both (A.Form p.members.others.member v.0) (B.Form p.members.member v.1) };
 
     ghost Fails = { λ p v. BothFail (A.Form p.members.others.member v.0) (A.Fails p.members.others.member v.0) (B.Fails p.members.member v.1) };
@@ -42,7 +41,7 @@ impl<I: Items<Item = u8>, A: Writer<I>, B: Writer<I, Error = A::Error>> Writer<I
         Meets (A.MayFollow p.members.others.member) (λ ys. (b : B.Output) × B.Form p.members.member b ys) (B.MayFollow p.members.member) };
 
     #[inline]
-    fn write<X: Sink>(
+    fn write<X: Sink<I::Item>>(
         &self,
         value: &(A::Output, B::Output),
         out: &mut X,
@@ -61,12 +60,9 @@ impl<I: Items<Item = u8>, A: Writer<I>, B: Writer<I, Error = A::Error>> Writer<I
 }
 
 /// Writes each member, in the order of the tuple.
-impl<
-    I: Items<Item = u8>,
-    A: Writer<I>,
-    B: Writer<I, Error = A::Error>,
-    C: Writer<I, Error = A::Error>,
-> Writer<I> for OnceEach<Three<A, B, C>> {
+impl<I: Items, A: Writer<I>, B: Writer<I, Error = A::Error>, C: Writer<I, Error = A::Error>> Writer<
+    I,
+> for OnceEach<Three<A, B, C>> {
     ghost Form = { λ p v. Both (A.Form p.members.others.others.member v.0) (Both (B.Form p.members.others.member v.1) (C.Form p.members.member v.2)) };
 
     ghost Fails = { λ p v. BothFail (A.Form p.members.others.others.member v.0) (A.Fails p.members.others.others.member v.0) (BothFail (B.Form
@@ -79,7 +75,7 @@ impl<
         Meets (B.MayFollow p.members.others.member) (λ ys. (b : C.Output) × C.Form p.members.member b ys) (C.MayFollow p.members.member) };
 
     #[inline]
-    fn write<X: Sink>(
+    fn write<X: Sink<I::Item>>(
         &self,
         value: &(A::Output, B::Output, C::Output),
         out: &mut X,
@@ -103,7 +99,7 @@ impl<
 
 /// Writes each member, in the order of the tuple.
 impl<
-    I: Items<Item = u8>,
+    I: Items,
     A: Writer<I>,
     B: Writer<I, Error = A::Error>,
     C: Writer<I, Error = A::Error>,
@@ -126,7 +122,7 @@ impl<
         Meets (C.MayFollow p.members.others.member) (λ ys. (b : D.Output) × D.Form p.members.member b ys) (D.MayFollow p.members.member) };
 
     #[inline]
-    fn write<X: Sink>(
+    fn write<X: Sink<I::Item>>(
         &self,
         value: &(A::Output, B::Output, C::Output, D::Output),
         out: &mut X,
@@ -158,7 +154,7 @@ impl<
 
 /// Writes each member, in the order of the tuple.
 impl<
-    I: Items<Item = u8>,
+    I: Items,
     A: Writer<I>,
     B: Writer<I, Error = A::Error>,
     C: Writer<I, Error = A::Error>,
@@ -185,7 +181,7 @@ impl<
         Meets (D.MayFollow p.members.others.member) (λ ys. (b : E.Output) × E.Form p.members.member b ys) (E.MayFollow p.members.member) };
 
     #[inline]
-    fn write<X: Sink>(
+    fn write<X: Sink<I::Item>>(
         &self,
         value: &(A::Output, B::Output, C::Output, D::Output, E::Output),
         out: &mut X,
@@ -225,7 +221,7 @@ impl<
 
 /// Writes each member, in the order of the tuple.
 impl<
-    I: Items<Item = u8>,
+    I: Items,
     A: Writer<I>,
     B: Writer<I, Error = A::Error>,
     C: Writer<I, Error = A::Error>,
@@ -258,7 +254,7 @@ impl<
         Meets (E.MayFollow p.members.others.member) (λ ys. (b : F.Output) × F.Form p.members.member b ys) (F.MayFollow p.members.member) };
 
     #[inline]
-    fn write<X: Sink>(
+    fn write<X: Sink<I::Item>>(
         &self,
         value: &(
             A::Output,
@@ -313,7 +309,7 @@ impl<
 
 /// Writes each member, in the order of the tuple.
 impl<
-    I: Items<Item = u8>,
+    I: Items,
     A: Writer<I>,
     B: Writer<I, Error = A::Error>,
     C: Writer<I, Error = A::Error>,
@@ -351,7 +347,7 @@ impl<
         Meets (F.MayFollow p.members.others.member) (λ ys. (b : G.Output) × G.Form p.members.member b ys) (G.MayFollow p.members.member) };
 
     #[inline]
-    fn write<X: Sink>(
+    fn write<X: Sink<I::Item>>(
         &self,
         value: &(
             A::Output,
@@ -431,7 +427,7 @@ impl<
 
 /// Writes each member, in the order of the tuple.
 impl<
-    I: Items<Item = u8>,
+    I: Items,
     A: Writer<I>,
     B: Writer<I, Error = A::Error>,
     C: Writer<I, Error = A::Error>,
@@ -474,7 +470,7 @@ impl<
         Meets (G.MayFollow p.members.others.member) (λ ys. (b : H.Output) × H.Form p.members.member b ys) (H.MayFollow p.members.member) };
 
     #[inline]
-    fn write<X: Sink>(
+    fn write<X: Sink<I::Item>>(
         &self,
         value: &(
             A::Output,

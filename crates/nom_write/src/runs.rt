@@ -1,4 +1,4 @@
-//! Runs of bytes that pass a test. A byte that doesn't pass it must follow.
+//! Runs of items that pass a test. An item that doesn't pass it must follow.
 ghost use Rattle.std.specs.Prelude.{◌≤◌, ◌<◌, None, Some, MatchBool};
 ghost use Rattle.nom_error.specs.declared.kind.ErrorKind.TheVariants as Kind;
 ghost use Rattle.nom_traits.specs.declared.character.AsciiClass.TheVariants as Class;
@@ -10,7 +10,7 @@ ghost use Rattle.nom_write.specs.laws.LeadLaws.{no_lead};
 ghost use Rattle.nom_write.specs.laws.RunReads.{premised_reads, run_reads};
 ghost use Rattle.nom_traits.specs.declared.character.AsciiClass.{AsciiClass};
 
-use crate::length::ByteInput;
+use crate::unmarked::Unmarked;
 use crate::writer::Writer;
 use nom_bytes::predicate::Predicate;
 use nom_bytes::{SplitPosition, SplitPosition1, TakeWhileMN};
@@ -18,12 +18,12 @@ use nom_character::{ClassRun, Digit1};
 use nom_error::value::ParseError;
 use nom_sink::error::WriteError;
 use nom_sink::sink::Sink;
-use nom_traits::character::AsciiClass;
+use nom_traits::character::{AsChar, AsciiClass};
 use nom_traits::input::Input;
 
-/// Returns whether all bytes pass a test, and their number is within the bounds.
+/// Returns whether all items pass a test, and their number is within the bounds.
 #[inline]
-fn is_run<I: ByteInput, P: Predicate<u8>>(
+fn is_run<I: Unmarked, P: Predicate<I::Item>>(
     predicate: &P,
     least: usize,
     most: Option<usize>,
@@ -34,7 +34,7 @@ fn is_run<I: ByteInput, P: Predicate<u8>>(
         (IsNoRun I.model (P.answers (P.state predicate.now)) least most value) }
 {
     value.prove_known();
-    let count = value.as_bytes().len();
+    let count = value.count_items();
     if count < least {
         return false;
     }
@@ -49,9 +49,9 @@ fn is_run<I: ByteInput, P: Predicate<u8>>(
     }
 }
 
-/// Adds bytes that all pass a test, and whose number is within the bounds. Others are a mismatch. On an error, `out` is as it was.
+/// Adds items that all pass a test, and whose number is within the bounds. Others are a mismatch. On an error, `out` is as it was.
 #[inline]
-fn write_run<I: ByteInput, P: Predicate<u8>, S: Sink>(
+fn write_run<I: Unmarked, P: Predicate<I::Item>, S: Sink<I::Item>>(
     predicate: &P,
     least: usize,
     most: Option<usize>,
@@ -64,14 +64,14 @@ fn write_run<I: ByteInput, P: Predicate<u8>, S: Sink>(
     ensures room { S.model.room out.old ≤ S.model.room out.new }
 {
     if is_run::<I, P>(predicate, least, most, value) {
-        out.add(value.as_bytes())
+        value.add_to(out)
     } else {
         Err(WriteError::Mismatch(out.len()))
     }
 }
 
-/// Writes bytes that all pass the test. Others are a mismatch.
-impl<I: ByteInput, P: Predicate<u8>, E: ParseError<I>> Writer<I> for SplitPosition<P, I, E> {
+/// Writes items that all pass the test. Others are a mismatch.
+impl<I: Unmarked, P: Predicate<I::Item>, E: ParseError<I>> Writer<I> for SplitPosition<P, I, E> {
     ghost Form = { λ p. IsRunForm I.model (P.answers (P.state p.predicate)) 0 None };
 
     ghost Fails = { λ p. RunFails I.model (P.answers (P.state p.predicate)) 0 None };
@@ -81,20 +81,20 @@ impl<I: ByteInput, P: Predicate<u8>, E: ParseError<I>> Writer<I> for SplitPositi
     ghost CanWrite = { λ p. P.Runs (P.state p.predicate) };
 
     #[inline]
-    fn write<S: Sink>(&self, value: &I, out: &mut S) -> Result<(), WriteError> {
+    fn write<S: Sink<I::Item>>(&self, value: &I, out: &mut S) -> Result<(), WriteError> {
         write_run::<I, P, S>(&self.predicate, 0, None, *value, out)
     }
 
     ghost reads = { λ p k c. premised_reads (P.Runs (P.state p.predicate)) (P.IsSound (P.state p.predicate))
         (run_reads I.model (P.answers (P.state p.predicate)) 0 None (λ _ _. ⊥) ⊥
-        (run_lawful I.model (λ b. b < 256) I.values (P.answers (P.state p.predicate)) (P.fixed (P.state p.predicate) k) None 0
+        (run_lawful I.model I.Item.IsValue I.values (P.answers (P.state p.predicate)) (P.fixed (P.state p.predicate) k) None 0
         (λ _ _. ⊥) ⊥) I.one_mark) };
 
     ghost leads = { λ p. no_lead };
 }
 
-/// Writes bytes that all pass the test, at least one. Others are a mismatch.
-impl<I: ByteInput, P: Predicate<u8>, E: ParseError<I>> Writer<I> for SplitPosition1<P, I, E> {
+/// Writes items that all pass the test, at least one. Others are a mismatch.
+impl<I: Unmarked, P: Predicate<I::Item>, E: ParseError<I>> Writer<I> for SplitPosition1<P, I, E> {
     ghost Form = { λ p. IsRunForm I.model (P.answers (P.state p.predicate)) 1 None };
 
     ghost Fails = { λ p. RunFails I.model (P.answers (P.state p.predicate)) 1 None };
@@ -104,20 +104,20 @@ impl<I: ByteInput, P: Predicate<u8>, E: ParseError<I>> Writer<I> for SplitPositi
     ghost CanWrite = { λ p. P.Runs (P.state p.predicate) };
 
     #[inline]
-    fn write<S: Sink>(&self, value: &I, out: &mut S) -> Result<(), WriteError> {
+    fn write<S: Sink<I::Item>>(&self, value: &I, out: &mut S) -> Result<(), WriteError> {
         write_run::<I, P, S>(&self.predicate, 1, None, *value, out)
     }
 
     ghost reads = { λ p k c. premised_reads (P.Runs (P.state p.predicate)) (P.IsSound (P.state p.predicate))
         (run_reads I.model (P.answers (P.state p.predicate)) 1 None (λ i. E.errors.of_kind i p.kind) E.errors.grows
-        (run_lawful I.model (λ b. b < 256) I.values (P.answers (P.state p.predicate)) (P.fixed (P.state p.predicate) k) None 1
+        (run_lawful I.model I.Item.IsValue I.values (P.answers (P.state p.predicate)) (P.fixed (P.state p.predicate) k) None 1
         (λ i. E.errors.of_kind i p.kind) E.errors.grows) I.one_mark) };
 
     ghost leads = { λ p. no_lead };
 }
 
-/// Writes bytes that all pass the test, if their number is within the bounds. Others are a mismatch.
-impl<I: ByteInput, P: Predicate<u8>, E: ParseError<I>> Writer<I> for TakeWhileMN<P, I, E> {
+/// Writes items that all pass the test, if their number is within the bounds. Others are a mismatch.
+impl<I: Unmarked, P: Predicate<I::Item>, E: ParseError<I>> Writer<I> for TakeWhileMN<P, I, E> {
     ghost Form = { λ p. IsRunForm I.model (P.answers (P.state p.predicate)) p.m (Some p.n) };
 
     ghost Fails = { λ p. RunFails I.model (P.answers (P.state p.predicate)) p.m (Some p.n) };
@@ -127,58 +127,61 @@ impl<I: ByteInput, P: Predicate<u8>, E: ParseError<I>> Writer<I> for TakeWhileMN
     ghost CanWrite = { λ p. P.Runs (P.state p.predicate) };
 
     #[inline]
-    fn write<S: Sink>(&self, value: &I, out: &mut S) -> Result<(), WriteError> {
+    fn write<S: Sink<I::Item>>(&self, value: &I, out: &mut S) -> Result<(), WriteError> {
         write_run::<I, P, S>(&self.predicate, self.m, Some(self.n), *value, out)
     }
 
     ghost reads = { λ p k c. premised_reads (P.Runs (P.state p.predicate)) (P.IsSound (P.state p.predicate))
         (run_reads I.model (P.answers (P.state p.predicate)) p.m (Some p.n) (λ i. E.errors.of_kind i Kind.TakeWhileMN) E.errors.grows
-        (run_lawful I.model (λ b. b < 256) I.values (P.answers (P.state p.predicate)) (P.fixed (P.state p.predicate) k) (Some p.n) p.m
+        (run_lawful I.model I.Item.IsValue I.values (P.answers (P.state p.predicate)) (P.fixed (P.state p.predicate) k) (Some p.n) p.m
         (λ i. E.errors.of_kind i Kind.TakeWhileMN) E.errors.grows) I.one_mark) };
 
     ghost leads = { λ p. no_lead };
 }
 
-/// A class of bytes, as a test.
+/// A class of items, as a test.
 #[derive(Drop)]
 struct OfClass {
     class: AsciiClass,
 }
 
-impl Predicate<u8> for OfClass {
+impl<T: AsChar> Predicate<T> for OfClass {
     ghost State = { AsciiClass };
 
     ghost state = { λ p. p.class };
 
-    ghost answers = { IsOf (λ x. x) };
+    ghost answers = { IsOf T.code };
 
     ghost Runs = { λ _. Unit {0} };
 
     ghost IsSound = { λ _. Unit {0} };
 
     #[inline(always)]
-    fn meets(&self, item: u8) -> bool {
+    fn meets(&self, item: T) -> bool {
         self.class.has(item)
     }
 
     #[inline(always)]
-    fn end<I: Input<Item = u8>>(&self, input: I) -> Option<usize> {
+    fn end<I: Input<Item = T>>(&self, input: I) -> Option<usize> {
         input.position_outside(self.class)
     }
 
     ghost fixed = { λ class h x v meets fails. cc (meets, fails) };
 }
 
-/// Writes bytes of the class, at least one if the parser requires one. Others are a mismatch.
-impl<I: ByteInput, E: ParseError<I>> Writer<I> for ClassRun<I, E> {
-    ghost Form = { λ p. IsRunForm I.model (IsOf (λ x. x) p.class) (least_of p.wanted) None };
+/// Writes items of the class, at least one if the parser requires one. Others are a mismatch.
+impl<I: Unmarked, E: ParseError<I>> Writer<I> for ClassRun<I, E>
+where
+    I::Item: AsChar,
+{
+    ghost Form = { λ p. IsRunForm I.model (IsOf I.Item.code p.class) (least_of p.wanted) None };
 
-    ghost Fails = { λ p. RunFails I.model (IsOf (λ x. x) p.class) (least_of p.wanted) None };
+    ghost Fails = { λ p. RunFails I.model (IsOf I.Item.code p.class) (least_of p.wanted) None };
 
-    ghost MayFollow = { λ p. BeginsOther (IsOf (λ x. x) p.class) };
+    ghost MayFollow = { λ p. BeginsOther (IsOf I.Item.code p.class) };
 
     #[inline]
-    fn write<S: Sink>(&self, value: &I, out: &mut S) -> Result<(), WriteError> {
+    fn write<S: Sink<I::Item>>(&self, value: &I, out: &mut S) -> Result<(), WriteError> {
         let class = OfClass { class: self.class };
         match self.wanted {
             None => write_run::<I, OfClass, S>(&class, 0, None, *value, out),
@@ -186,30 +189,34 @@ impl<I: ByteInput, E: ParseError<I>> Writer<I> for ClassRun<I, E> {
         }
     }
 
-    ghost reads = { λ p k c. run_reads I.model (IsOf (λ x. x) p.class) (least_of p.wanted) None (wanted_error E.errors p.wanted)
-        (wanted_grows E.errors p.wanted) (class_lawful I.model (λ b. b < 256) I.values (λ x. x) E.errors p.class p.wanted) I.one_mark };
+    ghost reads = { λ p k c. run_reads I.model (IsOf I.Item.code p.class) (least_of p.wanted) None (wanted_error E.errors p.wanted)
+        (wanted_grows E.errors p.wanted) (class_lawful I.model I.Item.IsValue I.values I.Item.code E.errors p.class p.wanted) I.one_mark };
 
     ghost leads = { λ p. no_lead };
 }
 
-/// Writes decimal digits, at least one. Other bytes are a mismatch.
-impl<I: ByteInput, E: ParseError<I>> Writer<I> for Digit1<I, E> {
-    ghost Form = { λ p. IsRunForm I.model (IsOf (λ x. x) Class.Digit) 1 None };
+/// Writes decimal digits, at least one. Other items are a mismatch.
+impl<I: Unmarked, E: ParseError<I>> Writer<I> for Digit1<I, E>
+where
+    I::Item: AsChar,
+{
+    ghost Form = { λ p. IsRunForm I.model (IsOf I.Item.code Class.Digit) 1 None };
 
-    ghost Fails = { λ p. RunFails I.model (IsOf (λ x. x) Class.Digit) 1 None };
+    ghost Fails = { λ p. RunFails I.model (IsOf I.Item.code Class.Digit) 1 None };
 
-    ghost MayFollow = { λ p. BeginsOther (IsOf (λ x. x) Class.Digit) };
+    ghost MayFollow = { λ p. BeginsOther (IsOf I.Item.code Class.Digit) };
 
     #[inline]
-    fn write<S: Sink>(&self, value: &I, out: &mut S) -> Result<(), WriteError> {
+    fn write<S: Sink<I::Item>>(&self, value: &I, out: &mut S) -> Result<(), WriteError> {
         let class = OfClass {
             class: AsciiClass::Digit,
         };
         write_run::<I, OfClass, S>(&class, 1, None, *value, out)
     }
 
-    ghost reads = { λ p k c. run_reads I.model (IsOf (λ x. x) Class.Digit) 1 None (wanted_error E.errors (Some Kind.Digit))
-        (wanted_grows E.errors (Some Kind.Digit)) (class_lawful I.model (λ b. b < 256) I.values (λ x. x) E.errors Class.Digit (Some Kind.Digit)) I.one_mark };
+    ghost reads = { λ p k c. run_reads I.model (IsOf I.Item.code Class.Digit) 1 None (wanted_error E.errors (Some Kind.Digit))
+        (wanted_grows E.errors (Some Kind.Digit))
+        (class_lawful I.model I.Item.IsValue I.values I.Item.code E.errors Class.Digit (Some Kind.Digit)) I.one_mark };
 
     ghost leads = { λ p. no_lead };
 }

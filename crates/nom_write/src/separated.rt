@@ -22,23 +22,19 @@ use std::marker::PhantomData;
 
 /// A writer of each item after a separator.
 #[derive(Drop)]
-struct EachAfter<'a, I: Items<Item = u8>, C: Constant<I>, G: Writer<I>>(
-    &'a C,
-    &'a G,
-    PhantomData<I>,
-);
+struct EachAfter<'a, I: Items, C: Constant<I>, G: Writer<I>>(&'a C, &'a G, PhantomData<I>);
 
-impl<'a, I: Items<Item = u8>, C: Constant<I>, G: Writer<I>> PutItem for EachAfter<'a, I, C, G> {
+impl<'a, I: Items, C: Constant<I>, G: Writer<I>> PutItem<I::Item> for EachAfter<'a, I, C, G> {
     type Item = G::Output;
 
-    ghost Form = { λ o. AfterSeparator (C.bytes o.0.now) (G.Form o.1.now) };
+    ghost Form = { λ o. AfterSeparator (C.items o.0.now) (G.Form o.1.now) };
 
-    ghost Fails = { λ o. AfterFails (C.bytes o.0.now) (G.Fails o.1.now) };
+    ghost Fails = { λ o. AfterFails (C.items o.0.now) (G.Fails o.1.now) };
 
-    ghost CanPut = { λ o. G.CanWrite o.1.now };
+    ghost CanPut = { λ o. C.Fits o.0.now × G.CanWrite o.1.now };
 
     #[inline(always)]
-    fn put_item<S: Sink>(&self, item: &G::Output, out: &mut S) -> Result<(), WriteError> {
+    fn put_item<S: Sink<I::Item>>(&self, item: &G::Output, out: &mut S) -> Result<(), WriteError> {
         InTurn(
             Fixed::<I, C>(self.0, PhantomData),
             OneValue::<I, G>(self.1, item, PhantomData),
@@ -51,23 +47,28 @@ impl<'a, I: Items<Item = u8>, C: Constant<I>, G: Writer<I>> PutItem for EachAfte
 ///
 /// What follows may follow an item, and begins with no separator and item.
 impl<
-    I: Input<Item = u8>,
+    I: Input,
     M: Allocator + Copy,
     C: Constant<I> + Drop,
     G: Writer<I, Error = C::Error> + Drop,
 > Writer<I> for SeparatedList1<M, C, G> {
-    ghost Form = { λ p v. SomeForm (G.Form p.next.second) (AfterSeparator (C.bytes p.next.first) (G.Form p.next.second)) v.items };
+    ghost Form = { λ p v. SomeForm (G.Form p.next.second) (AfterSeparator (C.items p.next.first) (G.Form p.next.second)) v.items };
 
-    ghost Fails = { λ p v. SomeFails (G.Form p.next.second) (G.Fails p.next.second) (AfterSeparator (C.bytes p.next.first) (G.Form p.next.second))
-        (AfterFails (C.bytes p.next.first) (G.Fails p.next.second)) v.items };
+    ghost Fails = { λ p v. SomeFails (G.Form p.next.second) (G.Fails p.next.second) (AfterSeparator (C.items p.next.first) (G.Form p.next.second))
+        (AfterFails (C.items p.next.first) (G.Fails p.next.second)) v.items };
 
     ghost MayFollow = { λ p rest. G.MayFollow p.next.second rest ×
         NoItem I.model (preceded_of I.model (C.grammar (C.state p.next.first)) (G.grammar (G.state p.next.second))).meaning rest };
 
-    ghost CanWrite = { λ p. G.CanWrite p.next.second × ((rest : List ℕ) → G.MayFollow p.next.second (C.bytes p.next.first ++ rest)) };
+    ghost CanWrite = { λ p. (C.Fits p.next.first × G.CanWrite p.next.second) ×
+        ((rest : List I.Item) → G.MayFollow p.next.second (C.items p.next.first ++ rest)) };
 
     #[inline]
-    fn write<S: Sink>(&self, value: &Vec<G::Output, M>, out: &mut S) -> Result<(), WriteError> {
+    fn write<S: Sink<I::Item>>(
+        &self,
+        value: &Vec<G::Output, M>,
+        out: &mut S,
+    ) -> Result<(), WriteError> {
         match value.as_slice().split_first() {
             None => Err(WriteError::Mismatch(out.len())),
             Some((first, others)) => InTurn(
@@ -82,8 +83,8 @@ impl<
         }
     }
 
-    ghost reads = { λ p k c. separated_list1_reads I.lawful C.Error.errors (C.bytes p.next.first) c.1 (C.accepts p.next.first k.1.0)
-        (G.reads p.next.second k.0 c.0) };
+    ghost reads = { λ p k c. separated_list1_reads I.lawful C.Error.errors (C.items p.next.first) c.1 (C.accepts p.next.first k.1.0 c.0.0)
+        (G.reads p.next.second k.0 c.0.1) };
 
     ghost leads = { λ p. no_lead };
 }
@@ -92,24 +93,29 @@ impl<
 ///
 /// What follows may follow an item. It begins with no item, and with no separator and item.
 impl<
-    I: Input<Item = u8>,
+    I: Input,
     M: Allocator + Copy,
     C: Constant<I> + Drop,
     G: Writer<I, Error = C::Error> + Drop,
 > Writer<I> for SeparatedList0<M, C, G> {
-    ghost Form = { λ p v. AnyForm (G.Form p.next.second) (AfterSeparator (C.bytes p.next.first) (G.Form p.next.second)) v.items };
+    ghost Form = { λ p v. AnyForm (G.Form p.next.second) (AfterSeparator (C.items p.next.first) (G.Form p.next.second)) v.items };
 
-    ghost Fails = { λ p v. AnyFails (G.Form p.next.second) (G.Fails p.next.second) (AfterSeparator (C.bytes p.next.first) (G.Form p.next.second))
-        (AfterFails (C.bytes p.next.first) (G.Fails p.next.second)) v.items };
+    ghost Fails = { λ p v. AnyFails (G.Form p.next.second) (G.Fails p.next.second) (AfterSeparator (C.items p.next.first) (G.Form p.next.second))
+        (AfterFails (C.items p.next.first) (G.Fails p.next.second)) v.items };
 
     ghost MayFollow = { λ p rest. G.MayFollow p.next.second rest ×
         NoItem I.model (preceded_of I.model (C.grammar (C.state p.next.first)) (G.grammar (G.state p.next.second))).meaning rest ×
         NoItem I.model (G.grammar (G.state p.next.second)).meaning rest };
 
-    ghost CanWrite = { λ p. G.CanWrite p.next.second × ((rest : List ℕ) → G.MayFollow p.next.second (C.bytes p.next.first ++ rest)) };
+    ghost CanWrite = { λ p. (C.Fits p.next.first × G.CanWrite p.next.second) ×
+        ((rest : List I.Item) → G.MayFollow p.next.second (C.items p.next.first ++ rest)) };
 
     #[inline]
-    fn write<S: Sink>(&self, value: &Vec<G::Output, M>, out: &mut S) -> Result<(), WriteError> {
+    fn write<S: Sink<I::Item>>(
+        &self,
+        value: &Vec<G::Output, M>,
+        out: &mut S,
+    ) -> Result<(), WriteError> {
         match value.as_slice().split_first() {
             None => Ok(()),
             Some((first, others)) => InTurn(
@@ -124,8 +130,8 @@ impl<
         }
     }
 
-    ghost reads = { λ p k c. separated_list0_reads I.lawful C.Error.errors (C.bytes p.next.first) c.1 (C.accepts p.next.first k.1.0)
-        (G.reads p.next.second k.0 c.0) };
+    ghost reads = { λ p k c. separated_list0_reads I.lawful C.Error.errors (C.items p.next.first) c.1 (C.accepts p.next.first k.1.0 c.0.0)
+        (G.reads p.next.second k.0 c.0.1) };
 
     ghost leads = { λ p. no_lead };
 }

@@ -17,8 +17,7 @@ use nom_traits::input::Items;
 use std::marker::PhantomData;
 
 /// Writes the first value, and then the second.
-impl<I: Items<Item = u8>, F: Writer<I> + Drop, G: Writer<I, Error = F::Error> + Drop> Writer<I>
-    for And<F, G> {
+impl<I: Items, F: Writer<I> + Drop, G: Writer<I, Error = F::Error> + Drop> Writer<I> for And<F, G> {
     ghost Form = { λ p v. Both (F.Form p.first v.0) (G.Form p.second v.1) };
 
     ghost Fails = { λ p v. BothFail (F.Form p.first v.0) (F.Fails p.first v.0) (G.Fails p.second v.1) };
@@ -31,7 +30,7 @@ impl<I: Items<Item = u8>, F: Writer<I> + Drop, G: Writer<I, Error = F::Error> + 
     ghost Lead = { λ p. F.Lead p.first };
 
     #[inline]
-    fn write<S: Sink>(
+    fn write<S: Sink<I::Item>>(
         &self,
         value: &(F::Output, G::Output),
         out: &mut S,
@@ -49,20 +48,20 @@ impl<I: Items<Item = u8>, F: Writer<I> + Drop, G: Writer<I, Error = F::Error> + 
 }
 
 /// Writes the constant, and then the value.
-impl<I: Items<Item = u8>, F: Constant<I> + Drop, G: Writer<I, Error = F::Error> + Drop> Writer<I>
+impl<I: Items, F: Constant<I> + Drop, G: Writer<I, Error = F::Error> + Drop> Writer<I>
     for Preceded<F, G> {
-    ghost Form = { λ p v. Both (λ xs. xs ≡ F.bytes p.first) (G.Form p.second v) };
+    ghost Form = { λ p v. Both (λ xs. xs ≡ F.items p.first) (G.Form p.second v) };
 
-    ghost Fails = { λ p v. BothFail (λ xs. xs ≡ F.bytes p.first) (LacksRoom (length (F.bytes p.first))) (G.Fails p.second v) };
+    ghost Fails = { λ p v. BothFail (λ xs. xs ≡ F.items p.first) (LacksRoom (length (F.items p.first))) (G.Fails p.second v) };
 
     ghost MayFollow = { λ p. G.MayFollow p.second };
 
-    ghost CanWrite = { λ p. G.CanWrite p.second };
+    ghost CanWrite = { λ p. F.Fits p.first × G.CanWrite p.second };
 
-    ghost Lead = { λ p. lead_of (F.bytes p.first) };
+    ghost Lead = { λ p. lead_of I.Item.code (F.items p.first) };
 
     #[inline]
-    fn write<S: Sink>(&self, value: &G::Output, out: &mut S) -> Result<(), WriteError> {
+    fn write<S: Sink<I::Item>>(&self, value: &G::Output, out: &mut S) -> Result<(), WriteError> {
         InTurn(
             Fixed::<I, F>(&self.first, PhantomData),
             OneValue::<I, G>(&self.second, value, PhantomData),
@@ -70,24 +69,24 @@ impl<I: Items<Item = u8>, F: Constant<I> + Drop, G: Writer<I, Error = F::Error> 
         .put(out)
     }
 
-    ghost reads = { λ p k c. preceded_reads I.lawful (F.accepts p.first k.0) (G.reads p.second k.1 c) };
+    ghost reads = { λ p k c. preceded_reads I.lawful (F.accepts p.first k.0 c.0) (G.reads p.second k.1 c.1) };
 
-    ghost leads = { λ p. preceded_leads (F.grammar (F.state p.first)) (F.bytes p.first) (F.others p.first) };
+    ghost leads = { λ p. preceded_leads I.Item.code (F.grammar (F.state p.first)) (F.items p.first) (F.others p.first) };
 }
 
 /// Writes the value, and then the constant.
-impl<I: Items<Item = u8>, F: Writer<I> + Drop, G: Constant<I, Error = F::Error> + Drop> Writer<I>
+impl<I: Items, F: Writer<I> + Drop, G: Constant<I, Error = F::Error> + Drop> Writer<I>
     for Terminated<F, G> {
-    ghost Form = { λ p v. Both (F.Form p.first v) (λ xs. xs ≡ G.bytes p.second) };
+    ghost Form = { λ p v. Both (F.Form p.first v) (λ xs. xs ≡ G.items p.second) };
 
-    ghost Fails = { λ p v. BothFail (F.Form p.first v) (F.Fails p.first v) (LacksRoom (length (G.bytes p.second))) };
+    ghost Fails = { λ p v. BothFail (F.Form p.first v) (F.Fails p.first v) (LacksRoom (length (G.items p.second))) };
 
-    ghost CanWrite = { λ p. F.CanWrite p.first × ((rest : List ℕ) → F.MayFollow p.first (G.bytes p.second ++ rest)) };
+    ghost CanWrite = { λ p. (F.CanWrite p.first × G.Fits p.second) × ((rest : List I.Item) → F.MayFollow p.first (G.items p.second ++ rest)) };
 
     ghost Lead = { λ p. F.Lead p.first };
 
     #[inline]
-    fn write<S: Sink>(&self, value: &F::Output, out: &mut S) -> Result<(), WriteError> {
+    fn write<S: Sink<I::Item>>(&self, value: &F::Output, out: &mut S) -> Result<(), WriteError> {
         InTurn(
             OneValue::<I, F>(&self.first, value, PhantomData),
             Fixed::<I, G>(&self.second, PhantomData),
@@ -95,7 +94,7 @@ impl<I: Items<Item = u8>, F: Writer<I> + Drop, G: Constant<I, Error = F::Error> 
         .put(out)
     }
 
-    ghost reads = { λ p k c. terminated_reads I.lawful c.1 (F.reads p.first k.0 c.0) (G.accepts p.second k.1) };
+    ghost reads = { λ p k c. terminated_reads I.lawful c.1 (F.reads p.first k.0 c.0.0) (G.accepts p.second k.1 c.0.1) };
 
     ghost leads = { λ p. both_leads (terminated_leads (F.leads p.first) (G.grammar (G.state p.second))) };
 }

@@ -11,7 +11,7 @@ use nom_sink::sink::Sink;
 use nom_traits::input::Items;
 use std::marker::PhantomData;
 
-impl<I: Items<Item = u8>, P: Writer<I>, Q: Writer<I, Error = P::Error>> Writer<I> for (P, Q) {
+impl<I: Items, P: Writer<I>, Q: Writer<I, Error = P::Error>> Writer<I> for (P, Q) {
     ghost Form = { λ p v. Both (P.Form p.0 v.0) (Q.Form p.1 v.1) };
 
     ghost Fails = { λ p v. BothFail (P.Form p.0 v.0) (P.Fails p.0 v.0) (Q.Fails p.1 v.1) };
@@ -24,7 +24,7 @@ impl<I: Items<Item = u8>, P: Writer<I>, Q: Writer<I, Error = P::Error>> Writer<I
     ghost Lead = { λ p. P.Lead p.0 };
 
     #[inline]
-    fn write<X: Sink>(
+    fn write<X: Sink<I::Item>>(
         &self,
         value: &(P::Output, Q::Output),
         out: &mut X,
@@ -41,12 +41,9 @@ impl<I: Items<Item = u8>, P: Writer<I>, Q: Writer<I, Error = P::Error>> Writer<I
     ghost leads = { λ p. both_leads (tuple_leads (pair_leads (P.leads p.0) (Q.grammar (Q.state p.1))) (λ o. (o.0, o.1))) };
 }
 
-impl<
-    I: Items<Item = u8>,
-    P: Writer<I>,
-    Q: Writer<I, Error = P::Error>,
-    R: Writer<I, Error = P::Error>,
-> Writer<I> for (P, Q, R) {
+impl<I: Items, P: Writer<I>, Q: Writer<I, Error = P::Error>, R: Writer<I, Error = P::Error>> Writer<
+    I,
+> for (P, Q, R) {
     ghost Form = { λ p v. Both (P.Form p.0 v.0) (Both (Q.Form p.1 v.1) (R.Form p.2 v.2)) };
 
     ghost Fails = { λ p v. BothFail (P.Form p.0 v.0) (P.Fails p.0 v.0) (BothFail (Q.Form p.1 v.1) (Q.Fails p.1 v.1) (R.Fails p.2 v.2)) };
@@ -60,7 +57,7 @@ impl<
     ghost Lead = { λ p. P.Lead p.0 };
 
     #[inline]
-    fn write<X: Sink>(
+    fn write<X: Sink<I::Item>>(
         &self,
         value: &(P::Output, Q::Output, R::Output),
         out: &mut X,
@@ -83,7 +80,7 @@ impl<
 }
 
 impl<
-    I: Items<Item = u8>,
+    I: Items,
     P: Writer<I>,
     Q: Writer<I, Error = P::Error>,
     R: Writer<I, Error = P::Error>,
@@ -104,7 +101,7 @@ impl<
     ghost Lead = { λ p. P.Lead p.0 };
 
     #[inline]
-    fn write<X: Sink>(
+    fn write<X: Sink<I::Item>>(
         &self,
         value: &(P::Output, Q::Output, R::Output, S::Output),
         out: &mut X,
@@ -130,7 +127,7 @@ impl<
 }
 
 impl<
-    I: Items<Item = u8>,
+    I: Items,
     P: Writer<I>,
     Q: Writer<I, Error = P::Error>,
     R: Writer<I, Error = P::Error>,
@@ -153,7 +150,7 @@ impl<
     ghost Lead = { λ p. P.Lead p.0 };
 
     #[inline]
-    fn write<X: Sink>(
+    fn write<X: Sink<I::Item>>(
         &self,
         value: &(P::Output, Q::Output, R::Output, S::Output, T::Output),
         out: &mut X,
@@ -183,7 +180,7 @@ impl<
 }
 
 impl<
-    I: Items<Item = u8>,
+    I: Items,
     P: Writer<I>,
     Q: Writer<I, Error = P::Error>,
     R: Writer<I, Error = P::Error>,
@@ -209,7 +206,7 @@ impl<
     ghost Lead = { λ p. P.Lead p.0 };
 
     #[inline]
-    fn write<X: Sink>(
+    fn write<X: Sink<I::Item>>(
         &self,
         value: &(
             P::Output,
@@ -262,7 +259,7 @@ impl<
 }
 
 impl<
-    I: Items<Item = u8>,
+    I: Items,
     P: Writer<I>,
     Q: Writer<I, Error = P::Error>,
     R: Writer<I, Error = P::Error>,
@@ -291,7 +288,7 @@ impl<
     ghost Lead = { λ p. P.Lead p.0 };
 
     #[inline]
-    fn write<X: Sink>(
+    fn write<X: Sink<I::Item>>(
         &self,
         value: &(
             P::Output,
@@ -337,7 +334,7 @@ impl<
 }
 
 impl<
-    I: Items<Item = u8>,
+    I: Items,
     P: Writer<I>,
     Q: Writer<I, Error = P::Error>,
     R: Writer<I, Error = P::Error>,
@@ -369,7 +366,7 @@ impl<
     ghost Lead = { λ p. P.Lead p.0 };
 
     #[inline]
-    fn write<X: Sink>(
+    fn write<X: Sink<I::Item>>(
         &self,
         value: &(
             P::Output,

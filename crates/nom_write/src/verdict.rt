@@ -12,7 +12,7 @@ use nom_sink::sink::Sink;
 use nom_traits::input::Items;
 
 /// Writes as the part does.
-impl<I: Items<Item = u8>, F: Writer<I> + Drop> Writer<I> for Cut<F> {
+impl<I: Items, F: Writer<I> + Drop> Writer<I> for Cut<F> {
     ghost Form = { λ p. F.Form p.parser };
 
     ghost Fails = { λ p. F.Fails p.parser };
@@ -22,7 +22,7 @@ impl<I: Items<Item = u8>, F: Writer<I> + Drop> Writer<I> for Cut<F> {
     ghost CanWrite = { λ p. F.CanWrite p.parser };
 
     #[inline(always)]
-    fn write<S: Sink>(&self, value: &F::Output, out: &mut S) -> Result<(), WriteError> {
+    fn write<S: Sink<I::Item>>(&self, value: &F::Output, out: &mut S) -> Result<(), WriteError> {
         self.parser.write(value, out)
     }
 
@@ -32,7 +32,7 @@ impl<I: Items<Item = u8>, F: Writer<I> + Drop> Writer<I> for Cut<F> {
 }
 
 /// Writes the value of `Some`, and nothing for `None`. No item may follow.
-impl<I: Items<Item = u8>, F: Writer<I> + Drop> Writer<I> for Opt<F> {
+impl<I: Items, F: Writer<I> + Drop> Writer<I> for Opt<F> {
     ghost Form = { λ p. OptForm (F.Form p.parser) };
 
     ghost Fails = { λ p. OptFails (F.Fails p.parser) };
@@ -42,7 +42,11 @@ impl<I: Items<Item = u8>, F: Writer<I> + Drop> Writer<I> for Opt<F> {
     ghost CanWrite = { λ p. F.CanWrite p.parser };
 
     #[inline]
-    fn write<S: Sink>(&self, value: &Option<F::Output>, out: &mut S) -> Result<(), WriteError> {
+    fn write<S: Sink<I::Item>>(
+        &self,
+        value: &Option<F::Output>,
+        out: &mut S,
+    ) -> Result<(), WriteError> {
         match value {
             Some(value) => self.parser.write(value, out),
             None => Ok(()),
@@ -56,7 +60,7 @@ impl<I: Items<Item = u8>, F: Writer<I> + Drop> Writer<I> for Opt<F> {
 
 /// If the parser runs, writes the value of `Some`; `None` is a mismatch. If it doesn't run, it is the other way round: `None` is
 /// written as nothing, and `Some` is a mismatch.
-impl<I: Items<Item = u8>, F: Writer<I> + Drop> Writer<I> for Cond<F> {
+impl<I: Items, F: Writer<I> + Drop> Writer<I> for Cond<F> {
     ghost Form = { λ p. CondForm F.Form p.parser };
 
     ghost Fails = { λ p. CondFails F.Fails p.parser };
@@ -66,7 +70,11 @@ impl<I: Items<Item = u8>, F: Writer<I> + Drop> Writer<I> for Cond<F> {
     ghost CanWrite = { λ p. OfPart F.CanWrite p.parser };
 
     #[inline]
-    fn write<S: Sink>(&self, value: &Option<F::Output>, out: &mut S) -> Result<(), WriteError> {
+    fn write<S: Sink<I::Item>>(
+        &self,
+        value: &Option<F::Output>,
+        out: &mut S,
+    ) -> Result<(), WriteError> {
         match &self.parser {
             Some(parser) => match value {
                 Some(value) => parser.write(value, out),
@@ -85,7 +93,7 @@ impl<I: Items<Item = u8>, F: Writer<I> + Drop> Writer<I> for Cond<F> {
 }
 
 /// Writes as the part does.
-impl<I: Items<Item = u8>, F: Writer<I> + Drop> Writer<I> for Context<F>
+impl<I: Items, F: Writer<I> + Drop> Writer<I> for Context<F>
 where
     F::Error: ContextError<I>,
 {
@@ -100,7 +108,7 @@ where
     ghost Lead = { λ p. F.Lead p.parser };
 
     #[inline(always)]
-    fn write<S: Sink>(&self, value: &F::Output, out: &mut S) -> Result<(), WriteError> {
+    fn write<S: Sink<I::Item>>(&self, value: &F::Output, out: &mut S) -> Result<(), WriteError> {
         self.parser.write(value, out)
     }
 

@@ -13,7 +13,7 @@ use nom_traits::input::Input;
 /// Parses like `parse_complete`. On an input that is a form of a value, it returns that value, and an empty rest.
 ///
 /// The form must be one that may end an input.
-pub fn parse_whole_back<I: Input<Item = u8>, P: Writer<I> + Drop>(
+pub fn parse_whole_back<I: Input, P: Writer<I> + Drop>(
     parser: &mut AllConsuming<P>,
     input: I,
 ) -> IResult<I, P::Output, P::Error>
@@ -22,7 +22,7 @@ pub fn parse_whole_back<I: Input<Item = u8>, P: Writer<I> + Drop>(
     requires can { P.CanWrite parser.old.parser }
     ensures shown { Parses I.model (all_consuming_of I.model P.Error.errors (P.grammar (P.state parser.old.parser))) false input result }
     ensures kept { P.state parser.new.parser ≡ P.state parser.old.parser }
-    ensures back { (v : P.Output) (xs : List ℕ) → P.Form parser.old.parser v xs → I.model.elements input ≡ xs → P.MayFollow parser.old.parser [] →
+    ensures back { (v : P.Output) (xs : List I.Item) → P.Form parser.old.parser v xs → I.model.elements input ≡ xs → P.MayFollow parser.old.parser [] →
         IsReadBack I.model P.Output.view (P.Pins parser.old.parser) (all_consuming_of I.model P.Error.errors
         (P.grammar (P.state parser.old.parser))) v xs [] input result }
 {

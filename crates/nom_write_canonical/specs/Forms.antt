@@ -53,7 +53,7 @@ WritesBack {I} {O = O} w g Form = (streaming : Bool) (i j : I) (v : O) (xs : Lis
 
 -- What came of an output that is written again, beside the parser's answer: the sink holds more just the items that were consumed, or it
 -- holds what it did. Where nothing was accepted, nothing is written.
-abbrev pub IsWrittenAgain : {I S O E : Type 0} → Model I ℕ → SinkModel S → (O → Space → WriteError → Type 0) → (old new : S) → I → IResult I O E →
+abbrev pub IsWrittenAgain : {I S O E : Type 0} → Model I ℕ → SinkModel S ℕ → (O → Space → WriteError → Type 0) → (old new : S) → I → IResult I O E →
     IResult I (O × Result (Unit {0}) WriteError) E → Type 0
 IsWrittenAgain w m Fails old new i (Ok x) r = (a : Result (Unit {0}) WriteError) × (r ≡ Ok (x.0, (x.1, a))) ×
     Written (λ xs. w.elements i ≡ xs ++ w.elements x.0) (Fails x.1) m old new a

@@ -12,7 +12,7 @@ use nom_write::{Sink, SliceSink, WriteError};
 use std::alloc::Allocator;
 
 /// A sink whose bytes can be read.
-pub trait ByteSink: Sink {
+pub trait ByteSink: Sink<u8> {
     /// The bytes that it holds.
     fn as_bytes(&self) -> &[u8]
         ensures { result.now ≡ Self.model.items self.now };
@@ -25,7 +25,7 @@ impl<A: Allocator> ByteSink for Vec<u8, A> {
     }
 }
 
-impl<'a> ByteSink for SliceSink<'a> {
+impl<'a> ByteSink for SliceSink<'a, u8> {
     #[inline(always)]
     fn as_bytes(&self) -> &[u8] {
         self.written()

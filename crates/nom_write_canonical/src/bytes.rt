@@ -6,7 +6,7 @@ ghost use Rattle.nom_write_canonical.specs.laws.SequenceForms.{bytes_one, one_be
 use crate::canonical::{Canonical, CanonicalConstant};
 use nom_bytes::{Tag, Take};
 use nom_error::value::ParseError;
-use nom_write::length::ByteInput;
+use nom_write::unmarked::UnitItems;
 
 impl<'a, 'b, E: ParseError<&'a [u8]>> Canonical<&'a [u8]> for Tag<&'b [u8], &'a [u8], E> {
     ghost accepts_forms = { λ p c. tag_accepts E.errors p.tag.now };
@@ -18,7 +18,7 @@ impl<'a, 'b, E: ParseError<&'a [u8]>> CanonicalConstant<&'a [u8]> for Tag<&'b [u
     ghost accepts_bytes = { λ p. tag_only E.errors p.tag.now };
 }
 
-impl<I: ByteInput, E: ParseError<I>> Canonical<I> for Take<I, E> {
+impl<I: UnitItems<Item = u8>, E: ParseError<I>> Canonical<I> for Take<I, E> {
     ghost accepts_forms = { λ p c. take_accepts I.model E.errors I.lack p.count };
 
     ghost one_form = { λ p c v. one_beside (λ xs f. f.1) held_one };

@@ -24,5 +24,5 @@ pub trait Canonical<I: Items<Item = u8>>: Writer<I> {
 /// A constant that accepts its bytes and no others.
 pub trait CanonicalConstant<I: Items<Item = u8>>: Constant<I> {
     /// Nothing is accepted but the bytes.
-    ghost accepts_bytes: { (p : Self) → AcceptsBytes I.model (Self.grammar (Self.state p)) (Self.bytes p) };
+    ghost accepts_bytes: { (p : Self) → AcceptsBytes I.model (Self.grammar (Self.state p)) (Self.items p) };
 }

@@ -6,7 +6,8 @@ ghost use Rattle.nom_write_canonical.specs.laws.SequenceForms.{both_one};
 use crate::canonical::Canonical;
 use nom_multi_length::{LengthCount, LengthData};
 use nom_traits::input::Items;
-use nom_write::length::{ByteInput, OfSize};
+use nom_write::length::OfSize;
+use nom_write::unmarked::UnitItems;
 use std::alloc::Allocator;
 
 /// A whole number that its size determines.
@@ -35,7 +36,8 @@ impl CanonicalSize for usize {
     ghost one_number = { λ a b e. e };
 }
 
-impl<I: ByteInput, F: Canonical<I, Output: CanonicalSize> + Drop> Canonical<I> for LengthData<F> {
+impl<I: UnitItems<Item = u8>, F: Canonical<I, Output: CanonicalSize> + Drop> Canonical<I>
+    for LengthData<F> {
     ghost IsCanonical = { λ p. F.IsCanonical p.parser };
 
     ghost accepts_forms = { λ p c. length_data_accepts I.lawful F.Error.errors F.Output.size (F.accepts_forms p.parser c) I.lack };

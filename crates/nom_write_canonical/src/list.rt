@@ -37,5 +37,5 @@ impl<
 
     ghost accepts_forms = { λ p c. separated_list1_accepts I.lawful C.Error.errors (C.accepts_bytes p.next.first) (G.accepts_forms p.next.second c) };
 
-    ghost one_form = { λ p c v. separated_one (C.bytes p.next.first) (G.one_form p.next.second c) v.items };
+    ghost one_form = { λ p c v. separated_one (C.items p.next.first) (G.one_form p.next.second c) v.items };
 }

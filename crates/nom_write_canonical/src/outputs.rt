@@ -14,9 +14,9 @@ impl<I: Items<Item = u8>, O: Clone + PartialEq + Viewed, F: CanonicalConstant<I>
     I,
 > for Value<O, F> {
     ghost accepts_forms = { λ p c. value_accepts (F.grammar (F.state p.parser)) p.value (O.is_infallible p.value) (O.is_clone p.value)
-        (F.bytes p.parser) (F.accepts_bytes p.parser) };
+        (F.items p.parser) (F.accepts_bytes p.parser) };
 
-    ghost one_form = { λ p c v. one_beside (λ xs f. f.1) (bytes_one (F.bytes p.parser)) };
+    ghost one_form = { λ p c v. one_beside (λ xs f. f.1) (bytes_one (F.items p.parser)) };
 }
 
 impl<I: Items<Item = u8>, F: Canonical<I> + Drop, G: Fn(&F::Output) -> bool> Canonical<I>

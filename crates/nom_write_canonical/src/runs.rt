@@ -10,16 +10,18 @@ use nom_bytes::predicate::Predicate;
 use nom_bytes::{SplitPosition, SplitPosition1, TakeWhileMN};
 use nom_character::{ClassRun, Digit1};
 use nom_error::value::ParseError;
-use nom_write::length::ByteInput;
+use nom_write::unmarked::UnitItems;
 
-impl<I: ByteInput, P: Predicate<u8>, E: ParseError<I>> Canonical<I> for SplitPosition<P, I, E> {
+impl<I: UnitItems<Item = u8>, P: Predicate<u8>, E: ParseError<I>> Canonical<I>
+    for SplitPosition<P, I, E> {
     ghost accepts_forms = { λ p c. premised_accepts (P.Runs (P.state p.predicate)) (P.IsSound (P.state p.predicate))
         (run_accepts I.model (P.answers (P.state p.predicate)) 0 None (λ _ _. ⊥) ⊥ tt) };
 
     ghost one_form = { λ p c v. run_one };
 }
 
-impl<I: ByteInput, P: Predicate<u8>, E: ParseError<I>> Canonical<I> for SplitPosition1<P, I, E> {
+impl<I: UnitItems<Item = u8>, P: Predicate<u8>, E: ParseError<I>> Canonical<I>
+    for SplitPosition1<P, I, E> {
     ghost accepts_forms = { λ p c. premised_accepts (P.Runs (P.state p.predicate)) (P.IsSound (P.state p.predicate))
         (run_accepts I.model (P.answers (P.state p.predicate)) 1 None (λ i. E.errors.of_kind i p.kind) E.errors.grows tt) };
 
@@ -27,7 +29,8 @@ impl<I: ByteInput, P: Predicate<u8>, E: ParseError<I>> Canonical<I> for SplitPos
 }
 
 /// With bounds the wrong way round, a run below the least number is accepted before another byte.
-impl<I: ByteInput, P: Predicate<u8>, E: ParseError<I>> Canonical<I> for TakeWhileMN<P, I, E> {
+impl<I: UnitItems<Item = u8>, P: Predicate<u8>, E: ParseError<I>> Canonical<I>
+    for TakeWhileMN<P, I, E> {
     ghost IsCanonical = { λ p. p.m ≤ p.n };
 
     ghost accepts_forms = { λ p c. premised_accepts (P.Runs (P.state p.predicate)) (P.IsSound (P.state p.predicate))
@@ -36,14 +39,14 @@ impl<I: ByteInput, P: Predicate<u8>, E: ParseError<I>> Canonical<I> for TakeWhil
     ghost one_form = { λ p c v. run_one };
 }
 
-impl<I: ByteInput, E: ParseError<I>> Canonical<I> for ClassRun<I, E> {
+impl<I: UnitItems<Item = u8>, E: ParseError<I>> Canonical<I> for ClassRun<I, E> {
     ghost accepts_forms = { λ p c. run_accepts I.model (IsOf (λ x. x) p.class) (least_of p.wanted) None (wanted_error E.errors p.wanted)
         (wanted_grows E.errors p.wanted) tt };
 
     ghost one_form = { λ p c v. run_one };
 }
 
-impl<I: ByteInput, E: ParseError<I>> Canonical<I> for Digit1<I, E> {
+impl<I: UnitItems<Item = u8>, E: ParseError<I>> Canonical<I> for Digit1<I, E> {
     ghost accepts_forms = { λ p c. run_accepts I.model (IsOf (λ x. x) Class.Digit) 1 None (wanted_error E.errors (Some Kind.Digit))
         (wanted_grows E.errors (Some Kind.Digit)) tt };
 

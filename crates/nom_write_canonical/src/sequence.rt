@@ -27,7 +27,7 @@ impl<
 
     ghost accepts_forms = { λ p c. preceded_accepts I.lawful (F.accepts_bytes p.first) (G.accepts_forms p.second c) };
 
-    ghost one_form = { λ p c v. both_one (bytes_one (F.bytes p.first)) (G.one_form p.second c v) };
+    ghost one_form = { λ p c v. both_one (bytes_one (F.items p.first)) (G.one_form p.second c v) };
 }
 
 impl<
@@ -39,5 +39,5 @@ impl<
 
     ghost accepts_forms = { λ p c. terminated_accepts I.lawful (F.accepts_forms p.first c) (G.accepts_bytes p.second) };
 
-    ghost one_form = { λ p c v. both_one (F.one_form p.first c v) (bytes_one (G.bytes p.second)) };
+    ghost one_form = { λ p c v. both_one (F.one_form p.first c v) (bytes_one (G.items p.second)) };
 }

@@ -39,7 +39,7 @@ impl<A: Allocator> Held<A> {
 }
 
 /// Without room for the bytes, the answer is `Full`.
-impl<A: Allocator> Sink for Held<A> {
+impl<A: Allocator> Sink<u8> for Held<A> {
     ghost model = { record { items = λ h. h.bytes.items; room = λ h. vec_capacity h.bytes; lack = OfSpace } };
 
     #[inline(always)]

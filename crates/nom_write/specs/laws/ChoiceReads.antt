@@ -18,10 +18,10 @@ use Rattle.nom_write.specs.laws.SequenceReads.{as_whole}
 use Rattle.nom_sink.specs.Written.{Space}
 
 -- a part, with what its outcome becomes: of an acceptance one of that length
-module _ {I P T : Type 0} (w : Model I ℕ) (becomes : Outcome P → Outcome T) (label : P → T) (keeps : (n : ℕ) (u : P) → becomes (Accept n u) ≡ Accept n
-    (label u)) where
-  pub become_reads : (F : I → Outcome P → Type 0) (IsPart : P → Type 0) (IsTree : T → Type 0) (First Next : List ℕ → Type 0) (xs : List ℕ) →
-      ((rest : List ℕ) → Next rest → First rest) → ((u : P) → IsPart u → IsTree (label u)) → ReadsBefore w F IsPart First xs →
+module _ {I A P T : Type 0} (w : Model I A) (becomes : Outcome P → Outcome T) (label : P → T)
+    (keeps : (n : ℕ) (u : P) → becomes (Accept n u) ≡ Accept n (label u)) where
+  pub become_reads : (F : I → Outcome P → Type 0) (IsPart : P → Type 0) (IsTree : T → Type 0) (First Next : List A → Type 0) (xs : List A) →
+      ((rest : List A) → Next rest → First rest) → ((u : P) → IsPart u → IsTree (label u)) → ReadsBefore w F IsPart First xs →
       ReadsBefore w (λ i o. OnPart (λ (x y : I). x ≡ y) F (λ _ a. o ≡ becomes a) i) IsTree Next xs
   become_reads F IsPart IsTree First Next xs follows h p = record {
     read = λ i rest o known e f a.
@@ -30,20 +30,20 @@ module _ {I P T : Type 0} (w : Model I ℕ) (becomes : Outcome P → Outcome T) 
   }
 
 -- what is refused becomes what a refusal becomes
-pub become_refused : {I P T : Type 0} (w : Model I ℕ) (becomes : Outcome P → Outcome T) (F : I → Outcome P → Type 0) (xs : List ℕ) (i : I) (o : Outcome T) →
+pub become_refused : {I A P T : Type 0} (w : Model I A) (becomes : Outcome P → Outcome T) (F : I → Outcome P → Type 0) (xs : List A) (i : I) (o : Outcome T) →
     w.IsKnown i → w.elements i ≡ xs → ((i : I) (o : Outcome P) → w.IsKnown i → w.elements i ≡ xs → F i o → o ≡ Refuse) →
     OnPart (λ (x y : I). x ≡ y) F (λ _ a. o ≡ becomes a) i → o ≡ becomes Refuse
 become_refused w becomes F xs i o known e none a =
     a.fact ∙ ap becomes (none i a.outcome known e (subst (λ z. F z a.outcome) (sym a.at_is) a.answered))
 
-module _ {I P Q O E : Type 0} {w : Model I ℕ} (errs : Errors I E) {g : Grammar I P O E} {h : Grammar I Q O E} where
+module _ {I A P Q O E : Type 0} {w : Model I A} (errs : Errors I E) {g : Grammar I P O E} {h : Grammar I Q O E} where
   -- one of two
-  pub either_reads : {FirstForm SecondForm : O → List ℕ → Type 0} {FirstFails : O → Space → WriteError → Type 0} {First Second : List ℕ → Type 0} →
+  pub either_reads : {FirstForm SecondForm : O → List A → Type 0} {FirstFails : O → Space → WriteError → Type 0} {First Second : List A → Type 0} →
       Refuses w g SecondForm → Reads w g FirstForm First → Reads w h SecondForm Second →
       Reads w (either_of errs.joined errs.grows g h) (λ v. Either (FirstForm v) (FirstFails v) (SecondForm v)) (λ rest. First rest × Second rest)
   either_reads {FirstForm} {SecondForm} {FirstFails} {First} {Second} apart p q = record { reads = reads }
     where
-      Both : List ℕ → Type 0
+      Both : List A → Type 0
       Both rest = First rest × Second rest
 
       Next : Bool → I → Outcome (P ⊎ Q) → Type 0
@@ -52,12 +52,12 @@ module _ {I P Q O E : Type 0} {w : Model I ℕ} (errs : Errors I E) {g : Grammar
       IsTree : O → P ⊎ Q → Type 0
       IsTree v t = EitherOutput g.IsOutput h.IsOutput t v
 
-      refuses : (s : Bool) (v : O) (xs : List ℕ) → SecondForm v xs → (i : I) (rest : List ℕ) (o : Outcome (P ⊎ Q)) → w.IsKnown i → w.elements i ≡ xs ++ rest →
+      refuses : (s : Bool) (v : O) (xs : List A) → SecondForm v xs → (i : I) (rest : List A) (o : Outcome (P ⊎ Q)) → w.IsKnown i → w.elements i ≡ xs ++ rest →
           OnPart (λ (x y : I). x ≡ y) (g.meaning.answers s) (λ _ a. o ≡ labelled inl a) i → o ≡ Refuse
       refuses s v xs f i rest o known e a = become_refused w (labelled inl) (g.meaning.answers s) (xs ++ rest) i o known e
           (λ i o known e a. apart.refuses xs rest (v, f) s i o known e a) a
 
-      reads : (v : O) (xs : List ℕ) → Either (FirstForm v) (FirstFails v) (SecondForm v) xs → (s : Bool) →
+      reads : (v : O) (xs : List A) → Either (FirstForm v) (FirstFails v) (SecondForm v) xs → (s : Bool) →
           ReadsBefore w ((either_of errs.joined errs.grows g h).meaning.answers s) (IsTree v) Both xs
       reads v xs (inl f) s =
           let r = become_reads w (labelled inl) inl (λ n u. refl) (g.meaning.answers s) (λ u. g.IsOutput u v) (IsTree v) First Both xs (λ rest k. k.0)
@@ -79,21 +79,22 @@ module _ {I P Q O E : Type 0} {w : Model I ℕ} (errs : Errors I E) {g : Grammar
           }
 
 -- a first that can't write a value and a second that can't are a choice that can't
-either_grouped : (A B C : List ℕ → Type 0) (AFails BFails : Space → WriteError → Type 0) (xs : List ℕ) → Either A AFails (Either B BFails C) xs →
-    Either (Either A AFails B) (EitherFails AFails BFails) C xs
+either_grouped : {T : Type 0} (A B C : List T → Type 0) (AFails BFails : Space → WriteError → Type 0) (xs : List T) →
+    Either A AFails (Either B BFails C) xs → Either (Either A AFails B) (EitherFails AFails BFails) C xs
 either_grouped A B C AFails BFails xs (inl a) = inl (inl a)
 either_grouped A B C AFails BFails xs (inr (u, inl b)) = inl (inr (u, b))
 either_grouped A B C AFails BFails xs (inr (u, inr (v, c))) = inr ((v.0, v.1, inr (u, v.2), v.3), c)
 
-pub either_regrouped : {I V O E : Type 0} {w : Model I ℕ} {g : Grammar I V O E} {A B C : O → List ℕ → Type 0} {AFails BFails : O → Space → WriteError → Type 0}
-    {Follow : List ℕ → Type 0} → Reads w g (λ v. Either (Either (A v) (AFails v) (B v)) (EitherFails (AFails v) (BFails v)) (C v)) Follow →
+pub either_regrouped : {I T V O E : Type 0} {w : Model I T} {g : Grammar I V O E} {A B C : O → List T → Type 0}
+    {AFails BFails : O → Space → WriteError → Type 0} {Follow : List T → Type 0} →
+    Reads w g (λ v. Either (Either (A v) (AFails v) (B v)) (EitherFails (AFails v) (BFails v)) (C v)) Follow →
     Reads w g (λ v. Either (A v) (AFails v) (Either (B v) (BFails v) (C v))) Follow
 either_regrouped {A = A} {B} {C} {AFails} {BFails} p = record {
   reads = λ v xs f. p.reads v xs (either_grouped (A v) (B v) (C v) (AFails v) (BFails v) xs f);
 }
 
 -- what both refuse their choice refuses
-pub either_apart : {I P Q E : Type 0} {w : Model I ℕ} (errs : Errors I E) {m : Meaning I P E} {n : Meaning I Q E} {Kind : List ℕ → Type 0} →
+pub either_apart : {I A P Q E : Type 0} {w : Model I A} (errs : Errors I E) {m : Meaning I P E} {n : Meaning I Q E} {Kind : List A → Type 0} →
     Apart w m Kind → Apart w n Kind → Apart w (either_meaning errs.joined errs.grows m n) Kind
 either_apart {I} {w = w} errs {m} {n} a b = record {
   refuses = λ xs rest t s i o known e r.
@@ -102,7 +103,7 @@ either_apart {I} {w = w} errs {m} {n} a b = record {
       (subst (λ z. GoesOnRefused (λ o. OnPart (λ (x y : I). x ≡ y) (n.answers s) (λ _ a. o ≡ labelled inr a) i) z o) first r.goes_on);
 }
 
-module _ {I V O E : Type 0} {w : Model I ℕ} {g : Grammar I V O E} {Form : O → List ℕ → Type 0} {Follow : List ℕ → Type 0} where
+module _ {I A V O E : Type 0} {w : Model I A} {g : Grammar I V O E} {Form : O → List A → Type 0} {Follow : List A → Type 0} where
   -- a choice whose error is closed
   pub alt_reads : (errs : Errors I E) → Reads w g Form Follow → Reads w (alt_of errs g) Form Follow
   alt_reads errs p = record {
@@ -126,10 +127,10 @@ module _ {I V O E : Type 0} {w : Model I ℕ} {g : Grammar I V O E} {Form : O �
   pub opt_reads : Reads w g Form Follow → Reads w (opt_of g) (OptForm Form) (λ rest. Follow rest × NoItem w g.meaning rest)
   opt_reads p = record { reads = reads }
     where
-      Both : List ℕ → Type 0
+      Both : List A → Type 0
       Both rest = Follow rest × NoItem w g.meaning rest
 
-      reads : (v : Option O) (xs : List ℕ) → OptForm Form v xs → (s : Bool) → ReadsBefore w ((opt_of g).meaning.answers s)
+      reads : (v : Option O) (xs : List A) → OptForm Form v xs → (s : Bool) → ReadsBefore w ((opt_of g).meaning.answers s)
           (λ t. OptOutput g.IsOutput t v) Both xs
       reads (Some v) xs f s = become_reads w opt_outcome Some (λ n u. refl) (g.meaning.answers s) (λ u. g.IsOutput u v)
           (λ t. OptOutput g.IsOutput t (Some v)) Follow Both xs (λ rest k. k.0) (λ u k. (v, refl, k)) (p.reads v xs f s)
@@ -153,20 +154,20 @@ module _ {I V O E : Type 0} {w : Model I ℕ} {g : Grammar I V O E} {Form : O �
   }
 
 -- a part on a condition
-pub cond_reads : {F I S V O E : Type 0} (w : Model I ℕ) (state : F → S) (g : S → Grammar I V O E) (Form : F → O → List ℕ → Type 0)
-    (Follow : F → List ℕ → Type 0) (Can : F → Type 0) → ((f : F) → (g (state f)).meaning.IsSound → Can f → Reads w (g (state f)) (Form f) (Follow f)) →
+pub cond_reads : {F I A S V O E : Type 0} (w : Model I A) (state : F → S) (g : S → Grammar I V O E) (Form : F → O → List A → Type 0)
+    (Follow : F → List A → Type 0) (Can : F → Type 0) → ((f : F) → (g (state f)).meaning.IsSound → Can f → Reads w (g (state f)) (Form f) (Follow f)) →
     (part : Option F) → (cond_of g (state_of state part)).meaning.IsSound → OfPart Can part →
     Reads w (cond_of g (state_of state part)) (CondForm Form part) (λ rest. OfPart (λ f. Follow f rest) part)
-cond_reads {O = O} w state g Form Follow Can p (Some f) k c = record { reads = reads }
+cond_reads {A = A} {O = O} w state g Form Follow Can p (Some f) k c = record { reads = reads }
   where
-    reads : (v : Option O) (xs : List ℕ) → CondForm Form (Some f) v xs → (s : Bool) →
+    reads : (v : Option O) (xs : List A) → CondForm Form (Some f) v xs → (s : Bool) →
         ReadsBefore w ((cond_of g (Some (state f))).meaning.answers s) (λ t. OptOutput (g (state f)).IsOutput t v) (Follow f) xs
     reads (Some v) xs h s = become_reads w (labelled Some) Some (λ n u. refl) ((g (state f)).meaning.answers s) (λ u. (g (state f)).IsOutput u v)
         (λ t. OptOutput (g (state f)).IsOutput t (Some v)) (Follow f) (Follow f) xs (λ rest k. k) (λ u k. (v, refl, k)) ((p f k c).reads v xs h s)
     reads None xs h s = absurd h
-cond_reads {O = O} {E} w state g Form Follow Can p None k c = record { reads = reads }
+cond_reads {A = A} {O = O} {E} w state g Form Follow Can p None k c = record { reads = reads }
   where
-    reads : (v : Option O) (xs : List ℕ) → CondForm Form None v xs → (s : Bool) →
+    reads : (v : Option O) (xs : List A) → CondForm Form None v xs → (s : Bool) →
         ReadsBefore w ((cond_of g None).meaning.answers s) (λ t. v ≡ None) Anything xs
     reads (Some v) xs h s = absurd h
     reads None xs h s = as_whole w h (success_reads E w None s (λ t. ◌≡◌ {A = Option O} None None) Anything refl)

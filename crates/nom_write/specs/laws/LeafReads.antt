@@ -102,7 +102,7 @@ module _ {I E : Type 0} (w : Model I ℕ) (errs : Errors I E) where
   }
 
 -- a piece of that many items
-pub take_value_reads : {I E : Type 0} (w : Model I ℕ) (errs : Errors I E) (lack : ℕ → List ℕ → Option ℕ) (count : ℕ) → ((m n : w.Mark) → m ≡ n) →
+pub take_value_reads : {I A E : Type 0} (w : Model I A) (errs : Errors I E) (lack : ℕ → List A → Option ℕ) (count : ℕ) → ((m n : w.Mark) → m ≡ n) →
     Reads w (sliced w (take_meaning w errs lack count)) (λ v xs. (length xs ≡ count) × Holds w v xs) Anything
 take_value_reads w errs lack count one_mark = record {
   reads = λ v xs f s. take_reads w s xs (λ t. IsModelledBy w t v) (λ t e. record {

@@ -20,21 +20,21 @@ use Rattle.nom_write.specs.laws.ListReads.{exact_reads}
 use Rattle.nom_write.specs.laws.SequenceReads.{as_whole, then_reads}
 
 -- what is meant by the one value that a tree stands for
-of_value_reads : {I A V Q : Type 0} (w : Model I A) (IsValue : V → Type 0) (N : V → I → Outcome Q → Type 0) (n : V) →
+pub of_value_reads : {I A V Q : Type 0} (w : Model I A) (IsValue : V → Type 0) (N : V → I → Outcome Q → Type 0) (n : V) →
     ((k : V) → IsValue k → k ≡ n) → (IsTree : Q → Type 0) (Follow : List A → Type 0) (xs : List A) → ReadsBefore w (N n) IsTree Follow xs →
     ReadsBefore w (λ i o. OfValue IsValue (λ v. N v i o)) IsTree Follow xs
 of_value_reads w IsValue N n one IsTree Follow xs p = record {
   read = λ i rest o known e f a. p.read i rest o known e f (subst (λ z. N z i o) (one a.value a.is_value) a.fact);
 }
 
-module _ {I P O E : Type 0} {w : Model I ℕ} (l : InputLaws w) (errs : Errors I E) (size : O → ℕ) {g : Grammar I P O E} (one : IsOne (HasSize g.IsOutput size))
-    {Form : O → List ℕ → Type 0} {Follow : List ℕ → Type 0} (all : (rest : List ℕ) → Follow rest) (p : Reads w g Form Follow) where
+module _ {I A P O E : Type 0} {w : Model I A} (l : InputLaws w) (errs : Errors I E) (size : O → ℕ) {g : Grammar I P O E} (one : IsOne (HasSize g.IsOutput size))
+    {Form : O → List A → Type 0} {Follow : List A → Type 0} (all : (rest : List A) → Follow rest) (p : Reads w g Form Follow) where
   -- a length, and as many items
-  pub length_data_reads : (lack : ℕ → List ℕ → Option ℕ) → ((m n : w.Mark) → m ≡ n) →
+  pub length_data_reads : (lack : ℕ → List A → Option ℕ) → ((m n : w.Mark) → m ≡ n) →
       Reads w (length_data_of w errs lack size g) (λ v. Both (FormOfSize size Form (length (w.elements v))) (Holds w v)) Anything
   length_data_reads lack one_mark = record { reads = reads }
     where
-      reads : (v : I) (xs : List ℕ) → Both (FormOfSize size Form (length (w.elements v))) (Holds w v) xs → (s : Bool) →
+      reads : (v : I) (xs : List A) → Both (FormOfSize size Form (length (w.elements v))) (Holds w v) xs → (s : Bool) →
           ReadsBefore w ((length_data_of w errs lack size g).meaning.answers s) (λ t. IsModelledBy w t.1 v) Anything xs
       reads v xs f s =
           let n = f.first.0 in
@@ -52,12 +52,12 @@ module _ {I P O E : Type 0} {w : Model I ℕ} (l : InputLaws w) (errs : Errors I
           }) lack (size n) count)))
 
   -- a number, and as many items of another grammar
-  pub length_count_reads : {U X M : Type 0} {h : Grammar I U X E} {NextForm : X → List ℕ → Type 0} {NextFollow : List ℕ → Type 0} →
-      ((rest : List ℕ) → NextFollow rest) → Reads w h NextForm NextFollow →
+  pub length_count_reads : {U X M : Type 0} {h : Grammar I U X E} {NextForm : X → List A → Type 0} {NextFollow : List A → Type 0} →
+      ((rest : List A) → NextFollow rest) → Reads w h NextForm NextFollow →
       Reads w (length_count_of {M = M} w errs size g h) (λ v. Both (FormOfSize size Form (length v.items)) (Each (ItemForm false NextForm) v.items)) Anything
   length_count_reads {U} {X} {M} {h} {NextForm} {NextFollow} next_all q = record { reads = reads }
     where
-      reads : (v : Vec X M) (xs : List ℕ) → Both (FormOfSize size Form (length v.items)) (Each (ItemForm false NextForm) v.items) xs → (s : Bool) →
+      reads : (v : Vec X M) (xs : List A) → Both (FormOfSize size Form (length v.items)) (Each (ItemForm false NextForm) v.items) xs → (s : Bool) →
           ReadsBefore w ((length_count_of {M = M} w errs size g h).meaning.answers s) (λ ts. AllZip h.IsOutput ts v.items) Anything xs
       reads v xs f s =
           let n = f.first.0 in
@@ -71,13 +71,13 @@ module _ {I P O E : Type 0} {w : Model I ℕ} (l : InputLaws w) (errs : Errors I
           (exact_reads w l errs h NextForm NextFollow next_all q s v.items ys f.second)))
 
   -- a length, and a part in a window of that length
-  module _ {U X : Type 0} {h : Grammar I U X E} {PartForm : X → List ℕ → Type 0} {PartFollow : List ℕ → Type 0} (units : (b : ℕ) → w.item_len b ≡ 1)
+  module _ {U X : Type 0} {h : Grammar I U X E} {PartForm : X → List A → Type 0} {PartFollow : List A → Type 0} (units : (x : A) → w.item_len x ≡ 1)
       (ends : PartFollow []) (q : Reads w h PartForm PartFollow) where
-    unit_len : (xs : List ℕ) → items_len w.item_len xs ≡ length xs
+    unit_len : (xs : List A) → items_len w.item_len xs ≡ length xs
     unit_len [] = refl
     unit_len (x ∷ xs) = omega (arith, units x, unit_len xs)
 
-    window_read : (n : ℕ) (ys rest : List ℕ) (i : I) → w.elements i ≡ ys ++ rest → items_len w.item_len ys ≡ n → (a : Outcome (Slice w)) →
+    window_read : (n : ℕ) (ys rest : List A) (i : I) → w.elements i ≡ ys ++ rest → items_len w.item_len ys ≡ n → (a : Outcome (Slice w)) →
         LeafAnswers (cuts w n) true i a → (t : Slice w) × (a ≡ Accept n t) × (t.items ≡ ys)
     window_read n ys rest i e c (Accept m t) k = (
       t,
@@ -89,7 +89,7 @@ module _ {I P O E : Type 0} {w : Model I ℕ} (l : InputLaws w) (errs : Errors I
     window_read n ys rest i e c (Stop (Needs m)) k =
         absurd (omega (arith, k.1.0, ap (λ z. items_len w.item_len z) e, items_len-append w.item_len ys rest, c))
 
-    window_reads : (n : ℕ) (ys : List ℕ) (s : Bool) → items_len w.item_len ys ≡ n →
+    window_reads : (n : ℕ) (ys : List A) (s : Bool) → items_len w.item_len ys ≡ n →
         ReadsBefore w ((window_meaning w errs n).answers s) (λ t. t.items ≡ ys) Anything ys
     window_reads n ys s c = record {
       read = λ i rest o known e k a.
@@ -98,7 +98,7 @@ module _ {I P O E : Type 0} {w : Model I ℕ} (l : InputLaws w) (errs : Errors I
     }
 
     -- the part, whatever the rest of the whole
-    bound_reads : (s : Bool) (v : X) (ys : List ℕ) → PartForm v ys → (t : Slice w) → t.items ≡ ys →
+    bound_reads : (s : Bool) (v : X) (ys : List A) → PartForm v ys → (t : Slice w) → t.items ≡ ys →
         ReadsBefore w (((bounded_family {I = I} w (IsModelledBy w) (settled_meaning errs h.meaning)).at t).answers s) (λ u. h.IsOutput u v) Anything []
     bound_reads s v ys f t t_is = record {
       read = λ i rest o known e k a.
@@ -110,7 +110,7 @@ module _ {I P O E : Type 0} {w : Model I ℕ} (l : InputLaws w) (errs : Errors I
     pub length_value_reads : Reads w (length_value_of w errs size g h) (λ v. AfterLength (FormOfSize size Form) (PartForm v)) Anything
     length_value_reads = record { reads = reads }
       where
-        reads : (v : X) (xs : List ℕ) → AfterLength (FormOfSize size Form) (PartForm v) xs → (s : Bool) →
+        reads : (v : X) (xs : List A) → AfterLength (FormOfSize size Form) (PartForm v) xs → (s : Bool) →
             ReadsBefore w ((length_value_of w errs size g h).meaning.answers s) (λ u. h.IsOutput u v) Anything xs
         reads v xs f s =
             let n = f.size.0 in

@@ -19,18 +19,20 @@ use Rattle.nom_write.specs.laws.SequenceReads.{follows}
 
 -- Items of a grammar within limits. Of as many values as `total` says each form is an item that is taken, and after them the items end,
 -- where what follows is of a kind.
-module _ {I V O E : Type 0} (w : Model I ℕ) (l : InputLaws w) (g : Grammar I V O E) (limits : Limits) (Form : O → List ℕ → Type 0) (Follow : List ℕ → Type 0)
-    (After : List ℕ → Type 0) (total : ℕ) (meets : (vs : List O) (xs rest : List ℕ) → length vs < total → Each Form vs xs → After rest → Follow (xs ++ rest)) (reads : Reads w g Form Follow)
+module _ {I A V O E : Type 0} (w : Model I A) (l : InputLaws w) (g : Grammar I V O E) (limits : Limits) (Form : O → List A → Type 0) (Follow : List A → Type 0)
+    (After : List A → Type 0) (total : ℕ)
+    (meets : (vs : List O) (xs rest : List A) → length vs < total → Each Form vs xs → After rest → Follow (xs ++ rest))
+    (reads : Reads w g Form Follow)
     (s : Bool)
     (runs : (k : ℕ) (i : I) → k < total → Replies limits.most (λ k. g.meaning.answers s) k i None → ⊥)
-    (takes : (k : ℕ) (v : O) (xs : List ℕ) (t : V) → Form v xs → item_turn limits k (Some (Accept (items_len w.item_len xs) t)) ≡ Takes
+    (takes : (k : ℕ) (v : O) (xs : List A) (t : V) → Form v xs → item_turn limits k (Some (Accept (items_len w.item_len xs) t)) ≡ Takes
     (items_len w.item_len xs) t)
-    (ends : (i : I) (rest : List ℕ) (turn : Turn V (Unit {0})) → w.IsKnown i → w.elements i ≡ rest → After rest →
+    (ends : (i : I) (rest : List A) (turn : Turn V (Unit {0})) → w.IsKnown i → w.elements i ≡ rest → After rest →
     TurnsBy limits.most (item_turn limits) (λ k. g.meaning.answers s) total i turn → turn ≡ Ends (Accept 0 tt)) where
   abbrev Turns : ℕ → I → Turn V (Unit {0}) → Type 0
   Turns = TurnsBy limits.most (item_turn limits) (λ k. g.meaning.answers s)
 
-  item_taken : (v : O) (front rest : List ℕ) (k : ℕ) (i : I) (turn : Turn V (Unit {0})) → w.IsKnown i → w.elements i ≡ front ++ rest → Follow rest →
+  item_taken : (v : O) (front rest : List A) (k : ℕ) (i : I) (turn : Turn V (Unit {0})) → w.IsKnown i → w.elements i ≡ front ++ rest → Follow rest →
       Form v front → k < total → Turns k i turn → (t : V) × (turn ≡ Takes (items_len w.item_len front) t) × g.IsOutput t v
   item_taken v front rest k i turn known e next p below r = of_reply r.reply r.replied r.fact
     where
@@ -41,7 +43,7 @@ module _ {I V O E : Type 0} (w : Model I ℕ) (l : InputLaws w) (g : Grammar I V
           let q = (reads.reads v front p s).read i rest o known e next h.1 in
           (q.0, f ∙ (ap (λ z. item_turn limits k (Some z)) q.1 ∙ takes k v front q.0 p), q.2)
 
-  items_read : (vs : List O) (xs rest : List ℕ) (k : ℕ) (i : I) (ts : List V) (taken : ℕ) (ending : Outcome (Unit {0})) → w.IsKnown i →
+  items_read : (vs : List O) (xs rest : List A) (k : ℕ) (i : I) (ts : List V) (taken : ℕ) (ending : Outcome (Unit {0})) → w.IsKnown i →
       w.elements i ≡ xs ++ rest → Each Form vs xs → After rest → k + length vs ≡ total → Pieces w Turns (λ k j. Turns k j (Ends ending)) k i ts taken →
       (taken ≡ items_len w.item_len xs) × AllZip g.IsOutput ts vs × (ending ≡ Accept 0 tt)
   items_read [] xs rest k i [] taken ending known e h after c p =
@@ -56,11 +58,13 @@ module _ {I V O E : Type 0} (w : Model I ℕ) (l : InputLaws w) (g : Grammar I V
       absurd (cc (end))
   items_read (v ∷ vs) xs rest k i [] taken ending known e h after c p =
       let first = e ∙ (ap (λ zs. zs ++ rest) h.whole ∙ append_assoc h.front h.back rest) in
-      let q = item_taken v h.front (h.back ++ rest) k i (Ends ending) known first (meets vs h.back rest (omega (arith, c)) h.second after) h.first (omega (arith, c)) p.1 in
+      let q = item_taken v h.front (h.back ++ rest) k i (Ends ending) known first
+      (meets vs h.back rest (omega (arith, c)) h.second after) h.first (omega (arith, c)) p.1 in
       absurd (cc (q.1))
   items_read (v ∷ vs) xs rest k i (t ∷ ts) taken ending known e h after c p =
       let first = e ∙ (ap (λ zs. zs ++ rest) h.whole ∙ append_assoc h.front h.back rest) in
-      let q = item_taken v h.front (h.back ++ rest) k i (Takes p.0 t) known first (meets vs h.back rest (omega (arith, c)) h.second after) h.first (omega (arith, c)) p.3 in
+      let q = item_taken v h.front (h.back ++ rest) k i (Takes p.0 t) known first
+      (meets vs h.back rest (omega (arith, c)) h.second after) h.first (omega (arith, c)) p.3 in
       let turn : ◌≡◌ {A = Turn V (Unit {0})} (Takes p.0 t) (Takes (items_len w.item_len h.front) q.0) = q.1 in
       let size : p.0 ≡ items_len w.item_len h.front = cc (turn) in
       let tree : t ≡ q.0 = cc (turn) in
@@ -73,7 +77,7 @@ module _ {I V O E : Type 0} (w : Model I ℕ) (l : InputLaws w) (g : Grammar I V
         r.2,
       )
 
-  pub list_read : (errs : Errors I E) (vs : List O) (xs : List ℕ) → length vs ≡ total → Each Form vs xs →
+  pub list_read : (errs : Errors I E) (vs : List O) (xs : List A) → length vs ≡ total → Each Form vs xs →
       ReadsBefore w ((items_meaning w errs limits (Unit {0}) g.meaning).answers s) (λ ts. AllZip g.IsOutput ts vs) After xs
   list_read errs vs xs count h = record {
     read = λ i rest o known e f a.
@@ -93,26 +97,26 @@ some_taken kind k zero t h = absurd (omega (arith, h))
 some_taken kind k (suc a) t h = refl
 
 -- items that are there have a length
-pub some_len : {I : Type 0} (w : Model I ℕ) → InputLaws w → (xs : List ℕ) → 0 < length xs → 0 < items_len w.item_len xs
+pub some_len : {I A : Type 0} (w : Model I A) → InputLaws w → (xs : List A) → 0 < length xs → 0 < items_len w.item_len xs
 some_len w l [] h = absurd (omega (arith, h))
 some_len w l (x ∷ xs) h = omega (arith, l.positive x)
 
 -- forms of items that are of a kind
-pub item_reads : {I V O E : Type 0} (w : Model I ℕ) (g : Grammar I V O E) (some : Bool) (Form : O → List ℕ → Type 0) (Follow : List ℕ → Type 0) →
+pub item_reads : {I A V O E : Type 0} (w : Model I A) (g : Grammar I V O E) (some : Bool) (Form : O → List A → Type 0) (Follow : List A → Type 0) →
     Reads w g Form Follow →
     Reads w g (ItemForm some Form) Follow
 item_reads w g some Form Follow p = record { reads = λ v xs f. p.reads v xs f.0 }
 
-module _ {I V O E : Type 0} (w : Model I ℕ) (l : InputLaws w) (errs : Errors I E) (g : Grammar I V O E) (Form : O → List ℕ → Type 0) (Follow : List ℕ → Type 0)
-    (all : (rest : List ℕ) → Follow rest) (p : Reads w g Form Follow) (s : Bool) where
+module _ {I A V O E : Type 0} (w : Model I A) (l : InputLaws w) (errs : Errors I E) (g : Grammar I V O E) (Form : O → List A → Type 0)
+    (Follow : List A → Type 0) (all : (rest : List A) → Follow rest) (p : Reads w g Form Follow) (s : Bool) where
   -- just as many items as there are values
-  pub exact_reads : (vs : List O) (xs : List ℕ) → Each (ItemForm false Form) vs xs →
+  pub exact_reads : (vs : List O) (xs : List A) → Each (ItemForm false Form) vs xs →
       ReadsBefore w ((items_meaning w errs (exact_limits (length vs)) (Unit {0}) g.meaning).answers s) (λ ts. AllZip g.IsOutput ts vs) Anything xs
   exact_reads vs xs h = list_read w l g (exact_limits (length vs)) (ItemForm false Form) Follow Anything (length vs) (λ us xs rest b h k. all (xs ++ rest))
       (item_reads w g false Form Follow p) s
       (λ k i below none. none below) (λ k v xs t f. exactly_taken (length vs) k (items_len w.item_len xs) t) ends errs vs xs refl h
     where
-      ends : (i : I) (rest : List ℕ) (turn : Turn V (Unit {0})) → w.IsKnown i → w.elements i ≡ rest → Anything rest →
+      ends : (i : I) (rest : List A) (turn : Turn V (Unit {0})) → w.IsKnown i → w.elements i ≡ rest → Anything rest →
           TurnsBy (Some (length vs)) (item_turn (exact_limits (length vs))) (λ k. g.meaning.answers s) (length vs) i turn → turn ≡ Ends (Accept 0 tt)
       ends i rest turn known e f r = of_reply r.reply r.replied r.fact
         where
@@ -122,13 +126,13 @@ module _ {I V O E : Type 0} (w : Model I ℕ) (l : InputLaws w) (errs : Errors I
           of_reply (Some o) h f = absurd (omega (arith, h.0))
 
   -- any number of items that aren't empty, before what begins with none
-  any_items_reads : (kind : ErrorKind) (vs : List O) (xs : List ℕ) → Each (ItemForm true Form) vs xs →
+  any_items_reads : (kind : ErrorKind) (vs : List O) (xs : List A) → Each (ItemForm true Form) vs xs →
       ReadsBefore w ((items_meaning w errs (any_limits kind) (Unit {0}) g.meaning).answers s) (λ ts. AllZip g.IsOutput ts vs) (NoItem w g.meaning) xs
-  any_items_reads kind vs xs h = list_read w l g (any_limits kind) (ItemForm true Form) Follow (NoItem w g.meaning) (length vs) (λ us xs rest b h k. all (xs ++ rest))
-      (item_reads w g true Form Follow p) s
+  any_items_reads kind vs xs h = list_read w l g (any_limits kind) (ItemForm true Form) Follow (NoItem w g.meaning) (length vs)
+      (λ us xs rest b h k. all (xs ++ rest)) (item_reads w g true Form Follow p) s
       (λ k i below none. none tt) (λ k v xs t f. some_taken kind k (items_len w.item_len xs) t (some_len w l xs (f.1 refl))) ends errs vs xs refl h
     where
-      ends : (i : I) (rest : List ℕ) (turn : Turn V (Unit {0})) → w.IsKnown i → w.elements i ≡ rest → NoItem w g.meaning rest →
+      ends : (i : I) (rest : List A) (turn : Turn V (Unit {0})) → w.IsKnown i → w.elements i ≡ rest → NoItem w g.meaning rest →
           TurnsBy None (item_turn (any_limits kind)) (λ k. g.meaning.answers s) (length vs) i turn → turn ≡ Ends (Accept 0 tt)
       ends i rest turn known e none r = of_reply r.reply r.replied r.fact
         where
@@ -138,8 +142,8 @@ module _ {I V O E : Type 0} (w : Model I ℕ) (l : InputLaws w) (errs : Errors I
           of_reply (Some o) h f = f ∙ (ap (λ z. item_turn (any_limits kind) (length vs) (Some z)) (none s i o known e h.1) ∙
               ap (λ b. refused_turn {V = V} b) (le-ltb (length vs) 0 (omega arith)))
 
-module _ {I V O E : Type 0} {w : Model I ℕ} (l : InputLaws w) (errs : Errors I E) {g : Grammar I V O E} {Form : O → List ℕ → Type 0} {Follow : List ℕ → Type 0}
-    (all : (rest : List ℕ) → Follow rest) (p : Reads w g Form Follow) where
+module _ {I A V O E : Type 0} {w : Model I A} (l : InputLaws w) (errs : Errors I E) {g : Grammar I V O E} {Form : O → List A → Type 0}
+    {Follow : List A → Type 0} (all : (rest : List A) → Follow rest) (p : Reads w g Form Follow) where
   -- just that many items
   pub count_reads : {M : Type 0} (count : ℕ) → Reads w (count_of {M = M} w errs count g)
       (λ v xs. (length v.items ≡ count) × Each (ItemForm false Form) v.items xs) Anything

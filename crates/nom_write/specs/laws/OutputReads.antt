@@ -7,9 +7,10 @@ use Rattle.nom_write.specs.Leads.{Leads, RefusesOthers, lead_of}
 use Rattle.nom_write.specs.Reads.{Anything, Reads, ReadsSome}
 use Rattle.nom_write.specs.laws.LeadLaws.{case_refuses, fixed_leads}
 
-module _ {I V O R E : Type 0} {w : Model I ℕ} (g : Grammar I V O E) (value : R) (IsSure : Type 0) (IsClone : R → Type 0) (bytes : List ℕ) where
-  -- bytes that stand for a value
-  pub value_reads : ReadsSome w g bytes → Reads w (value_by value IsSure IsClone g) (λ v xs. IsClone v × (xs ≡ bytes)) Anything
+module _ {I A V O R E : Type 0} {w : Model I A} (g : Grammar I V O E) (value : R) (IsSure : Type 0) (IsClone : R → Type 0)
+    (items : List A) where
+  -- items that stand for a value
+  pub value_reads : ReadsSome w g items → Reads w (value_by value IsSure IsClone g) (λ v xs. IsClone v × (xs ≡ items)) Anything
   value_reads p = record {
     reads = λ v xs f s. record {
       read = λ i rest o known e k a.
@@ -22,17 +23,18 @@ module _ {I V O R E : Type 0} {w : Model I ℕ} (g : Grammar I V O E) (value : R
     };
   }
 
-  pub value_leads : RefusesOthers w g.meaning (lead_of bytes) → Leads w (value_by value IsSure IsClone g) (λ v xs. IsClone v × (xs ≡ bytes)) (lead_of bytes)
-  value_leads p = fixed_leads bytes (λ v xs f. f.1) (case_refuses w g.meaning _ (lead_of bytes) (λ s i o a. (
+  pub value_leads : (code : A → ℕ) → RefusesOthers w code g.meaning (lead_of code items) →
+      Leads w code (value_by value IsSure IsClone g) (λ v xs. IsClone v × (xs ≡ items)) (lead_of code items)
+  value_leads code p = fixed_leads code items (λ v xs f. f.1) (case_refuses w code g.meaning _ (lead_of code items) (λ s i o a. (
     a.outcome,
     subst (λ z. g.meaning.answers s z a.outcome) (sym a.at_is) a.answered,
     λ e. subst (λ z. Passes (GivesValue value) z o) e a.fact,
   )) p)
 
-module _ {I V O E : Type 0} {w : Model I ℕ} (errs : Errors I E) {g : Grammar I V O E} (Takes : O → Type 0) (Says : O → Bool → Type 0)
-    {Form : O → List ℕ → Type 0} where
+module _ {I A V O E : Type 0} {w : Model I A} (errs : Errors I E) {g : Grammar I V O E} (Takes : O → Type 0) (Says : O → Bool → Type 0)
+    {Form : O → List A → Type 0} where
   -- a form of a value that passes the test
-  pub verify_reads : IsJudge g.IsOutput Says (λ b. b) → {Follow : List ℕ → Type 0} → Reads w g Form Follow →
+  pub verify_reads : IsJudge g.IsOutput Says (λ b. b) → {Follow : List A → Type 0} → Reads w g Form Follow →
       Reads w (verify_by errs Takes Says g) (λ v xs. Says v true × Form v xs) Follow
   verify_reads judge {Follow} p = record {
     reads = λ v xs f s. record {
@@ -44,10 +46,11 @@ module _ {I V O E : Type 0} {w : Model I ℕ} (errs : Errors I E) {g : Grammar I
     };
   }
 
-  pub verify_leads : {lead : Option (List ℕ)} → Leads w g Form lead → Leads w (verify_by errs Takes Says g) (λ v xs. Says v true × Form v xs) lead
-  verify_leads {lead} p = record {
+  pub verify_leads : {code : A → ℕ} {lead : Option (List ℕ)} → Leads w code g Form lead →
+      Leads w code (verify_by errs Takes Says g) (λ v xs. Says v true × Form v xs) lead
+  verify_leads {code} {lead} p = record {
     begins = λ bs e v xs f. p.begins bs e v xs f.1;
-    others = case_refuses w g.meaning _ lead (λ s i o a. (
+    others = case_refuses w code g.meaning _ lead (λ s i o a. (
       a.outcome,
       subst (λ z. g.meaning.answers s z a.outcome) (sym a.at_is) a.answered,
       λ e. subst (λ z. Passes (Judged (GivesFor g.IsOutput Says) (λ b. b)) z o) e a.fact,

@@ -25,7 +25,7 @@ abbrev pub AllIn : {I T E : Type 0} → List (Member I T E) → T → Type 0
 AllIn [] t = Unit {0}
 AllIn (m ∷ ms) t = ((v : m.Tree) × (m.tree t ≡ Some v)) × AllIn ms t
 
-module _ {I T E : Type 0} (w : Model I ℕ) (s : Bool) (Fact : T → Type 0) (Follow : List ℕ → Type 0) (xs : List ℕ) where
+module _ {I A T E : Type 0} (w : Model I A) (s : Bool) (Fact : T → Type 0) (Follow : List A → Type 0) (xs : List A) where
   -- of the members the first k are applied, and the next one reads the items
   abbrev pub Turn : ℕ → List (Member I T E) → T → Type 0
   Turn k [] t = ⊥
@@ -74,18 +74,18 @@ module _ {I T E : Type 0} (w : Model I ℕ) (s : Bool) (Fact : T → Type 0) (Fo
   round_read Closes Grows t NoChoice h = absurd h
   round_read Closes Grows t (Among m) h = become_reads w (λ a. a) (λ u. u) (λ n u. refl) (m.answers s) Fact Fact Follow Follow xs (λ rest k. k) (λ u k. k) h
 
-turn_as : {I T E : Type 0} (w : Model I ℕ) (s : Bool) (Fact As : T → Type 0) (Follow : List ℕ → Type 0) (xs : List ℕ) → ((t : T) → Fact t → As t) →
+turn_as : {I A T E : Type 0} (w : Model I A) (s : Bool) (Fact As : T → Type 0) (Follow : List A → Type 0) (xs : List A) → ((t : T) → Fact t → As t) →
     (k : ℕ) (ms : List (Member I T E)) (t : T) → Turn w s Fact Follow xs k ms t → Turn w s As Follow xs k ms t
 turn_as w s Fact As Follow xs to k [] t h = absurd h
 turn_as w s Fact As Follow xs to zero (m ∷ ms) t h = (h.0, reads_as (λ v f. to (m.put t v) f) h.1)
 turn_as w s Fact As Follow xs to (suc k) (m ∷ ms) t h = (h.0, turn_as w s Fact As Follow xs to k ms t h.1)
 
-abbrev pub Rounds : {I T E : Type 0} → Model I ℕ → Errors I E → List (Member I T E) → Bool → ℕ → T → I → Outcome T → Type 0
+abbrev pub Rounds : {I A T E : Type 0} → Model I A → Errors I E → List (Member I T E) → Bool → ℕ → T → I → Outcome T → Type 0
 Rounds w errs ms s n t = (rounds_meaning w errs.joined (λ i. errs.appended i Kind.Permutation) errs.grows ms n t).answers s
 
 -- a round, which puts a tree in, and the others
-next_round : {I T E V : Type 0} {w : Model I ℕ} (l : InputLaws w) (errs : Errors I E) (ms : List (Member I T E)) (s : Bool) (n k : ℕ) (t : T) (put : V → T)
-    (IsPart : V → Type 0) (Final : T → Type 0) (First Next : List ℕ → Type 0) (front back : List ℕ) → ((rest : List ℕ) → Next rest → First (back ++ rest)) →
+next_round : {I A T E V : Type 0} {w : Model I A} (l : InputLaws w) (errs : Errors I E) (ms : List (Member I T E)) (s : Bool) (n k : ℕ) (t : T) (put : V → T)
+    (IsPart : V → Type 0) (Final : T → Type 0) (First Next : List A → Type 0) (front back : List A) → ((rest : List A) → Next rest → First (back ++ rest)) →
     Turn w s (λ u. (v : V) × (u ≡ put v) × IsPart v) First front k ms t →
     ((v : V) → IsPart v → ReadsBefore w (Rounds w errs ms s n (put v)) Final Next back) → ReadsBefore w (Rounds w errs ms s (suc n) t) Final Next (front ++
     back)
@@ -98,26 +98,26 @@ next_round {T = T} {V = V} {w = w} l errs ms s n k t put IsPart Final First Next
     (λ u h. subst (λ z. ReadsBefore w (Rounds w errs ms s n z) Final Next back) (sym h.1) (next h.0 h.2))
 
 -- some members are the first of all, whose trees are theirs and no others
-pub record Lifts {I T U E : Type 0} (w : Model I ℕ) (s : Bool) (ms : List (Member I T E)) (all : List (Member I U E)) (lift : T → U) : Type 1 where
-  pub lifts : (Fact : T → Type 0) (Follow : List ℕ → Type 0) (xs : List ℕ) (k : ℕ) (t : T) → Turn w s Fact Follow xs k ms t →
+pub record Lifts {I A T U E : Type 0} (w : Model I A) (s : Bool) (ms : List (Member I T E)) (all : List (Member I U E)) (lift : T → U) : Type 1 where
+  pub lifts : (Fact : T → Type 0) (Follow : List A → Type 0) (xs : List A) (k : ℕ) (t : T) → Turn w s Fact Follow xs k ms t →
       Turn w s (λ u. (v : T) × (u ≡ lift v) × Fact v) Follow xs k all (lift t)
 
 -- Members in their order read the forms of their values, and then other members what follows.
-pub record InOrder {I T O E : Type 0} (w : Model I ℕ) (errs : Errors I E) (ms : List (Member I T E)) (none : T) (AreOutputs : T → O → Type 0)
-    (Form : O → List ℕ → Type 0) (Follow : List ℕ → Type 0) : Type 1 where
-  pub reads : {U : Type 0} (all : List (Member I U E)) (lift : T → U) (s : Bool) → Lifts w s ms all lift → (v : O) (xs ys : List ℕ) (n total : ℕ) →
-      total ≡ length ms + n → (Final : U → Type 0) (Next : List ℕ → Type 0) → Form v xs → ((rest : List ℕ) → Next rest → Follow (ys ++ rest)) →
+pub record InOrder {I A T O E : Type 0} (w : Model I A) (errs : Errors I E) (ms : List (Member I T E)) (none : T) (AreOutputs : T → O → Type 0)
+    (Form : O → List A → Type 0) (Follow : List A → Type 0) : Type 1 where
+  pub reads : {U : Type 0} (all : List (Member I U E)) (lift : T → U) (s : Bool) → Lifts w s ms all lift → (v : O) (xs ys : List A) (n total : ℕ) →
+      total ≡ length ms + n → (Final : U → Type 0) (Next : List A → Type 0) → Form v xs → ((rest : List A) → Next rest → Follow (ys ++ rest)) →
       ((t : T) → AllIn ms t → AreOutputs t v → ReadsBefore w (Rounds w errs all s n (lift t)) Final Next ys) →
       ReadsBefore w (Rounds w errs all s total (lift none)) Final Next (xs ++ ys)
 
-module _ {I P E : Type 0} (w : Model I ℕ) (s : Bool) (m : Meaning I P E) where
-  turn_more : {T : Type 0} (Fact : T → Type 0) (Follow : List ℕ → Type 0) (xs : List ℕ) (k : ℕ) (ms : List (Member I T E)) (t : T) →
+module _ {I A P E : Type 0} (w : Model I A) (s : Bool) (m : Meaning I P E) where
+  turn_more : {T : Type 0} (Fact : T → Type 0) (Follow : List A → Type 0) (xs : List A) (k : ℕ) (ms : List (Member I T E)) (t : T) →
       Turn w s Fact Follow xs k ms t → Turn w s (λ p. (v : T) × (◌≡◌ {A = T × Option P} p (v, None)) × Fact v) Follow xs k (with_last ms m) (t, None)
   turn_more Fact Follow xs k [] t h = absurd h
   turn_more Fact Follow xs zero (x ∷ ms) t h = (h.0, reads_as (λ v f. (x.put t v, refl, f)) h.1)
   turn_more Fact Follow xs (suc k) (x ∷ ms) t h = (h.0, turn_more Fact Follow xs k ms t h.1)
 
-  turn_last : {T : Type 0} (Fact : T × Option P → Type 0) (Follow : List ℕ → Type 0) (xs : List ℕ) (ms : List (Member I T E)) (t : T) → AllIn ms t →
+  turn_last : {T : Type 0} (Fact : T × Option P → Type 0) (Follow : List A → Type 0) (xs : List A) (ms : List (Member I T E)) (t : T) → AllIn ms t →
       ReadsBefore w (m.answers s) (λ v. Fact (t, Some v)) Follow xs → Turn w s Fact Follow xs (length ms) (with_last ms m) (t, None)
   turn_last Fact Follow xs [] t a p = (refl, p)
   turn_last Fact Follow xs (x ∷ ms) t a p = (a.0, turn_last Fact Follow xs ms t a.1 p)
@@ -127,8 +127,8 @@ all_more m [] t v a = ((v, refl), tt)
 all_more m (x ∷ ms) t v a = (a.0, all_more m ms t v a.1)
 
 -- a lifted turn that puts in a tree of a member
-lifted_turn : {I T U E V : Type 0} (w : Model I ℕ) (s : Bool) {ms : List (Member I T E)} {all : List (Member I U E)} {lift : T → U}
-    (first : Lifts w s ms all lift) (put : V → T) (IsPart : V → Type 0) (Follow : List ℕ → Type 0) (xs : List ℕ) (k : ℕ) (t : T) →
+lifted_turn : {I A T U E V : Type 0} (w : Model I A) (s : Bool) {ms : List (Member I T E)} {all : List (Member I U E)} {lift : T → U}
+    (first : Lifts w s ms all lift) (put : V → T) (IsPart : V → Type 0) (Follow : List A → Type 0) (xs : List A) (k : ℕ) (t : T) →
     Turn w s (λ u. (v : V) × (u ≡ put v) × IsPart v) Follow xs k ms t → Turn w s (λ u. (v : V) × (u ≡ lift (put v)) × IsPart v) Follow xs k all (lift t)
 lifted_turn {T = T} {V = V} w s {all = all} {lift} first put IsPart Follow xs k t h =
     let Put : T → Type 0 = λ u. (v : V) × (u ≡ put v) × IsPart v in
@@ -136,7 +136,7 @@ lifted_turn {T = T} {V = V} w s {all = all} {lift} first put IsPart Follow xs k 
     (λ u a. (a.2.0, a.1 ∙ ap lift a.2.1, a.2.2)) k all (lift t) (first.lifts Put Follow xs k t h)
 
 -- the members before the last are the first of all, too
-others_lift : {I T U P E : Type 0} (w : Model I ℕ) (s : Bool) (m : Meaning I P E) {ms : List (Member I T E)} {all : List (Member I U E)}
+others_lift : {I A T U P E : Type 0} (w : Model I A) (s : Bool) (m : Meaning I P E) {ms : List (Member I T E)} {all : List (Member I U E)}
     {lift : T × Option P → U} →
     Lifts w s (with_last ms m) all lift → Lifts w s ms all (λ t. lift (t, None))
 others_lift {T = T} {P = P} w s m {ms} {all} {lift} first = record {
@@ -146,8 +146,8 @@ others_lift {T = T} {P = P} w s m {ms} {all} {lift} first = record {
       (λ u a. (a.2.0, a.1 ∙ ap lift a.2.1, a.2.2)) k all (lift (t, None)) (first.lifts Put Follow xs k (t, None) (turn_more w s m Fact Follow xs k ms t h));
 }
 
-module _ {I P O E : Type 0} {w : Model I ℕ} (l : InputLaws w) where
-  pub one_in_order : (errs : Errors I E) {g : Grammar I P O E} {Form : O → List ℕ → Type 0} {Follow : List ℕ → Type 0} → Reads w g Form Follow →
+module _ {I A P O E : Type 0} {w : Model I A} (l : InputLaws w) where
+  pub one_in_order : (errs : Errors I E) {g : Grammar I P O E} {Form : O → List A → Type 0} {Follow : List A → Type 0} → Reads w g Form Follow →
       InOrder {T = Option P} {O = One O} w errs (member g.meaning (λ t. t) (λ _ v. Some v) ∷ []) None (λ t o. IsApplied g.IsOutput t o.member)
       (λ v. Form v.member) Follow
   one_in_order errs {g} {Form} {Follow} p = record {
@@ -160,8 +160,8 @@ module _ {I P O E : Type 0} {w : Model I ℕ} (l : InputLaws w) where
         (λ u h. next (Some u) ((u, refl), tt) h));
   }
 
-  pub more_in_order : {T Q : Type 0} {errs : Errors I E} {ms : List (Member I T E)} {none : T} {AreOutputs : T → Q → Type 0} {Form : Q → List ℕ → Type 0}
-      {First Next : List ℕ → Type 0} {g : Grammar I P O E} {NextForm : O → List ℕ → Type 0} → Meets First (λ ys. (b : O) × NextForm b ys) Next →
+  pub more_in_order : {T Q : Type 0} {errs : Errors I E} {ms : List (Member I T E)} {none : T} {AreOutputs : T → Q → Type 0} {Form : Q → List A → Type 0}
+      {First Next : List A → Type 0} {g : Grammar I P O E} {NextForm : O → List A → Type 0} → Meets First (λ ys. (b : O) × NextForm b ys) Next →
       InOrder {T = T} {O = Q} w errs ms none AreOutputs Form First → Reads w g NextForm Next →
       InOrder {T = T × Option P} {O = Q × O} w errs (with_last ms g.meaning) (none, None)
       (λ t o. AreOutputs t.0 o.0 × IsApplied g.IsOutput t.1 o.1) (λ v. Both (Form v.0) (NextForm v.1)) Next
@@ -182,13 +182,13 @@ module _ {I P O E : Type 0} {w : Model I ℕ} (l : InputLaws w) where
   }
 
 -- all members are the first of themselves
-self_lift : {I T E : Type 0} (w : Model I ℕ) (s : Bool) (ms : List (Member I T E)) → Lifts w s ms ms (λ t. t)
+self_lift : {I A T E : Type 0} (w : Model I A) (s : Bool) (ms : List (Member I T E)) → Lifts w s ms ms (λ t. t)
 self_lift {T = T} w s ms = record {
   lifts = λ Fact Follow xs k t h. turn_as w s Fact (λ u. (v : T) × (u ≡ v) × Fact v) Follow xs (λ u a. (u, refl, a)) k ms t h;
 }
 
-pub order_reads : {I T O E : Type 0} {w : Model I ℕ} {errs : Errors I E} {ms : List (Member I T E)} {none : T} {AreOutputs : T → O → Type 0}
-    {Form : O → List ℕ → Type 0} {Follow : List ℕ → Type 0} → InOrder w errs ms none AreOutputs Form Follow →
+pub order_reads : {I A T O E : Type 0} {w : Model I A} {errs : Errors I E} {ms : List (Member I T E)} {none : T} {AreOutputs : T → O → Type 0}
+    {Form : O → List A → Type 0} {Follow : List A → Type 0} → InOrder w errs ms none AreOutputs Form Follow →
     Reads w (once_each_of w errs ms none AreOutputs (λ (o : O). o)) Form Follow
 order_reads {w = w} {ms = ms} {AreOutputs = AreOutputs} {Follow = Follow} p = record {
   reads = λ v xs f s. as_whole w (sym (append-nil xs)) (p.reads ms (λ t. t) s (self_lift w s ms) v xs [] 0 (length ms) (omega arith) (λ t. AreOutputs t v)
@@ -196,7 +196,7 @@ order_reads {w = w} {ms = ms} {AreOutputs = AreOutputs} {Follow = Follow} p = re
 }
 
 -- by the nested outputs of a tuple
-pub flat_reads : {I V O U E : Type 0} {w : Model I ℕ} {m : Meaning I V E} {AreOutputs : V → O → Type 0} {Form : O → List ℕ → Type 0}
-    {Follow : List ℕ → Type 0} (pairs : U → O) → Reads w (record { meaning = m; IsOutput = AreOutputs }) Form Follow →
+pub flat_reads : {I A V O U E : Type 0} {w : Model I A} {m : Meaning I V E} {AreOutputs : V → O → Type 0} {Form : O → List A → Type 0}
+    {Follow : List A → Type 0} (pairs : U → O) → Reads w (record { meaning = m; IsOutput = AreOutputs }) Form Follow →
     Reads w (record { meaning = m; IsOutput = FlatOutput AreOutputs pairs }) (λ v. Form (pairs v)) Follow
 flat_reads pairs p = record { reads = λ v. p.reads (pairs v) }

@@ -33,7 +33,7 @@ single_taken least few at_start k zero t = refl
 single_taken least few at_start k (suc a) t = refl
 
 -- what ends an item, and begins with no further one
-abbrev After : {I V E : Type 0} → Model I ℕ → Meaning I V E → (List ℕ → Type 0) → List ℕ → Type 0
+abbrev After : {I A V E : Type 0} → Model I A → Meaning I V E → (List A → Type 0) → List A → Type 0
 After w m Follow rest = Follow rest × NoItem w m rest
 
 -- two lists of outputs
@@ -42,11 +42,11 @@ zip_more P [] us v vs a b = absurd a
 zip_more P (t ∷ []) us v vs a b = (a.0, b)
 zip_more P (t ∷ u ∷ ts) us v vs a b = absurd a.1
 
-module _ {I V O E : Type 0} (w : Model I ℕ) (l : InputLaws w) (errs : Errors I E) (g : Grammar I V O E) (Form : O → List ℕ → Type 0) (Follow : List ℕ → Type 0)
-    (p : Reads w g Form Follow) (s : Bool) where
+module _ {I A V O E : Type 0} (w : Model I A) (l : InputLaws w) (errs : Errors I E) (g : Grammar I V O E) (Form : O → List A → Type 0)
+    (Follow : List A → Type 0) (p : Reads w g Form Follow) (s : Bool) where
   module _ (least : ℕ) (few : TooFew) (at_start : Bool) where
     -- a first item
-    single_reads : (v : O) (xs : List ℕ) → Form v xs →
+    single_reads : (v : O) (xs : List A) → Form v xs →
         ReadsBefore w ((items_meaning w errs (single_limits least few at_start) (Unit {0}) g.meaning).answers s) (λ ts. AllZip g.IsOutput ts (v ∷ [])) Follow xs
     single_reads v xs f = list_read w l g (single_limits least few at_start) Form Follow Follow 1 meets p s (λ k i below none. none below)
         (λ k u ys t h. single_taken least few at_start k (items_len w.item_len ys) t) ends errs (v ∷ []) xs refl (record {
@@ -57,11 +57,11 @@ module _ {I V O E : Type 0} (w : Model I ℕ) (l : InputLaws w) (errs : Errors I
           second = refl;
         })
       where
-        meets : (vs : List O) (xs rest : List ℕ) → length vs < 1 → Each Form vs xs → Follow rest → Follow (xs ++ rest)
+        meets : (vs : List O) (xs rest : List A) → length vs < 1 → Each Form vs xs → Follow rest → Follow (xs ++ rest)
         meets [] xs rest b e h = subst (λ z. Follow (z ++ rest)) (sym e) h
         meets (u ∷ us) xs rest b e h = absurd (omega (arith, b))
 
-        ends : (i : I) (rest : List ℕ) (turn : Turn V (Unit {0})) → w.IsKnown i → w.elements i ≡ rest → Follow rest →
+        ends : (i : I) (rest : List A) (turn : Turn V (Unit {0})) → w.IsKnown i → w.elements i ≡ rest → Follow rest →
             TurnsBy (Some 1) (item_turn (single_limits least few at_start)) (λ k. g.meaning.answers s) 1 i turn → turn ≡ Ends (Accept 0 tt)
         ends i rest turn known e f r = of_reply r.reply r.replied r.fact
           where
@@ -78,7 +78,7 @@ module _ {I V O E : Type 0} (w : Model I ℕ) (l : InputLaws w) (errs : Errors I
       (λ vs xs rest b e h. absurd (omega (arith, b))) p s
       (λ k i below none. absurd (omega (arith, below))) (λ k u ys t h. single_taken 0 few at_start k (items_len w.item_len ys) t) ends errs [] [] refl refl
     where
-      ends : (i : I) (rest : List ℕ) (turn : Turn V (Unit {0})) → w.IsKnown i → w.elements i ≡ rest → NoItem w g.meaning rest →
+      ends : (i : I) (rest : List A) (turn : Turn V (Unit {0})) → w.IsKnown i → w.elements i ≡ rest → NoItem w g.meaning rest →
           TurnsBy (Some 1) (item_turn (single_limits 0 few at_start)) (λ k. g.meaning.answers s) 0 i turn → turn ≡ Ends (Accept 0 tt)
       ends i rest turn known e none r = of_reply r.reply r.replied r.fact
         where
@@ -88,19 +88,19 @@ module _ {I V O E : Type 0} (w : Model I ℕ) (l : InputLaws w) (errs : Errors I
           of_reply (Some o) h f = f ∙ ap (λ z. item_turn (single_limits 0 few at_start) 0 (Some z)) (none s i o known e h.1)
 
   -- any number of items that aren't empty, where one may follow another, before what begins with none
-  more_reads : (kind : ErrorKind) → ((v : O) (xs rest : List ℕ) → Form v xs → Follow (xs ++ rest)) → (vs : List O) (xs : List ℕ) →
+  more_reads : (kind : ErrorKind) → ((v : O) (xs rest : List A) → Form v xs → Follow (xs ++ rest)) → (vs : List O) (xs : List A) →
       Each (ItemForm true Form) vs xs → ReadsBefore w ((items_meaning w errs (any_limits kind) (Unit {0}) g.meaning).answers s)
       (λ ts. AllZip g.IsOutput ts vs) (After w g.meaning Follow) xs
   more_reads kind one_after vs xs h = list_read w l g (any_limits kind) (ItemForm true Form) Follow (After w g.meaning Follow) (length vs) meets
       (item_reads w g true Form Follow p) s
       (λ k i below none. none tt) (λ k v xs t f. some_taken kind k (items_len w.item_len xs) t (some_len w l xs (f.1 refl))) ends errs vs xs refl h
     where
-      meets : (us : List O) (xs rest : List ℕ) → length us < length vs → Each (ItemForm true Form) us xs → After w g.meaning Follow rest → Follow (xs ++ rest)
+      meets : (us : List O) (xs rest : List A) → length us < length vs → Each (ItemForm true Form) us xs → After w g.meaning Follow rest → Follow (xs ++ rest)
       meets [] xs rest b e h = subst (λ z. Follow (z ++ rest)) (sym e) h.0
       meets (u ∷ us) xs rest b e h = subst Follow (sym (ap (λ z. z ++ rest) e.whole ∙ append_assoc e.front e.back rest))
           (one_after u e.front (e.back ++ rest) e.first.0)
 
-      ends : (i : I) (rest : List ℕ) (turn : Turn V (Unit {0})) → w.IsKnown i → w.elements i ≡ rest → After w g.meaning Follow rest →
+      ends : (i : I) (rest : List A) (turn : Turn V (Unit {0})) → w.IsKnown i → w.elements i ≡ rest → After w g.meaning Follow rest →
           TurnsBy None (item_turn (any_limits kind)) (λ k. g.meaning.answers s) (length vs) i turn → turn ≡ Ends (Accept 0 tt)
       ends i rest turn known e none r = of_reply r.reply r.replied r.fact
         where
@@ -111,20 +111,20 @@ module _ {I V O E : Type 0} (w : Model I ℕ) (l : InputLaws w) (errs : Errors I
               ap (λ b. refused_turn {V = V} b) (le-ltb (length vs) 0 (omega arith)))
 
 -- A first item of a grammar, and then further ones of another meaning, with the same outputs.
-module _ {I V O E : Type 0} {w : Model I ℕ} (l : InputLaws w) (errs : Errors I E) {g : Grammar I V O E} (m : Meaning I V E)
-    {First Further : O → List ℕ → Type 0} {Follow : List ℕ → Type 0} (p : Reads w g First Follow)
-    (q : Reads w (record { meaning = m; IsOutput = g.IsOutput }) Further Follow) (one_after : (v : O) (xs rest : List ℕ) → Further v xs → Follow (xs ++ rest))
+module _ {I A V O E : Type 0} {w : Model I A} (l : InputLaws w) (errs : Errors I E) {g : Grammar I V O E} (m : Meaning I V E)
+    {First Further : O → List A → Type 0} {Follow : List A → Type 0} (p : Reads w g First Follow)
+    (q : Reads w (record { meaning = m; IsOutput = g.IsOutput }) Further Follow) (one_after : (v : O) (xs rest : List A) → Further v xs → Follow (xs ++ rest))
     (kind : ErrorKind) (s : Bool) where
-  next : (vs : List O) (ys rest : List ℕ) → Each (ItemForm true Further) vs ys → After w m Follow rest → Follow (ys ++ rest)
+  next : (vs : List O) (ys rest : List A) → Each (ItemForm true Further) vs ys → After w m Follow rest → Follow (ys ++ rest)
   next [] ys rest e k = subst (λ z. Follow (z ++ rest)) (sym e) k.0
   next (v ∷ vs) ys rest e k = subst Follow (sym (ap (λ z. z ++ rest) e.whole ∙ append_assoc e.front e.back rest))
       (one_after v e.front (e.back ++ rest) e.first.0)
 
   -- by what follows a first item, whose tree is alone in its list
   first_then : (least : ℕ) (few : TooFew) (at_start : Bool) (N : List V → I → Outcome (List V) → Type 0) →
-      ((t : V) (us : List O) (ys : List ℕ) → Each (ItemForm true Further) us ys → ReadsBefore w (N (t ∷ [])) (λ ts. AllZip g.IsOutput ts us) (After w m
+      ((t : V) (us : List O) (ys : List A) → Each (ItemForm true Further) us ys → ReadsBefore w (N (t ∷ [])) (λ ts. AllZip g.IsOutput ts us) (After w m
       Follow) ys) →
-      (v : O) (vs : List O) (xs : List ℕ) → SomeForm First Further (v ∷ vs) xs →
+      (v : O) (vs : List O) (xs : List A) → SomeForm First Further (v ∷ vs) xs →
       ReadsBefore w (Then w (λ ts us. ts ++ us) ((items_meaning w errs (single_limits least few at_start) (Unit {0}) g.meaning).answers s) N)
       (λ ts. AllZip g.IsOutput ts (v ∷ vs)) (After w m Follow) xs
   first_then least few at_start N more v vs xs f = as_whole w f.whole (then_reads w l (λ ts us. ts ++ us)
@@ -138,42 +138,43 @@ module _ {I V O E : Type 0} {w : Model I ℕ} (l : InputLaws w) (errs : Errors I
       alone (t ∷ []) a = more t vs f.back f.second
       alone (t ∷ u ∷ ts) a = absurd a.1
 
-  further : (t : V) (us : List O) (ys : List ℕ) → Each (ItemForm true Further) us ys →
+  further : (t : V) (us : List O) (ys : List A) → Each (ItemForm true Further) us ys →
       ReadsBefore w ((items_meaning w errs (any_limits kind) (Unit {0}) m).answers s) (λ ts. AllZip g.IsOutput ts us) (After w m Follow) ys
   further t us ys e = more_reads w l errs (record { meaning = m; IsOutput = g.IsOutput }) Further Follow q s kind one_after us ys e
 
   -- one item at least
-  some_reads : (few : TooFew) (at_start : Bool) (vs : List O) (xs : List ℕ) → SomeForm First Further vs xs →
+  some_reads : (few : TooFew) (at_start : Bool) (vs : List O) (xs : List A) → SomeForm First Further vs xs →
       ReadsBefore w ((sequence_meaning w (λ ts us. ts ++ us) (λ o. o) (λ o. o) (items_meaning w errs (single_limits 1 few at_start) (Unit {0}) g.meaning)
       (items_meaning w errs (any_limits kind) (Unit {0}) m)).answers s) (λ ts. AllZip g.IsOutput ts vs) (After w m Follow) xs
   some_reads few at_start [] xs f = absurd f
   some_reads few at_start (v ∷ vs) xs f =
       first_then 1 few at_start (λ ts. (items_meaning w errs (any_limits kind) (Unit {0}) m).answers s) further v vs xs f
 
-module _ {I P Q V O E : Type 0} {w : Model I ℕ} (l : InputLaws w) (errs : Errors I E) {sep : Grammar I P Q E} {g : Grammar I V O E} {Form : O → List ℕ → Type 0}
-    {Follow : List ℕ → Type 0} (bytes : List ℕ) (separates : (rest : List ℕ) → Follow (bytes ++ rest)) (q : ReadsSome w sep bytes) (p : Reads w g Form
+module _ {I A P Q V O E : Type 0} {w : Model I A} (l : InputLaws w) (errs : Errors I E) {sep : Grammar I P Q E} {g : Grammar I V O E}
+    {Form : O → List A → Type 0} {Follow : List A → Type 0} (items : List A)
+    (separates : (rest : List A) → Follow (items ++ rest)) (q : ReadsSome w sep items) (p : Reads w g Form
     Follow) where
   -- what begins with a separator may follow an item
-  starts : (v : O) (xs rest : List ℕ) → AfterSeparator bytes Form v xs → Follow (xs ++ rest)
-  starts v xs rest f = subst Follow (sym (ap (λ z. z ++ rest) (f.whole ∙ ap (λ z. z ++ f.back) f.first) ∙ append_assoc bytes f.back rest))
+  starts : (v : O) (xs rest : List A) → AfterSeparator items Form v xs → Follow (xs ++ rest)
+  starts v xs rest f = subst Follow (sym (ap (λ z. z ++ rest) (f.whole ∙ ap (λ z. z ++ f.back) f.first) ∙ append_assoc items f.back rest))
       (separates (f.back ++ rest))
 
   -- one item at least, before what ends an item and begins with no further one
-  pub separated_list1_reads : {M : Type 0} → Reads w (separated_list1_of {M = M} w errs sep g) (λ v. SomeForm Form (AfterSeparator bytes Form) v.items)
+  pub separated_list1_reads : {M : Type 0} → Reads w (separated_list1_of {M = M} w errs sep g) (λ v. SomeForm Form (AfterSeparator items Form) v.items)
       (λ rest. Follow rest × NoItem w (preceded_of w sep g).meaning rest)
   separated_list1_reads = record {
     reads = λ v xs f s. some_reads l errs (preceded_of w sep g).meaning p (preceded_reads l q p) starts Kind.SeparatedList s Passed false v.items xs f;
   }
 
   -- any number of items, before what begins with no first one either
-  pub separated_list0_reads : {M : Type 0} → Reads w (separated_list0_of {M = M} w errs sep g) (λ v. AnyForm Form (AfterSeparator bytes Form) v.items)
+  pub separated_list0_reads : {M : Type 0} → Reads w (separated_list0_of {M = M} w errs sep g) (λ v. AnyForm Form (AfterSeparator items Form) v.items)
       (λ rest. Follow rest × NoItem w (preceded_of w sep g).meaning rest × NoItem w g.meaning rest)
   separated_list0_reads {M} = record { reads = λ v xs f s. reads v.items xs f s }
     where
-      Ends : List ℕ → Type 0
+      Ends : List A → Type 0
       Ends rest = Follow rest × NoItem w (preceded_of w sep g).meaning rest × NoItem w g.meaning rest
 
-      reads : (vs : List O) (xs : List ℕ) → AnyForm Form (AfterSeparator bytes Form) vs xs → (s : Bool) →
+      reads : (vs : List O) (xs : List A) → AnyForm Form (AfterSeparator items Form) vs xs → (s : Bool) →
           ReadsBefore w ((separated_list0_of {M = M} w errs sep g).meaning.answers s) (λ ts. AllZip g.IsOutput ts vs) Ends xs
       reads [] xs f s = as_whole w (f ∙ refl) (then_reads w l (λ ts us. ts ++ us) ((optional_meaning w errs (Unit {0}) g.meaning).answers s)
           (λ ts. (follows w errs sep.meaning g.meaning ts).answers s) (λ ts. AllZip g.IsOutput ts []) (λ us. AllZip g.IsOutput us [])
@@ -195,8 +196,8 @@ module _ {I P Q V O E : Type 0} {w : Model I ℕ} (l : InputLaws w) (errs : Erro
       }
 
 -- one item at least, where anything may follow an item
-pub many1_reads : {I V O E M : Type 0} {w : Model I ℕ} (l : InputLaws w) (errs : Errors I E) {g : Grammar I V O E} {Form : O → List ℕ → Type 0}
-    {Follow : List ℕ → Type 0} → ((rest : List ℕ) → Follow rest) → Reads w g Form Follow →
+pub many1_reads : {I A V O E M : Type 0} {w : Model I A} (l : InputLaws w) (errs : Errors I E) {g : Grammar I V O E} {Form : O → List A → Type 0}
+    {Follow : List A → Type 0} → ((rest : List A) → Follow rest) → Reads w g Form Follow →
     Reads w (many1_of {M = M} w errs g) (λ v. SomeForm Form Form v.items) (NoItem w g.meaning)
 many1_reads l errs {g} all p = record {
   reads = λ v xs f s. record {

@@ -1,5 +1,5 @@
 -- What is read of parts in sequence: what is written of the second, with all that may follow it, may follow the first.
-use Rattle.std.specs.Prelude.{◌≡◌, ℕ, ◌+◌, List, ◌++◌, refl}
+use Rattle.std.specs.Prelude.{◌≡◌, ◌+◌, List, ◌++◌, refl}
 use Rattle.std.proofs.Common.{sym, ◌∙◌, ap, subst, append_assoc}
 use Rattle.nom_internal.specs.Prelude.{Model, InputLaws, items_len, items_len-append, IsSuffixOf, Grammar, Outcome, Accept, GoesOn, Then, after}
 use Rattle.nom_internal.specs.Prelude.{PairOutput, pair_of}
@@ -41,8 +41,8 @@ module _ {I A P Q T : Type 0} (w : Model I A) (l : InputLaws w) (tree : P → Q 
           let whole : o ≡ Accept (n + m) t = g.4 ∙ ap (λ z. after n (tree f.0) z) k.1 in
           (t, subst (λ z. o ≡ Accept z t) (sym (items_len-append w.item_len xs ys)) whole, joins f.0 k.0 f.2 k.2)
 
-module _ {I V W O P E : Type 0} {w : Model I ℕ} (l : InputLaws w) {g : Grammar I V O E} {h : Grammar I W P E} where
-  pub pair_reads : {FirstForm : O → List ℕ → Type 0} {NextForm : P → List ℕ → Type 0} {First Next : List ℕ → Type 0} →
+module _ {I A V W O P E : Type 0} {w : Model I A} (l : InputLaws w) {g : Grammar I V O E} {h : Grammar I W P E} where
+  pub pair_reads : {FirstForm : O → List A → Type 0} {NextForm : P → List A → Type 0} {First Next : List A → Type 0} →
       Meets First (λ ys. (b : P) × NextForm b ys) Next → Reads w g FirstForm First → Reads w h NextForm Next →
       Reads w (pair_of w g h) (λ v. Both (FirstForm v.0) (NextForm v.1)) Next
   pair_reads {First = First} {Next} meets p q = record {
@@ -51,17 +51,17 @@ module _ {I V W O P E : Type 0} {w : Model I ℕ} (l : InputLaws w) {g : Grammar
         (λ rest n. meets f.back rest (v.1, f.second) n) (p.reads v.0 f.front f.first s) (λ u x. q.reads v.1 f.back f.second s));
   }
 
-  pub preceded_reads : {bytes : List ℕ} {NextForm : P → List ℕ → Type 0} {Next : List ℕ → Type 0} → ReadsSome w g bytes → Reads w h NextForm Next →
-      Reads w (preceded_of w g h) (λ v. Both (λ ys. ys ≡ bytes) (NextForm v)) Next
-  preceded_reads {bytes} {Next = Next} p q = record {
+  pub preceded_reads : {items : List A} {NextForm : P → List A → Type 0} {Next : List A → Type 0} → ReadsSome w g items → Reads w h NextForm Next →
+      Reads w (preceded_of w g h) (λ v. Both (λ ys. ys ≡ items) (NextForm v)) Next
+  preceded_reads {items} {Next = Next} p q = record {
     reads = λ b xs f s. as_whole w f.whole (then_reads w l (λ u v. v) (g.meaning.answers s) (λ u. h.meaning.answers s)
         (λ u. Unit {0}) (λ t. h.IsOutput t b) (λ t. h.IsOutput t b) (λ u v x y. y) Anything Next f.front f.back (λ rest n. tt)
         (as_whole w f.first (p.reads s)) (λ u x. q.reads b f.back f.second s));
   }
 
-  pub terminated_reads : {bytes : List ℕ} {FirstForm : O → List ℕ → Type 0} {First : List ℕ → Type 0} → ((rest : List ℕ) → First (bytes ++ rest)) →
-      Reads w g FirstForm First → ReadsSome w h bytes → Reads w (terminated_of w g h) (λ v. Both (FirstForm v) (λ ys. ys ≡ bytes)) Anything
-  terminated_reads {bytes} {First = First} meets p q = record {
+  pub terminated_reads : {items : List A} {FirstForm : O → List A → Type 0} {First : List A → Type 0} → ((rest : List A) → First (items ++ rest)) →
+      Reads w g FirstForm First → ReadsSome w h items → Reads w (terminated_of w g h) (λ v. Both (FirstForm v) (λ ys. ys ≡ items)) Anything
+  terminated_reads {items} {First = First} meets p q = record {
     reads = λ a xs f s. as_whole w f.whole (then_reads w l (λ u v. u) (g.meaning.answers s) (λ u. h.meaning.answers s)
         (λ t. g.IsOutput t a) (λ v. Unit {0}) (λ t. g.IsOutput t a) (λ u v x y. x) First Anything f.front f.back
         (λ rest n. subst (λ z. First (z ++ rest)) (sym f.second) (meets rest)) (p.reads a f.front f.first s)
@@ -69,7 +69,7 @@ module _ {I V W O P E : Type 0} {w : Model I ℕ} (l : InputLaws w) {g : Grammar
   }
 
 -- two parts and a third are a first and two others
-both_regrouped : {A B C : List ℕ → Type 0} {xs : List ℕ} → Both A (Both B C) xs → Both (Both A B) C xs
+both_regrouped : {T : Type 0} {A B C : List T → Type 0} {xs : List T} → Both A (Both B C) xs → Both (Both A B) C xs
 both_regrouped f = record {
   front = f.front ++ f.second.front;
   back = f.second.back;
@@ -78,11 +78,11 @@ both_regrouped f = record {
   second = f.second.second;
 }
 
-pub regrouped : {I V O E : Type 0} {w : Model I ℕ} {g : Grammar I V O E} {A B C : O → List ℕ → Type 0} {Follow : List ℕ → Type 0} →
+pub regrouped : {I T V O E : Type 0} {w : Model I T} {g : Grammar I V O E} {A B C : O → List T → Type 0} {Follow : List T → Type 0} →
     Reads w g (λ v. Both (Both (A v) (B v)) (C v)) Follow → Reads w g (λ v. Both (A v) (Both (B v) (C v))) Follow
 regrouped p = record { reads = λ v xs f. p.reads v xs (both_regrouped f) }
 
 -- a tuple, by the nested pairs of its outputs
-pub tuple_reads : {I V O F E : Type 0} {w : Model I ℕ} {g : Grammar I V O E} {Form : O → List ℕ → Type 0} {Follow : List ℕ → Type 0} (pairs : F → O) →
+pub tuple_reads : {I A V O F E : Type 0} {w : Model I A} {g : Grammar I V O E} {Form : O → List A → Type 0} {Follow : List A → Type 0} (pairs : F → O) →
     Reads w g Form Follow → Reads w (tuple_of pairs g) (λ v. Form (pairs v)) Follow
 tuple_reads pairs p = record { reads = λ v. p.reads (pairs v) }

@@ -18,8 +18,9 @@ use Rattle.nom_write.specs.laws.ListReads.{some_len}
 use Rattle.nom_write.specs.laws.SequenceReads.{follows}
 
 -- the end refuses what begins with an item: of the end no form matters
-pub end_apart : {I T V P O E : Type 0} {w : Model I ℕ} {end : Grammar I T P E} {g : Grammar I V O E} {EndForm : P → List ℕ → Type 0}
-    {Form : O → List ℕ → Type 0} {lead other : Option (List ℕ)} → Leads w end EndForm lead → Leads w g Form other → AreApart w end lead Form other →
+pub end_apart : {I A T V P O E : Type 0} {w : Model I A} {end : Grammar I T P E} {g : Grammar I V O E} {EndForm : P → List A → Type 0}
+    {Form : O → List A → Type 0} {code : A → ℕ} {lead other : Option (List ℕ)} →
+    Leads w code end EndForm lead → Leads w code g Form other → AreApart w end lead Form other →
     Refuses w end Form
 end_apart {T = T} {O = O} {end = end} p q d = differ_apart {g = record { meaning = end.meaning; IsOutput = λ (t : T) (v : O). ⊥ }} {First = λ v xs. ⊥}
     (record { begins = λ bs e v xs f. absurd f; others = p.others }) q d
@@ -29,8 +30,8 @@ step_taken : {T V : Type 0} (n : ℕ) (v : V) → 0 < n → ◌≡◌ {A = Turn 
 step_taken zero v h = absurd (omega (arith, h))
 step_taken (suc n) v h = refl
 
-module _ {I V O T P E : Type 0} {w : Model I ℕ} (l : InputLaws w) (errs : Errors I E) {g : Grammar I V O E} {end : Grammar I T P E}
-    {Form : O → List ℕ → Type 0} {EndForm : P → List ℕ → Type 0} {Follow After : List ℕ → Type 0} (all : (rest : List ℕ) → Follow rest)
+module _ {I A V O T P E : Type 0} {w : Model I A} (l : InputLaws w) (errs : Errors I E) {g : Grammar I V O E} {end : Grammar I T P E}
+    {Form : O → List A → Type 0} {EndForm : P → List A → Type 0} {Follow After : List A → Type 0} (all : (rest : List A) → Follow rest)
     (apart : Refuses w end Form) (p : Reads w g Form Follow) (q : Reads w end EndForm After) where
   module _ (s : Bool) where
     abbrev Step : I → Outcome (T ⊎ V) → Type 0
@@ -40,7 +41,7 @@ module _ {I V O T P E : Type 0} {w : Model I ℕ} (l : InputLaws w) (errs : Erro
     Next i o = OnPart (λ (x y : I). x ≡ y) (g.meaning.answers s) (λ _ a. o ≡ labelled inr a) i
 
     -- an item isn't taken for the end
-    item_step : (v : O) (front rest : List ℕ) (i : I) (o : Outcome (T ⊎ V)) → w.IsKnown i → w.elements i ≡ front ++ rest → Form v front → Step i o →
+    item_step : (v : O) (front rest : List A) (i : I) (o : Outcome (T ⊎ V)) → w.IsKnown i → w.elements i ≡ front ++ rest → Form v front → Step i o →
         (t : V) × (o ≡ Accept (items_len w.item_len front) (inr t)) × g.IsOutput t v
     item_step v front rest i o known e f a =
         let none = become_refused w (labelled inl) (end.meaning.answers s) (front ++ rest) i a.first known e
@@ -50,7 +51,7 @@ module _ {I V O T P E : Type 0} {w : Model I ℕ} (l : InputLaws w) (errs : Erro
         let k = r.read i rest o known e (all rest) (subst (λ z. GoesOnRefused (Next i) z o) none a.goes_on) in
         (k.2.0, k.1 ∙ ap (λ u. Accept (items_len w.item_len front) u) k.2.1, k.2.2)
 
-    end_step : (v : P) (xs rest : List ℕ) (i : I) (o : Outcome (T ⊎ V)) → w.IsKnown i → w.elements i ≡ xs ++ rest → EndForm v xs → After rest → Step i o →
+    end_step : (v : P) (xs rest : List A) (i : I) (o : Outcome (T ⊎ V)) → w.IsKnown i → w.elements i ≡ xs ++ rest → EndForm v xs → After rest → Step i o →
         (t : T) × (o ≡ Accept (items_len w.item_len xs) (inl t)) × end.IsOutput t v
     end_step v xs rest i o known e f k a =
         let r = become_reads w (labelled inl) inl (λ n u. refl) (end.meaning.answers s) (λ t. end.IsOutput t v)
@@ -70,21 +71,21 @@ module _ {I V O T P E : Type 0} {w : Model I ℕ} (l : InputLaws w) (errs : Erro
         of_reply None h f = absurd (h tt)
         of_reply (Some o) h f = (o, h.1, f)
 
-    end_turn : (v : P) (xs rest : List ℕ) (k : ℕ) (i : I) (turn : Turn V T) → w.IsKnown i → w.elements i ≡ xs ++ rest → EndForm v xs → After rest →
+    end_turn : (v : P) (xs rest : List A) (k : ℕ) (i : I) (turn : Turn V T) → w.IsKnown i → w.elements i ≡ xs ++ rest → EndForm v xs → After rest →
         Turns k i turn → (t : T) × (turn ≡ Ends (Accept (items_len w.item_len xs) t)) × end.IsOutput t v
     end_turn v xs rest k i turn known e f next r =
         let a = turn_of k i turn r in
         let h = end_step v xs rest i a.0 known e f next a.1 in
         (h.0, a.2 ∙ ap (λ z. till_turn (Some z)) h.1, h.2)
 
-    item_turn_is : (v : O) (front rest : List ℕ) (k : ℕ) (i : I) (turn : Turn V T) → w.IsKnown i → w.elements i ≡ front ++ rest →
+    item_turn_is : (v : O) (front rest : List A) (k : ℕ) (i : I) (turn : Turn V T) → w.IsKnown i → w.elements i ≡ front ++ rest →
         ItemForm true Form v front → Turns k i turn → (t : V) × (turn ≡ Takes (items_len w.item_len front) t) × g.IsOutput t v
     item_turn_is v front rest k i turn known e f r =
         let a = turn_of k i turn r in
         let h = item_step v front rest i a.0 known e f.0 a.1 in
         (h.0, a.2 ∙ (ap (λ z. till_turn (Some z)) h.1 ∙ step_taken (items_len w.item_len front) h.0 (some_len w l front (f.1 refl))), h.2)
 
-    pieces_read : (vs : List O) (v : P) (ys zs rest : List ℕ) (k : ℕ) (i : I) (ts : List V) (taken : ℕ) (ending : Outcome T) → w.IsKnown i →
+    pieces_read : (vs : List O) (v : P) (ys zs rest : List A) (k : ℕ) (i : I) (ts : List V) (taken : ℕ) (ending : Outcome T) → w.IsKnown i →
         w.elements i ≡ ys ++ (zs ++ rest) → Each (ItemForm true Form) vs ys → EndForm v zs → After rest →
         Pieces w Turns (λ k j. Turns k j (Ends ending)) k i ts taken →
         (taken ≡ items_len w.item_len ys) × AllZip g.IsOutput ts vs × IsTaken w (λ t. end.IsOutput t v) (items_len w.item_len zs) ending

@@ -4,7 +4,7 @@ use Rattle.nom_sink.proofs.Moved.{moved_front}
 use Rattle.nom_sink.proofs.sink.SliceSinkSink.move_behind.Goals as goal
 
 pub returns-clause-items : goal.returns-clause-items
-returns-clause-items c =
+returns-clause-items g c =
     let buf = c.args.self.now.buffer.now in
     let u = c.min-used.result in
     let s = c.args.start in

@@ -1,7 +1,7 @@
 use Rattle.std.proofs.Common.{◌≤◌}
 use Rattle.nom_sink.specs.Lists.{ItemFails, ItemForm}
 use Rattle.nom_sink.proofs.Lists.{SoFar}
-use Rattle.nom_sink.proofs.items.put_each.Given as goal
+use Rattle.nom_sink.proofs.items.with_each.Given as goal
 
 abbrev pub invariant-loop-item : goal.invariant-loop-item
 invariant-loop-item g l = record {

@@ -1,10 +1,10 @@
 use Rattle.std.proofs.Common.{arith}
 use Rattle.nom_sink.proofs.Lists.{all_added, none_added, one_added, one_fails, undone}
-use Rattle.nom_sink.proofs.items.put_each.Goals as goal
+use Rattle.nom_sink.proofs.items.with_each.Goals as goal
 
 pub loop-item-init : goal.loop-item-init
 loop-item-init g c = record {
-  so_far = none_added _ _ g.S.Sink.model.lack c.args.items.now (g.S.Sink.model.items c.args.out.now);
+  so_far = none_added _ _ g.S.Sink.model.lack c.args.args.1.now (g.S.Sink.model.items c.args.out);
   room = omega arith;
 }
 
@@ -12,8 +12,8 @@ pub loop-item-preserved : goal.loop-item-preserved
 loop-item-preserved g c =
     let m = g.S.Sink.model in
     record {
-      so_far = one_added _ _ m.lack c.args.items.now c.loop-item.item-index c.item-item.result
-          c.loop-item-test.true c.item-item.is (m.items c.args.out.now) (m.items c.loop-item.out) (m.items c.put_one.new.out)
+      so_far = one_added _ _ m.lack c.args.args.1.now c.loop-item.item-index c.item-item.result
+          c.loop-item-test.true c.item-item.is (m.items c.args.out) (m.items c.loop-item.out) (m.items c.put_one.new.out)
           c.loop-item.invariant.so_far c.in-Ok.ensures.written;
       room = omega (arith, c.loop-item.invariant.room, c.in-Ok.ensures.room);
     }
@@ -23,13 +23,13 @@ returns-in-Err-clause-written g c =
     let m = g.S.Sink.model in
     let i = c.loop-item.invariant in
     let w = c.in-Err.ensures.written in (
-      undone c.len-start.result (m.items c.args.out.now) i.so_far.added (m.items c.loop-item.out) (m.items c.put_one.new.out)
+      undone c.len-start.result (m.items c.args.out) i.so_far.added (m.items c.loop-item.out) (m.items c.put_one.new.out)
           (m.items c.truncate.new.self) c.len-start.ensures i.so_far.whole w.0 c.truncate.ensures.items,
       (
         w.1.0,
         omega (arith, i.room, w.1.1),
-        one_fails _ _ m.lack c.args.items.now
-            c.loop-item.item-index c.item-item.result c.loop-item-test.true c.item-item.is (m.items c.args.out.now) (m.items c.loop-item.out)
+        one_fails _ _ m.lack c.args.args.1.now
+            c.loop-item.item-index c.item-item.result c.loop-item-test.true c.item-item.is (m.items c.args.out) (m.items c.loop-item.out)
             i.so_far w.1.0 c.in-Err.error w.1.2,
       ),
     )
@@ -38,8 +38,8 @@ pub returns-in-Err-clause-room : goal.returns-in-Err-clause-room
 returns-in-Err-clause-room g c = omega (arith, c.loop-item.invariant.room, c.in-Err.ensures.room, c.truncate.ensures.room)
 
 pub returns-clause-written : goal.returns-clause-written
-returns-clause-written g c = let m = g.S.Sink.model in all_added _ _ m.lack c.args.items.now c.loop-item.item-index
-    c.loop-item-test.false (m.items c.args.out.now) (m.items c.loop-item.out) c.loop-item.invariant.so_far
+returns-clause-written g c = let m = g.S.Sink.model in all_added _ _ m.lack c.args.args.1.now c.loop-item.item-index
+    c.loop-item-test.false (m.items c.args.out) (m.items c.loop-item.out) c.loop-item.invariant.so_far
 
 pub returns-clause-room : goal.returns-clause-room
 returns-clause-room g c = c.loop-item.invariant.room

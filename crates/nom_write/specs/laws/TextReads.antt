@@ -1,0 +1,134 @@
+-- What is read of tags over texts.
+use Rattle.std.specs.Prelude.{◌≡◌, ℕ, ◌<◌, ◌⊎◌, Bool, true, false, cond, nat_lt, ◌||◌, ◌&&◌, List, [], ◌∷◌, ◌++◌, length, Option, Some, refl}
+use Rattle.std.specs.Prelude.{chars, encode_utf8_all, IsUtf8}
+use Rattle.std.specs.Borrow.{Bor}
+use Rattle.std.specs.Char.{IsScalar, len_utf8}
+use Rattle.std.specs.List.{list_all}
+use Rattle.std.specs.Str.{all_scalars, is_utf8}
+use Rattle.std.proofs.Common.{arith, sym, ◌∙◌, ap, subst, inl, inr, append_assoc}
+use Rattle.std.proofs.Math.Utf8.{scalar}
+use Rattle.std.proofs.lemmas.Bool.{eq-eqb}
+use Rattle.std.proofs.lemmas.Str.{chars-append, chars-encodes, encode_ascii, encodes-chars, IsUtf8-from_is_utf8, is_utf8-from_IsUtf8, scalars-chars}
+use Rattle.nom_internal.specs.Prelude.{AreValues, Errors, IsFirst, IsModelledBy, Accept, Refuse, Stop, Fails, Needs, Slice, items_len}
+use Rattle.nom_internal.specs.Prelude.{ComparesText, sliced, text_comparing}
+use Rattle.nom_traits.specs.Text.{both, items_len-text, text_lawful, text_model, text_values}
+use Rattle.nom_bytes.specs.Tags.{tag_meaning}
+use Rattle.nom_bytes.specs.laws.TagLaws.{tag_lawful}
+use Rattle.nom_write.specs.Leads.{RefusesOthers, is_among, lead_of}
+use Rattle.nom_write.specs.Reads.{Anything, Holds, NoItem, Reads, ReadsBefore, ReadsSome}
+use Rattle.nom_write.specs.Texts.{text_items}
+use Rattle.nom_write.specs.laws.LeafReads.{lawful_reads, no_errors}
+use Rattle.nom_write.specs.laws.SequenceReads.{as_whole}
+
+-- ASCII is spelled by itself
+below : (b : ℕ) → nat_lt b 128 ≡ true → b < 128
+below b h = grind (arith, h)
+
+ascii_scalar : (b : ℕ) → b < 128 → scalar b ≡ true
+ascii_scalar b h = grind (arith, h)
+
+both_true : (x y : Bool) → x ≡ true → y ≡ true → (x && y) ≡ true
+both_true true y h k = k
+both_true false y h k = absurd (cc (h))
+
+ascii_spelled : (bs : List ℕ) → list_all (λ b. nat_lt b 128) bs ≡ true → (all_scalars bs ≡ true) × (encode_utf8_all bs ≡ bs)
+ascii_spelled [] h = (refl, refl)
+ascii_spelled (b ∷ bs) h =
+    let parts = both (nat_lt b 128) (list_all (λ b. nat_lt b 128) bs) h in
+    let more = ascii_spelled bs parts.1 in
+    let small = below b parts.0 in (
+      both_true (scalar b) (all_scalars bs) (ascii_scalar b small) more.0,
+      ap (λ z. z ++ encode_utf8_all bs) (encode_ascii b small) ∙ ap (λ z. b ∷ z) more.1,
+    )
+
+-- the characters of a text, or those and one that no text has
+abbrev Viewed : List ℕ → List ℕ → Type 0
+Viewed bs items = (IsUtf8 bs × (items ≡ chars bs)) ⊎ (items ≡ chars bs ++ 55296 ∷ [])
+
+viewed : (bs : List ℕ) → Viewed bs (text_items bs)
+viewed bs = by (list_all (λ b. nat_lt b 128) bs) refl (is_utf8 bs) refl
+  where
+    by : (a : Bool) → list_all (λ b. nat_lt b 128) bs ≡ a → (u : Bool) → is_utf8 bs ≡ u → Viewed bs (cond a bs (cond u (chars bs) (chars bs ++ 55296 ∷ [])))
+    by true a u k =
+        let s = ascii_spelled bs a in
+        inl ((bs, (s.0, s.1)), sym (ap chars (sym s.1) ∙ chars-encodes bs s.0))
+    by false a true k = inl (IsUtf8-from_is_utf8 bs k, refl)
+    by false a false k = inr refl
+
+no_surrogate : (xs ys : List ℕ) → AreValues IsScalar (xs ++ 55296 ∷ ys) → ⊥
+no_surrogate [] ys h = absurd (cc (h.0))
+no_surrogate (x ∷ xs) ys h = no_surrogate xs ys h.1
+
+-- the characters of valid bytes
+pub valid_items : (bs : List ℕ) → IsUtf8 bs → text_items bs ≡ chars bs
+valid_items bs valid = by (list_all (λ b. nat_lt b 128) bs) refl
+  where
+    by : (a : Bool) → list_all (λ b. nat_lt b 128) bs ≡ a → cond a bs (cond (is_utf8 bs) (chars bs) (chars bs ++ 55296 ∷ [])) ≡ chars bs
+    by true a = let s = ascii_spelled bs a in sym (ap chars (sym s.1) ∙ chars-encodes bs s.0)
+    by false a = ap (λ u. cond u (chars bs) (chars bs ++ 55296 ∷ [])) (is_utf8-from_IsUtf8 bs valid)
+
+tag_items : (tag : List ℕ) (s : Bool) (IsTree : Slice text_model → Type 0) → ((t : Slice text_model) → t.items ≡ text_items tag → IsTree t) →
+    ReadsBefore text_model ((tag_meaning text_model no_errors length ComparesText tag).answers s) IsTree Anything (text_items tag)
+tag_items tag s IsTree stands = elim (viewed tag) [
+  | inl v ↦ as_whole text_model v.1 (lawful_reads text_model (tag_meaning text_model no_errors length ComparesText tag)
+      (tag_lawful text_model text_lawful no_errors length ComparesText text_comparing tag) s IsTree (chars tag) (λ i rest known e.
+      let t : Slice text_model = record { items = chars tag; mark = tt } in
+      let first : IsFirst text_model i (items_len len_utf8 (chars tag)) t = record { rest = rest; whole = e; length_is = refl; mark_is = refl } in
+      let spelled = encodes-chars tag v.0 in (
+        t,
+        (items_len-text (chars tag) ∙ ap length spelled, first, record { front = chars tag; rest = rest; whole = e; tag_is = spelled }),
+        stands t (sym v.1),
+      )))
+  | inr e ↦ record {
+    read = λ i rest o known el f a. absurd (no_surrogate (chars tag) rest (subst (AreValues IsScalar)
+        (el ∙ (ap (λ z. z ++ rest) e ∙ append_assoc (chars tag) (55296 ∷ []) rest)) (text_values i known)));
+  }
+]
+
+scalars_front : (xs ys : List ℕ) → all_scalars (xs ++ ys) ≡ true → all_scalars xs ≡ true
+scalars_front [] ys h = refl
+scalars_front (x ∷ xs) ys h = let b = both (scalar x) (all_scalars (xs ++ ys)) h in both_true (scalar x) (all_scalars xs) b.0 (scalars_front xs ys b.1)
+
+-- what begins with the characters of a tag begins with its code
+other_lead : (tag zs : List ℕ) (c : ℕ) (bs : List ℕ) → chars tag ≡ c ∷ zs → lead_of (λ x. x) (text_items tag) ≡ Some bs → is_among bs c ≡ false → ⊥
+other_lead tag zs c bs head lead none =
+    let first : lead_of (λ x. x) (text_items tag) ≡ Some (c ∷ []) = elim (viewed tag) [
+      | inl v ↦ ap (λ z. lead_of (λ x. x) z) (v.1 ∙ head)
+      | inr e ↦ ap (λ z. lead_of (λ x. x) z) (e ∙ ap (λ z. z ++ 55296 ∷ []) head)
+    ] in
+    let same : ◌≡◌ {A = Option (List ℕ)} (Some bs) (Some (c ∷ [])) = sym lead ∙ first in
+    let codes : bs ≡ c ∷ [] = cc (same) in
+    absurd (cc (sym (ap (λ z. is_among z c) codes) ∙ none, ap (λ b. b || false) (eq-eqb c c refl)))
+
+module _ {E : Type 0} (errs : Errors (Bor (List ℕ)) E) (tag : List ℕ) where
+  pub text_tag_reads_some : ReadsSome text_model (sliced text_model (tag_meaning text_model errs length ComparesText tag)) (text_items tag)
+  text_tag_reads_some = record { reads = λ s. tag_items tag s (λ _. Unit {0}) (λ t h. tt) }
+
+  pub text_tag_reads : Reads text_model (sliced text_model (tag_meaning text_model errs length ComparesText tag)) (λ v xs.
+      (xs ≡ text_items tag) × Holds text_model v (text_items tag)) Anything
+  text_tag_reads = record {
+    reads = λ v xs f s. as_whole text_model f.0 (tag_items tag s (λ t. IsModelledBy text_model t v)
+        (λ t h. record { known = f.1.known; elements_are = f.1.elements_are ∙ sym h; mark_is = refl }));
+  }
+
+  refuses : (bs : List ℕ) → lead_of (λ x. x) (text_items tag) ≡ Some bs → (c : ℕ) (rest : List ℕ) → is_among bs c ≡ false →
+      NoItem text_model (tag_meaning text_model errs length ComparesText tag) (c ∷ rest)
+  refuses bs lead c rest none s i (Accept n t) known e k = by k.2.front k.2.whole k.2.tag_is
+    where
+      by : (front : List ℕ) → chars i.now ≡ front ++ k.2.rest → encode_utf8_all front ≡ tag → Accept n t ≡ Refuse
+      by [] whole is = absurd (cc (ap (λ z. lead_of (λ x. x) (text_items z)) is ∙ lead))
+      by (x ∷ xs) whole is =
+          let all : all_scalars ((x ∷ xs) ++ k.2.rest) ≡ true = subst (λ z. all_scalars z ≡ true) whole (scalars-chars i.now known.0) in
+          let head : x ≡ c = cc (sym whole ∙ e) in
+          let front : chars tag ≡ x ∷ xs = ap chars (sym is) ∙ chars-encodes (x ∷ xs) (scalars_front (x ∷ xs) k.2.rest all) in
+          absurd (other_lead tag xs c bs (front ∙ ap (λ z. z ∷ xs) head) lead none)
+  refuses bs lead c rest none s i Refuse known e k = refl
+  refuses bs lead c rest none s i (Stop (Fails cause)) known e k = absurd k
+  refuses bs lead c rest none s i (Stop (Needs m)) known e k =
+      let begun = k.1.0 in
+      let ys = begun.byte ∷ begun.more in
+      let spelled : tag ≡ i.now ++ ys = begun.tag_is ∙ ap (λ z. z ++ ys) (encodes-chars i.now known.0) in
+      absurd (other_lead tag (rest ++ chars ys) c bs (ap chars spelled ∙ (chars-append i.now ys known.0 ∙ ap (λ z. z ++ chars ys) e)) lead none)
+
+  pub text_tag_refuses_others : RefusesOthers text_model (λ x. x) (tag_meaning text_model errs length ComparesText tag) (lead_of (λ x. x) (text_items tag))
+  text_tag_refuses_others = record { refuses = refuses }
