@@ -3,5 +3,6 @@
 
 pub mod borrowed;
 pub mod header;
+pub mod kinds;
 pub mod messages;
 pub mod records;

@@ -32,6 +32,9 @@ pub trait BitUint: Viewed + Drop + Sized {
 
     /// No number is lost.
     ghost kept: { (n : ℕ) → n < 2 ^ WIDTH → bits (of_bits n) ≡ n };
+
+    /// Each value is that of its number.
+    ghost exact: { (v : Self) → of_bits (bits v) ≡ v };
 }
 
 impl BitUint for u8 {
@@ -56,6 +59,8 @@ impl BitUint for u8 {
     ghost narrow = { omega arith };
 
     ghost kept = { λ n h. refl };
+
+    ghost exact = { λ v. refl };
 }
 
 impl BitUint for u16 {
@@ -80,6 +85,8 @@ impl BitUint for u16 {
     ghost narrow = { omega arith };
 
     ghost kept = { λ n h. refl };
+
+    ghost exact = { λ v. refl };
 }
 
 impl BitUint for u32 {
@@ -104,6 +111,8 @@ impl BitUint for u32 {
     ghost narrow = { omega arith };
 
     ghost kept = { λ n h. refl };
+
+    ghost exact = { λ v. refl };
 }
 
 impl BitUint for u64 {
@@ -128,6 +137,8 @@ impl BitUint for u64 {
     ghost narrow = { omega arith };
 
     ghost kept = { λ n h. refl };
+
+    ghost exact = { λ v. refl };
 }
 
 impl BitUint for u128 {
@@ -152,6 +163,8 @@ impl BitUint for u128 {
     ghost narrow = { omega arith };
 
     ghost kept = { λ n h. refl };
+
+    ghost exact = { λ v. refl };
 }
 
 impl BitUint for usize {
@@ -176,6 +189,8 @@ impl BitUint for usize {
     ghost narrow = { omega arith };
 
     ghost kept = { λ n h. refl };
+
+    ghost exact = { λ v. refl };
 }
 
 /// Returns the value for a number, if outputs are built.

@@ -16,7 +16,7 @@ use Rattle.nom_write.specs.Leads.{Leads}
 use Rattle.nom_write.specs.Lengths.{FormOfSize}
 use Rattle.nom_write.specs.Reads.{Anything, Holds, Reads}
 use Rattle.nom_write.specs.laws.ChoiceReads.{alt_reads, either_reads, map_back_reads}
-use Rattle.nom_write.specs.laws.LeadLaws.{both_leads, differ_apart, either_leads, fixed_leads, map_leads, pair_leads, preceded_leads, tag_refuses_others}
+use Rattle.nom_write.specs.laws.LeadLaws.{both_leads, differ_apart, either_leads, fixed_leads, map_leads, pair_leads, preceded_leads, tag_starts}
 use Rattle.nom_write.specs.laws.LeafReads.{binary_reads, tag_reads, tag_reads_some}
 use Rattle.nom_write.specs.laws.LengthReads.{length_data_reads, length_value_reads}
 use Rattle.nom_write.specs.laws.SequenceReads.{pair_reads, preceded_reads}
@@ -85,19 +85,19 @@ module _ {M : Type 0} (ping : ℕ → M) (text : Bytes → M) (close : M) where
   close_reads : Reads bytes_model close_of CloseForm Anything
   close_reads = map_back_reads (λ _. Unit {0}) (λ o v. v ≡ close) (λ v x. v ≡ close) (λ v x h. h) (tag_reads plain_errors (3 ∷ []))
 
-  ping_leads : Leads bytes_model (λ c. c) ping_of PingForm (Some (1 ∷ []))
-  ping_leads = map_leads (both_leads (pair_leads (fixed_leads (λ c. c) (1 ∷ []) (λ v xs f. f.0) (tag_refuses_others plain_errors (1 ∷ []))) (number_of Big 4)))
+  ping_leads : Leads bytes_model (λ c. c) ping_of PingForm (Some ((1 ∷ []) ∷ []))
+  ping_leads = map_leads (both_leads (pair_leads (fixed_leads (λ c. c) (1 ∷ []) (λ v xs f. f.0) (tag_starts plain_errors (1 ∷ []))) (number_of Big 4)))
 
-  text_leads : Leads bytes_model (λ c. c) text_of TextForm (Some (2 ∷ []))
-  text_leads = map_leads (preceded_leads (λ c. c) (tag_of (2 ∷ [])) (2 ∷ []) (tag_refuses_others plain_errors (2 ∷ [])))
+  text_leads : Leads bytes_model (λ c. c) text_of TextForm (Some ((2 ∷ []) ∷ []))
+  text_leads = map_leads (preceded_leads (λ c. c) (tag_of (2 ∷ [])) (2 ∷ []) (tag_starts plain_errors (2 ∷ [])))
 
-  close_leads : Leads bytes_model (λ c. c) close_of CloseForm (Some (3 ∷ []))
-  close_leads = map_leads (fixed_leads (λ c. c) (3 ∷ []) (λ v xs f. f.0) (tag_refuses_others plain_errors (3 ∷ [])))
+  close_leads : Leads bytes_model (λ c. c) close_of CloseForm (Some ((3 ∷ []) ∷ []))
+  close_leads = map_leads (fixed_leads (λ c. c) (3 ∷ []) (λ v xs f. f.0) (tag_starts plain_errors (3 ∷ [])))
 
   abbrev BodyForm : M → List ℕ → Type 0
   BodyForm v = Either (Either (PingForm v) (Any v) (TextForm v)) (Any v) (CloseForm v)
 
-  two_leads : Leads bytes_model (λ c. c) (or_of ping_of text_of) (λ v. Either (PingForm v) (Any v) (TextForm v)) (Some (1 ∷ 2 ∷ []))
+  two_leads : Leads bytes_model (λ c. c) (or_of ping_of text_of) (λ v. Either (PingForm v) (Any v) (TextForm v)) (Some ((1 ∷ []) ∷ (2 ∷ []) ∷ []))
   two_leads = either_leads plain_errors ping_leads text_leads
 
   choice_reads : Reads bytes_model (or_of (or_of ping_of text_of) close_of) BodyForm (λ rest. (Anything rest × Anything rest) × Anything rest)

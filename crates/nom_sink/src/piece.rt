@@ -55,7 +55,7 @@ impl<T, F: Piece<T>, G: Piece<T>> Piece<T> for InTurn<F, G> {
 
     ghost CanPut = { λ o. F.CanPut o.0 × G.CanPut o.1 };
 
-    #[inline]
+    #[inline(always)]
     fn put<S: Sink<T>>(&self, out: &mut S) -> Result<(), WriteError> {
         let start = out.len();
         match self.0.put(out) {

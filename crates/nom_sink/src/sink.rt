@@ -1,5 +1,5 @@
 //! Places that items are written to.
-ghost use Rattle.std.specs.Prelude.{◌≡◌, ◌+◌, ◌<◌, ◌≤◌, ◌++◌, [], OnErr, OnOk, IfErr, IfOk, length, take, vec_capacity, vec_len};
+ghost use Rattle.std.specs.Prelude.{◌≡◌, ◌+◌, ◌<◌, ◌≤◌, ◌++◌, [], false, length, take, true, vec_capacity, vec_len};
 ghost use Rattle.nom_sink.specs.Slices.{held, room_of};
 ghost use Rattle.nom_sink.specs.Written.{LacksRoom, SinkModel, Written, moved_behind};
 ghost use Rattle.nom_sink.specs.Written.Lack.{OfMemory, OfSpace};
@@ -8,9 +8,6 @@ ghost use Rattle.nom_sink.specs.declared.error.WriteError.{WriteError};
 use crate::error::WriteError;
 use core::mem::replace_with;
 use std::alloc::Allocator;
-
-/// The most items that a list takes one by one. Where their number is known, they are stored at once.
-const FEW: usize = 16;
 
 /// A place that items are written to, such as bytes or characters.
 pub trait Sink<T> {
@@ -39,64 +36,26 @@ pub trait Sink<T> {
         ensures room { model.room self.old ≤ model.room self.new };
 }
 
-/// Makes room for more items in a list.
-// Apart and cold. The list is moved in and out: if it were passed by reference, it would lie in memory, even where it has room.
+/// Returns whether a list has room for more items.
+#[inline(always)]
+fn has_room<T, A: Allocator>(list: &Vec<T, A>, more: usize) -> bool
+    ensures room { result ≡ true → vec_len list.now + more ≤ vec_capacity list.now }
+    ensures full { result ≡ false → vec_capacity list.now < vec_len list.now + more }
+{
+    list.capacity() - list.len() >= more
+}
+
+/// Makes room for more items in a list, if there is memory for them.
+// Apart and cold. The list is moved in and out beside the number, so that it stays in registers where there is room.
 #[cold]
 #[inline(never)]
-fn larger<T: Copy, A: Allocator>(
-    list: Vec<T, A>,
-    more: usize,
-) -> (Vec<T, A>, Result<(), WriteError>)
-    ensures items { result.0.items ≡ list.items }
-    ensures capacity { vec_capacity list ≤ vec_capacity result.0 }
-    ensures room { OnOk result.1 (vec_len list + more ≤ vec_capacity result.0) }
-    ensures error { IfErr result.1 (λ e. e ≡ WriteError.OutOfMemory) }
-    ensures full { OnErr result.1 (vec_capacity list < vec_len list + more) }
+fn larger<T: Copy, A: Allocator>(args: (Vec<T, A>, usize)) -> Vec<T, A>
+    ensures items { result.items ≡ args.0.items }
+    ensures capacity { vec_capacity args.0 ≤ vec_capacity result }
 {
-    let mut list = list;
-    let made = match list.reserve(more) {
-        Ok(()) => Ok(()),
-        Err(_) => Err(WriteError::OutOfMemory),
-    };
-    (list, made)
-}
-
-/// Adds items to a list.
-#[inline(never)]
-fn extended<T: Copy, A: Allocator>(
-    list: Vec<T, A>,
-    items: &[T],
-) -> (Vec<T, A>, Result<(), WriteError>)
-    ensures capacity { vec_capacity list ≤ vec_capacity result.0 }
-    ensures added { IfOk result.1 (λ _. result.0.items ≡ list.items ++ items.now) }
-    ensures kept { OnErr result.1 (result.0.items ≡ list.items) }
-    ensures error { IfErr result.1 (λ e. e ≡ WriteError.OutOfMemory) }
-    ensures full { OnErr result.1 (vec_capacity list < vec_len list + length items.now) }
-{
-    let mut list = list;
-    let made = match list.extend_from_slice(items) {
-        Ok(()) => Ok(()),
-        Err(_) => Err(WriteError::OutOfMemory),
-    };
-    (list, made)
-}
-
-/// Adds items to a list, one by one.
-#[inline(always)]
-fn add_few<T: Copy, A: Allocator>(list: &mut Vec<T, A>, items: &[T]) -> Result<(), WriteError>
-    ensures capacity { vec_capacity list.old ≤ vec_capacity list.new }
-    ensures added { IfOk result (λ _. list.new.items ≡ list.old.items ++ items.now) }
-    ensures kept { OnErr result (list.new.items ≡ list.old.items) }
-    ensures error { IfErr result (λ e. e ≡ WriteError.OutOfMemory) }
-    ensures full { OnErr result (vec_capacity list.old < vec_len list.old + length items.now) }
-{
-    if list.capacity() - list.len() < items.len() {
-        replace_with(list, items.len(), larger)?;
-    }
-    for item in items {
-        list.push_reserved(*item);
-    }
-    Ok(())
+    let (mut list, more) = args;
+    let _ = list.reserve(more);
+    list
 }
 
 /// A list grows. Its error is `OutOfMemory`.
@@ -110,11 +69,17 @@ impl<T: Copy, A: Allocator> Sink<T> for Vec<T, A> {
 
     #[inline(always)]
     fn add(&mut self, items: &[T]) -> Result<(), WriteError> {
-        if items.len() > FEW {
-            replace_with(self, items, extended)
-        } else {
-            add_few(self, items)
+        if !has_room(self, items.len()) {
+            replace_with(self, items.len(), |list: Vec<T, A>, more: usize| {
+                (larger((list, more)), ())
+            });
         }
+        if !has_room(self, items.len()) {
+            return Err(WriteError::OutOfMemory);
+        }
+        // No more memory is taken here.
+        self.extend_from_slice(items)
+            .map_err(|_| WriteError::OutOfMemory)
     }
 
     #[inline(always)]

@@ -1,5 +1,5 @@
 //! Inputs.
-ghost use Rattle.std.specs.Prelude.{◌≡◌, ◌<◌, ℕ, List, length, Option, true, false, not, MatchOption, MatchResult};
+ghost use Rattle.std.specs.Prelude.{◌≡◌, ◌<◌, ℕ, List, cond, length, Option, true, false, not, MatchOption, MatchResult};
 ghost use Rattle.std.specs.Char.{IsScalar};
 ghost use Rattle.std.specs.Iterator.{AlwaysYields, IsFinite};
 ghost use Rattle.nom_error.specs.Answers.{size_of, Refuses};
@@ -22,7 +22,7 @@ pub trait Value {
     /// The values in contracts that are values of the type.
     ghost IsValue: { Self → Type 0 };
 
-    /// The code point of a value that represents a character, and 0 for any other value.
+    /// The code point of a value that represents a character, 1 or 0 for a bit, and 0 for any other value.
     ghost code: { Self → ℕ } = { λ _. 0 };
 }
 
@@ -40,6 +40,8 @@ impl Value for char {
 
 impl Value for bool {
     ghost IsValue = { λ _. Unit {0} };
+
+    ghost code = { λ b. cond b 1 0 };
 }
 
 /// Treats a reference as the value that it points to.

@@ -1,5 +1,5 @@
 -- Numbers in bits, and bits in bytes.
-use Rattle.std.proofs.Common.{◌≡◌, ℕ, ◌+◌, ◌-◌, ◌*◌, ◌/◌, ◌%◌, ◌^◌, ◌<◌, ◌≤◌, ◌⊎◌, inl, inr, Bool, true, false, cond, nat_eq, zero, suc, min, List, []}
+use Rattle.std.proofs.Common.{◌≡◌, ℕ, ◌+◌, ◌-◌, ◌*◌, ◌/◌, ◌%◌, ◌^◌, ◌<◌, ◌≤◌, ◌⊎◌, inl, inr, Bool, true, false, cond, zero, suc, min, List, []}
 use Rattle.std.proofs.Common.{◌∷◌, ◌++◌, length, get_or, take, drop, append-nil, append_assoc, refl, sym, ◌∙◌, ap, subst, arith, length-append, length-drop}
 use Rattle.std.specs.Prelude.{replicate}
 use Rattle.std.proofs.Math.ListN.{drop_of_length-le}
@@ -8,12 +8,13 @@ use Rattle.std.proofs.Math.Pow.{pow_mono}
 use Rattle.std.proofs.Math.Seq.{take-add}
 use Rattle.std.proofs.lemmas.Grind.{flat_map-append}
 use Rattle.std.proofs.lemmas.List.{drop_more, length-replicate, length-take-le, take_all}
-use Rattle.std.proofs.lemmas.Nat.{div-mul-add, mod_below}
+use Rattle.std.proofs.lemmas.Nat.{mod_below}
 use mir.Val.{bool_byte}
 use Rattle.nom_internal.specs.Prelude.{is_bit, low_bits, byte_bits, all_bits, spelled_after, spelled}
 use Rattle.nom_traits.specs.BitLists.{length-all_bits}
 use Rattle.nom_bits.proofs.Spellings.{spelled-append, spelled_from, spelled_below}
 use Rattle.nom_write.specs.BitForms.{IsPadded}
+use Rattle.nom_write.specs.laws.BitReads.{bits_spelled}
 
 -- one bit more
 pub next_bit : (count done n : ℕ) → done < count → low_bits (count - done) n ≡ is_bit n (count - 1 - done) ∷ low_bits (count - (done + 1)) n
@@ -26,34 +27,6 @@ next_bit count done n h = of_left (count - done) (count - 1 - done) (count - (do
 as_number : (b : Bool) → bool_byte b ≡ cond b 1 0
 as_number true = refl
 as_number false = refl
-
-last_bit : (a p v : ℕ) (b : Bool) → v < p → nat_eq (((2 * a + cond b 1 0) * p + v) / p % 2) 1 ≡ b
-last_bit a p v b h = ap (λ m. nat_eq (m % 2) 1) (div-mul-add (2 * a + cond b 1 0) p v h) ∙ low a b
-  where
-    low : (a : ℕ) (b : Bool) → nat_eq ((2 * a + cond b 1 0) % 2) 1 ≡ b
-    low a true = ap (λ m. nat_eq m 1) {x = (2 * a + 1) % 2} {y = 1} (omega arith)
-    low a false = ap (λ m. nat_eq m 1) {x = (2 * a + 0) % 2} {y = 0} (omega arith)
-
--- what bits spell after a number
-spelled_apart : (a : ℕ) (bs : List Bool) → spelled_after a bs ≡ a * 2 ^ length bs + spelled bs
-spelled_apart a [] = omega arith
-spelled_apart a (b ∷ bs) = spread a (cond b 1 0) (2 ^ length bs) (2 ^ suc (length bs)) _ _ (spelled bs) (spelled_apart (2 * a + cond b 1 0) bs)
-    (spelled_apart (2 * 0 + cond b 1 0) bs) (pow-suc 2 (length bs))
-  where
-    apart : (a d p : ℕ) → (2 * a + d) * p ≡ a * (p * 2) + d * p
-    apart a d p = omega arith
-
-    spread : (a d p q x y z : ℕ) → x ≡ (2 * a + d) * p + z → y ≡ (2 * 0 + d) * p + z → q ≡ p * 2 → x ≡ a * q + y
-    spread a d p q x y z h k e = omega (arith, h, k, apart a d p, ap (λ m. a * m) e)
-
--- the lowest bits of the number that bits spell are these bits
-pub bits_spelled : (a : ℕ) (bs : List Bool) → low_bits (length bs) (spelled_after a bs) ≡ bs
-bits_spelled a [] = refl
-bits_spelled a (b ∷ bs) =
-    let here : is_bit (spelled_after (2 * a + cond b 1 0) bs) (length bs) ≡ b =
-    ap (λ n. nat_eq (n / 2 ^ length bs % 2) 1) (spelled_apart (2 * a + cond b 1 0) bs) ∙
-    last_bit a (2 ^ length bs) (spelled bs) b (omega (arith, spelled_below 0 bs)) in
-    ap (λ c. c ∷ low_bits (length bs) (spelled_after (2 * a + cond b 1 0) bs)) here ∙ ap (λ cs. b ∷ cs) (bits_spelled (2 * a + cond b 1 0) bs)
 
 -- zeros after a number
 spelled_zeros : (v k : ℕ) → spelled_after v (replicate k false) ≡ v * 2 ^ k

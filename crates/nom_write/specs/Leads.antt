@@ -1,55 +1,86 @@
--- The codes of the items that forms begin with. The code of a byte is the byte, and that of a character its code point.
-use Rattle.std.specs.Prelude.{◌≡◌, ℕ, Bool, true, false, eqb, ◌||◌, ◌&&◌, not, List, [], ◌∷◌, ◌++◌, Option, Some, None}
+-- What forms begin with, in codes. The code of a byte is the byte, that of a character its code point, and that of a bit 1 or 0.
+use Rattle.std.specs.Prelude.{◌≡◌, ℕ, Bool, true, false, cond, eqb, ◌&&◌, ◌⊎◌, List, [], ◌∷◌, ◌++◌, map, Option, Some, None}
 use Rattle.nom_internal.specs.Prelude.{Model, Grammar, Meaning}
 use Rattle.nom_write.specs.Choices.{Refuses}
 use Rattle.nom_write.specs.Reads.{NoItem}
 
--- a code is one of some
-abbrev pub is_among : List ℕ → ℕ → Bool
-is_among [] c = false
-is_among (b ∷ bs) c = eqb b c || is_among bs c
+-- some words, each of which is the codes of some items
+abbrev pub Words : Type 0
+Words = List (List ℕ)
 
--- none of the others is one of them
-abbrev pub are_others : List ℕ → List ℕ → Bool
+-- codes are as many as those of a word, or more
+abbrev pub is_as_long : (word codes : List ℕ) → Bool
+is_as_long [] cs = true
+is_as_long (b ∷ bs) [] = false
+is_as_long (b ∷ bs) (c ∷ cs) = is_as_long bs cs
+
+-- and they don't begin with the word
+abbrev pub is_unlike : (word codes : List ℕ) → Bool
+is_unlike [] cs = false
+is_unlike (b ∷ bs) [] = false
+is_unlike (b ∷ bs) (c ∷ cs) = cond (eqb b c) (is_unlike bs cs) (is_as_long bs cs)
+
+-- so it is of each of some words
+abbrev pub are_unlike : Words → List ℕ → Bool
+are_unlike [] c = true
+are_unlike (b ∷ bs) c = is_unlike b c && are_unlike bs c
+
+-- and of each of others
+abbrev pub are_others : Words → Words → Bool
 are_others bs [] = true
-are_others bs (c ∷ cs) = not (is_among bs c) && are_others bs cs
+are_others bs (c ∷ cs) = are_unlike bs c && are_others bs cs
+
+-- codes are one of some words
+abbrev pub IsAmong : Words → List ℕ → Type 0
+IsAmong [] c = ⊥
+IsAmong (b ∷ bs) c = (b ≡ c) ⊎ IsAmong bs c
 
 -- the code that items begin with
-abbrev pub lead_of : {A : Type 0} → (A → ℕ) → List A → Option (List ℕ)
+abbrev pub lead_of : {A : Type 0} → (A → ℕ) → List A → Option Words
 lead_of code [] = None
-lead_of code (x ∷ xs) = Some (code x ∷ [])
+lead_of code (x ∷ xs) = Some ((code x ∷ []) ∷ [])
+
+-- all their codes
+abbrev pub whole_lead : {A : Type 0} → (A → ℕ) → List A → Option Words
+whole_lead code [] = None
+whole_lead code (x ∷ xs) = Some (map code (x ∷ xs) ∷ [])
 
 -- those that one of two begins with
-abbrev pub either_lead : Option (List ℕ) → Option (List ℕ) → Option (List ℕ)
+abbrev pub either_lead : Option Words → Option Words → Option Words
 either_lead (Some bs) (Some cs) = Some (bs ++ cs)
 either_lead (Some bs) None = None
 either_lead None cs = None
 
--- they begin with an item of one of some codes
-pub record BeginsWith {A : Type 0} (code : A → ℕ) (bs : List ℕ) (xs : List A) : Type 0 where
-  pub item : A
+-- they begin with items of the codes of one of some words
+pub record BeginsWith {A : Type 0} (code : A → ℕ) (bs : Words) (xs : List A) : Type 0 where
+  pub front : List A
   pub more : List A
-  pub whole : xs ≡ item ∷ more
-  pub is_one : is_among bs (code item) ≡ true
+  pub whole : xs ≡ front ++ more
+  pub is_one : IsAmong bs (map code front)
 
-module _ {I A V E : Type 0} (w : Model I A) (code : A → ℕ) (m : Meaning I V E) (lead : Option (List ℕ)) where
-  -- whatever begins with an item of another code is refused, if these are told
-  pub record RefusesOthers : Type 0 where
-    pub refuses : (bs : List ℕ) → lead ≡ Some bs → (x : A) (rest : List A) → is_among bs (code x) ≡ false → NoItem w m (x ∷ rest)
+module _ {I A V E : Type 0} (w : Model I A) (code : A → ℕ) (m : Meaning I V E) where
+  -- whatever begins with items of other codes, as many as a word has, is refused, if the words are told
+  pub record RefusesOthers (lead : Option Words) : Type 0 where
+    pub refuses : (bs : Words) → lead ≡ Some bs → (front rest : List A) → are_unlike bs (map code front) ≡ true → NoItem w m (front ++ rest)
 
-module _ {I A V O E : Type 0} (w : Model I A) (code : A → ℕ) (g : Grammar I V O E) (Form : O → List A → Type 0) (lead : Option (List ℕ)) where
-  -- each form begins with an item of one of these codes, and all else is refused
+  -- items begin with one of the words, and all else is refused
+  pub record StartsWith (items : List A) (lead : Option Words) : Type 0 where
+    pub begins : (bs : Words) → lead ≡ Some bs → BeginsWith code bs items
+    pub others : RefusesOthers lead
+
+module _ {I A V O E : Type 0} (w : Model I A) (code : A → ℕ) (g : Grammar I V O E) (Form : O → List A → Type 0) (lead : Option Words) where
+  -- so each form does
   pub record Leads : Type 0 where
-    pub begins : (bs : List ℕ) → lead ≡ Some bs → (v : O) (xs : List A) → Form v xs → BeginsWith code bs xs
+    pub begins : (bs : Words) → lead ≡ Some bs → (v : O) (xs : List A) → Form v xs → BeginsWith code bs xs
     pub others : RefusesOthers w code g.meaning lead
 
 -- two begin with items of different codes; where either doesn't tell them, the fact holds
-abbrev pub Differ : Option (List ℕ) → Option (List ℕ) → Type 0 → Type 0
+abbrev pub Differ : Option Words → Option Words → Type 0 → Type 0
 Differ (Some bs) (Some cs) Otherwise = are_others bs cs ≡ true
 Differ (Some bs) None Otherwise = Otherwise
 Differ None cs Otherwise = Otherwise
 
 -- a grammar refuses whatever begins with a form of another, which is plain where these begin with items of other codes
-abbrev pub AreApart : {I A V O R E : Type 0} → Model I A → Grammar I V O E → (lead : Option (List ℕ)) → (R → List A → Type 0) →
-    (other : Option (List ℕ)) → Type 0
+abbrev pub AreApart : {I A V O R E : Type 0} → Model I A → Grammar I V O E → (lead : Option Words) → (R → List A → Type 0) →
+    (other : Option Words) → Type 0
 AreApart w g lead Form other = Differ lead other (Refuses w g Form)

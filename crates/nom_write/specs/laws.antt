@@ -3,6 +3,7 @@ pub mod ChoiceReads
 pub mod DecimalReads
 pub mod FlatMapReads
 pub mod HexReads
+pub mod JudgedReads
 pub mod LeadLaws
 pub mod LeafReads
 pub mod LengthReads

@@ -4,8 +4,10 @@ ghost use Rattle.nom_internal.specs.Prelude.{byte_bits, low_bits};
 ghost use Rattle.nom_sink.specs.declared.error.WriteError.{WriteError};
 ghost use Rattle.nom_sink.specs.Written.{LacksRoom, Written};
 ghost use Rattle.nom_write.specs.BitForms.{AreBitsOf, FieldFails, GroupFails, InWholeBytes, InWholeBytesFails, IsPadded, of_group};
-ghost use Rattle.nom_write.specs.laws.BitReads.{bits_reads, bool_reads, no_others, tag_bits_reads, tag_bits_reads_some, take_bits_reads};
-ghost use Rattle.nom_write.specs.laws.LeadLaws.{no_lead};
+ghost use Rattle.nom_write.specs.laws.BitReads.{bit_code, bits_are_low, bits_reads, bool_reads};
+ghost use Rattle.nom_write.specs.laws.BitReads.{tag_bits_reads, tag_bits_reads_some, tag_bits_starts, take_bits_reads};
+ghost use Rattle.nom_write.specs.Leads.{whole_lead};
+ghost use Rattle.nom_write.specs.laws.LeadLaws.{fixed_leads, no_lead};
 
 use crate::writer::{Constant, Writer};
 use nom_bits::{BitUint, Bits, Bool, ErrorConvert, Tag, Take};
@@ -13,36 +15,6 @@ use nom_error::value::ParseError;
 use nom_sink::error::WriteError;
 use nom_sink::sink::{Sink, slice_sink};
 use nom_traits::input::Input;
-
-/// A number type of bit fields each of whose values is that of its number.
-pub trait ExactBits: BitUint {
-    /// Each value is that of its number.
-    ghost exact: { (v : Self) → Self.of_bits (Self.bits v) ≡ v };
-}
-
-impl ExactBits for u8 {
-    ghost exact = { λ v. refl };
-}
-
-impl ExactBits for u16 {
-    ghost exact = { λ v. refl };
-}
-
-impl ExactBits for u32 {
-    ghost exact = { λ v. refl };
-}
-
-impl ExactBits for u64 {
-    ghost exact = { λ v. refl };
-}
-
-impl ExactBits for u128 {
-    ghost exact = { λ v. refl };
-}
-
-impl ExactBits for usize {
-    ghost exact = { λ v. refl };
-}
 
 /// Returns the lowest `count` bits of a number, most significant bit first, and other bits after them.
 #[inline(always)]
@@ -83,7 +55,7 @@ fn add_field<S: Sink<bool>>(
 /// Writes the number in as many bits as the parser takes, most significant bit first.
 ///
 /// A number that needs more bits is `TooLong`. If the type has fewer bits, any number is a mismatch.
-impl<I: Input<Item = u8>, O: ExactBits + Copy, E: ParseError<(I, usize)>> Writer<(I, usize)>
+impl<I: Input<Item = u8>, O: BitUint + Copy, E: ParseError<(I, usize)>> Writer<(I, usize)>
     for Take<I, O, E> {
     ghost Form = { λ p v. AreBitsOf p.count (O.bits v) };
 
@@ -100,11 +72,13 @@ impl<I: Input<Item = u8>, O: ExactBits + Copy, E: ParseError<(I, usize)>> Writer
 }
 
 /// Writes the expected number, if the value is that number. Any other value is a mismatch.
-impl<I: Input<Item = u8>, O: ExactBits + Copy, E: ParseError<(I, usize)>> Writer<(I, usize)>
+impl<I: Input<Item = u8>, O: BitUint + Copy, E: ParseError<(I, usize)>> Writer<(I, usize)>
     for Tag<I, O, E> {
     ghost Form = { λ p v bits. (O.bits v ≡ p.pattern) × AreBitsOf p.count p.pattern bits };
 
     ghost Fails = { λ p v s e. ((O.bits v ≡ p.pattern → ⊥) × (e ≡ WriteError.Mismatch s.start)) ⊎ FieldFails O.WIDTH p.count p.pattern s e };
+
+    ghost Lead = { λ p. whole_lead bit_code (low_bits p.count p.pattern) };
 
     #[inline]
     fn write<S: Sink<bool>>(&self, value: &O, out: &mut S) -> Result<(), WriteError> {
@@ -117,12 +91,15 @@ impl<I: Input<Item = u8>, O: ExactBits + Copy, E: ParseError<(I, usize)>> Writer
 
     ghost reads = { λ p k c. tag_bits_reads I.model E.errors O.of_bits O.bits O.exact O.WIDTH p.pattern p.count };
 
-    ghost leads = { λ p. no_lead };
+    ghost leads = { λ p. fixed_leads bit_code (low_bits p.count p.pattern) (λ v bs f. bits_are_low p.pattern p.count bs f.1)
+        (tag_bits_starts I.model E.errors O.WIDTH p.pattern p.count) };
 }
 
-impl<I: Input<Item = u8>, O: ExactBits + Copy, E: ParseError<(I, usize)>> Constant<(I, usize)>
+impl<I: Input<Item = u8>, O: BitUint + Copy, E: ParseError<(I, usize)>> Constant<(I, usize)>
     for Tag<I, O, E> {
     ghost items = { λ p. low_bits p.count p.pattern };
+
+    ghost Start = { λ p. whole_lead bit_code (low_bits p.count p.pattern) };
 
     ghost Fits = { λ p. (p.count ≤ O.WIDTH) × (p.pattern < 2 ^ p.count) };
 
@@ -133,7 +110,7 @@ impl<I: Input<Item = u8>, O: ExactBits + Copy, E: ParseError<(I, usize)>> Consta
 
     ghost accepts = { λ p k c. tag_bits_reads_some I.model E.errors O.of_bits O.bits O.exact O.WIDTH p.pattern p.count c.1 };
 
-    ghost others = { λ p. no_others (low_bits p.count p.pattern) };
+    ghost others = { λ p. tag_bits_starts I.model E.errors O.WIDTH p.pattern p.count };
 }
 
 /// Writes the bit.

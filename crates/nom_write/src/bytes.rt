@@ -2,7 +2,7 @@
 ghost use Rattle.std.specs.Prelude.{◌≡◌, ◌⊎◌, length};
 ghost use Rattle.nom_internal.specs.Prelude.{bytes_model};
 ghost use Rattle.nom_write.specs.Leads.{lead_of};
-ghost use Rattle.nom_write.specs.laws.LeadLaws.{fixed_leads, no_lead, tag_refuses_others};
+ghost use Rattle.nom_write.specs.laws.LeadLaws.{fixed_leads, no_lead, tag_starts};
 ghost use Rattle.nom_write.specs.Reads.{Holds};
 ghost use Rattle.nom_sink.specs.Written.{LacksRoom};
 ghost use Rattle.nom_sink.specs.declared.error.WriteError.{WriteError};
@@ -25,7 +25,7 @@ impl<'a, 'b, E: ParseError<&'a [u8]>> Writer<&'a [u8]> for Tag<&'b [u8], &'a [u8
 
     ghost Lead = { λ p. lead_of (λ b. b) p.tag.now };
 
-    #[inline]
+    #[inline(always)]
     fn write<S: Sink<u8>>(&self, value: &&'a [u8], out: &mut S) -> Result<(), WriteError> {
         let data = *value;
         data.prove_known();
@@ -38,13 +38,15 @@ impl<'a, 'b, E: ParseError<&'a [u8]>> Writer<&'a [u8]> for Tag<&'b [u8], &'a [u8
 
     ghost reads = { λ p k c. tag_reads E.errors p.tag.now };
 
-    ghost leads = { λ p. fixed_leads (λ b. b) p.tag.now (λ v xs f. f.0) (tag_refuses_others E.errors p.tag.now) };
+    ghost leads = { λ p. fixed_leads (λ b. b) p.tag.now (λ v xs f. f.0) (tag_starts E.errors p.tag.now) };
 }
 
 impl<'a, 'b, E: ParseError<&'a [u8]>> Constant<&'a [u8]> for Tag<&'b [u8], &'a [u8], E> {
     ghost use Rattle.nom_write.specs.laws.LeafReads.{tag_reads_some};
 
     ghost items = { λ p. p.tag.now };
+
+    ghost Start = { λ p. lead_of (λ b. b) p.tag.now };
 
     #[inline(always)]
     fn write_constant<S: Sink<u8>>(&self, out: &mut S) -> Result<(), WriteError> {
@@ -53,7 +55,7 @@ impl<'a, 'b, E: ParseError<&'a [u8]>> Constant<&'a [u8]> for Tag<&'b [u8], &'a [
 
     ghost accepts = { λ p k c. tag_reads_some E.errors p.tag.now };
 
-    ghost others = { λ p. tag_refuses_others E.errors p.tag.now };
+    ghost others = { λ p. tag_starts E.errors p.tag.now };
 }
 
 /// Writes exactly as many items as the parser takes. A value of another length is a mismatch.
@@ -64,7 +66,7 @@ impl<I: Unmarked, E: ParseError<I>> Writer<I> for Take<I, E> {
 
     ghost Fails = { λ p v s e. ((length (I.model.elements v) ≡ p.count → ⊥) × (e ≡ WriteError.Mismatch s.start)) ⊎ LacksRoom p.count s e };
 
-    #[inline]
+    #[inline(always)]
     fn write<S: Sink<I::Item>>(&self, value: &I, out: &mut S) -> Result<(), WriteError> {
         (*value).prove_known();
         if value.count_items() == self.count {

@@ -94,7 +94,7 @@ impl<'a, I: Items, F: Writer<I, Output: OfSize>> Piece<I::Item> for SizeOf<'a, I
 
     ghost CanPut = { λ o. F.CanWrite o.0.now };
 
-    #[inline]
+    #[inline(always)]
     fn put<S: Sink<I::Item>>(&self, out: &mut S) -> Result<(), WriteError> {
         match F::Output::of_size(self.1) {
             Some(number) => self.0.write(&number, out),
@@ -114,7 +114,7 @@ impl<I: Unmarked, F: Writer<I, Output: OfSize> + Drop> Writer<I> for LengthData<
 
     ghost CanWrite = { λ p. F.CanWrite p.parser × ((rest : List I.Item) → F.MayFollow p.parser rest) };
 
-    #[inline]
+    #[inline(always)]
     fn write<S: Sink<I::Item>>(&self, value: &I, out: &mut S) -> Result<(), WriteError> {
         (*value).prove_known();
         InTurn(

@@ -2,7 +2,7 @@
 //!
 //! These parsers don't write:
 //!
-//! - Functions under `func`, `map` and `flat_map` can't be turned around. `map_both` and `flat_map_both` take the way back.
+//! - Functions under `func`, `map`, `map_opt`, `map_res` and `flat_map` can't be turned around. `map_both` and its like take the way back.
 //! - `complete` and `all_consuming` aren't stream parsers, because what they accept depends on where the input ends.
 //! - `recognize` returns items. Whether they are a form of its part is known only by parsing them.
 //! - `bytes`, among bits, skips the rest of a byte. How many bits that is depends on where it stands.
@@ -18,6 +18,8 @@ pub mod hexadecimal;
 pub mod length;
 pub mod list;
 pub mod map;
+pub mod map_opt;
+pub mod map_res;
 pub mod number;
 pub mod outputs;
 pub mod permutation;
@@ -37,5 +39,7 @@ pub mod writer;
 pub use crate::flat_map::{FlatMapBoth, flat_map_both};
 pub use crate::hexadecimal::hex_u32;
 pub use crate::map::{MapBoth, map_both};
+pub use crate::map_opt::{MapOptBoth, map_opt_both};
+pub use crate::map_res::{MapResBoth, map_res_both};
 pub use crate::writer::{Constant, Writer};
 pub use nom_sink::{Sink, SliceSink, TextSink, WriteError, error, sink, slice_sink};

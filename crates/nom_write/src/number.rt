@@ -39,7 +39,7 @@ impl<F: ToBits, I: Input<Item = u8>, E: ParseError<I>> Writer<I> for Binary<F, I
 
     ghost Fails = { λ p v s e. LacksRoom F.BYTES s e ⊎ (F.Exceeds v × (e ≡ WriteError.TooLong s.start)) };
 
-    #[inline]
+    #[inline(always)]
     fn write<S: Sink<u8>>(&self, value: &F::Number, out: &mut S) -> Result<(), WriteError> {
         match F::to_bits(value) {
             Some(bits) => add_bits(bits, F::BYTES, self.endian, out),

@@ -2,7 +2,6 @@
 ghost use Rattle.std.specs.Prelude.{◌≡◌, ◌⊎◌, true, false, length};
 ghost use Rattle.std.specs.Borrow.{Bor};
 ghost use Rattle.std.specs.Fn.{FnReturnsAt};
-ghost use Rattle.nom_write.specs.Leads.{lead_of};
 ghost use Rattle.nom_sink.specs.Written.{LacksRoom};
 ghost use Rattle.nom_sink.specs.declared.error.WriteError.{WriteError};
 ghost use Rattle.nom_write.specs.laws.OutputReads.{value_leads, value_reads, verify_leads, verify_reads};
@@ -22,7 +21,7 @@ impl<I: Items, O: Clone + PartialEq + Viewed, F: Constant<I> + Drop> Writer<I> f
 
     ghost CanWrite = { λ p. F.Fits p.parser × ((v : O) → O.eq p.value v ≡ true → O.is_clone p.value v) };
 
-    ghost Lead = { λ p. lead_of I.Item.code (F.items p.parser) };
+    ghost Lead = { λ p. F.Start p.parser };
 
     #[inline]
     fn write<S: Sink<I::Item>>(&self, value: &O, out: &mut S) -> Result<(), WriteError> {

@@ -1,6 +1,5 @@
 //! Parts in sequence.
 ghost use Rattle.std.specs.Prelude.{◌≡◌, ℕ, List, ◌++◌, length};
-ghost use Rattle.nom_write.specs.Leads.{lead_of};
 ghost use Rattle.nom_write.specs.laws.LeadLaws.{both_leads, pair_leads, preceded_leads, terminated_leads};
 ghost use Rattle.nom_sink.specs.Written.{LacksRoom};
 ghost use Rattle.nom_sink.specs.Parts.{Both, BothFail, Meets};
@@ -29,7 +28,7 @@ impl<I: Items, F: Writer<I> + Drop, G: Writer<I, Error = F::Error> + Drop> Write
 
     ghost Lead = { λ p. F.Lead p.first };
 
-    #[inline]
+    #[inline(always)]
     fn write<S: Sink<I::Item>>(
         &self,
         value: &(F::Output, G::Output),
@@ -58,9 +57,9 @@ impl<I: Items, F: Constant<I> + Drop, G: Writer<I, Error = F::Error> + Drop> Wri
 
     ghost CanWrite = { λ p. F.Fits p.first × G.CanWrite p.second };
 
-    ghost Lead = { λ p. lead_of I.Item.code (F.items p.first) };
+    ghost Lead = { λ p. F.Start p.first };
 
-    #[inline]
+    #[inline(always)]
     fn write<S: Sink<I::Item>>(&self, value: &G::Output, out: &mut S) -> Result<(), WriteError> {
         InTurn(
             Fixed::<I, F>(&self.first, PhantomData),
@@ -85,7 +84,7 @@ impl<I: Items, F: Writer<I> + Drop, G: Constant<I, Error = F::Error> + Drop> Wri
 
     ghost Lead = { λ p. F.Lead p.first };
 
-    #[inline]
+    #[inline(always)]
     fn write<S: Sink<I::Item>>(&self, value: &F::Output, out: &mut S) -> Result<(), WriteError> {
         InTurn(
             OneValue::<I, F>(&self.first, value, PhantomData),

@@ -4,7 +4,7 @@ ghost use Rattle.nom_internal.specs.Prelude.{text_model};
 ghost use Rattle.nom_write.specs.Leads.{lead_of};
 ghost use Rattle.nom_write.specs.Texts.{text_items};
 ghost use Rattle.nom_write.specs.laws.LeadLaws.{fixed_leads};
-ghost use Rattle.nom_write.specs.laws.TextReads.{text_tag_refuses_others};
+ghost use Rattle.nom_write.specs.laws.TextReads.{text_tag_starts};
 ghost use Rattle.nom_write.specs.Reads.{Holds};
 ghost use Rattle.nom_sink.specs.Written.{LacksRoom, Written};
 ghost use Rattle.nom_sink.specs.declared.error.WriteError.{WriteError};
@@ -49,13 +49,15 @@ impl<'a, 'b, E: ParseError<&'a str>> Writer<&'a str> for Tag<&'b str, &'a str, E
 
     ghost reads = { λ p k c. text_tag_reads E.errors p.tag.now };
 
-    ghost leads = { λ p. fixed_leads (λ c. c) (text_items p.tag.now) (λ v xs f. f.0) (text_tag_refuses_others E.errors p.tag.now) };
+    ghost leads = { λ p. fixed_leads (λ c. c) (text_items p.tag.now) (λ v xs f. f.0) (text_tag_starts E.errors p.tag.now) };
 }
 
 impl<'a, 'b, E: ParseError<&'a str>> Constant<&'a str> for Tag<&'b str, &'a str, E> {
     ghost use Rattle.nom_write.specs.laws.TextReads.{text_tag_reads_some};
 
     ghost items = { λ p. text_items p.tag.now };
+
+    ghost Start = { λ p. lead_of (λ c. c) (text_items p.tag.now) };
 
     #[inline(always)]
     fn write_constant<S: Sink<char>>(&self, out: &mut S) -> Result<(), WriteError> {
@@ -64,5 +66,5 @@ impl<'a, 'b, E: ParseError<&'a str>> Constant<&'a str> for Tag<&'b str, &'a str,
 
     ghost accepts = { λ p k c. text_tag_reads_some E.errors p.tag.now };
 
-    ghost others = { λ p. text_tag_refuses_others E.errors p.tag.now };
+    ghost others = { λ p. text_tag_starts E.errors p.tag.now };
 }

@@ -23,7 +23,7 @@ impl<I: Items, P: Writer<I>, Q: Writer<I, Error = P::Error>> Writer<I> for (P, Q
 
     ghost Lead = { λ p. P.Lead p.0 };
 
-    #[inline]
+    #[inline(always)]
     fn write<X: Sink<I::Item>>(
         &self,
         value: &(P::Output, Q::Output),
@@ -56,7 +56,7 @@ impl<I: Items, P: Writer<I>, Q: Writer<I, Error = P::Error>, R: Writer<I, Error 
 
     ghost Lead = { λ p. P.Lead p.0 };
 
-    #[inline]
+    #[inline(always)]
     fn write<X: Sink<I::Item>>(
         &self,
         value: &(P::Output, Q::Output, R::Output),
@@ -100,7 +100,7 @@ impl<
 
     ghost Lead = { λ p. P.Lead p.0 };
 
-    #[inline]
+    #[inline(always)]
     fn write<X: Sink<I::Item>>(
         &self,
         value: &(P::Output, Q::Output, R::Output, S::Output),
@@ -149,7 +149,7 @@ impl<
 
     ghost Lead = { λ p. P.Lead p.0 };
 
-    #[inline]
+    #[inline(always)]
     fn write<X: Sink<I::Item>>(
         &self,
         value: &(P::Output, Q::Output, R::Output, S::Output, T::Output),
@@ -205,7 +205,7 @@ impl<
 
     ghost Lead = { λ p. P.Lead p.0 };
 
-    #[inline]
+    #[inline(always)]
     fn write<X: Sink<I::Item>>(
         &self,
         value: &(
@@ -287,7 +287,7 @@ impl<
 
     ghost Lead = { λ p. P.Lead p.0 };
 
-    #[inline]
+    #[inline(always)]
     fn write<X: Sink<I::Item>>(
         &self,
         value: &(
@@ -365,7 +365,7 @@ impl<
 
     ghost Lead = { λ p. P.Lead p.0 };
 
-    #[inline]
+    #[inline(always)]
     fn write<X: Sink<I::Item>>(
         &self,
         value: &(

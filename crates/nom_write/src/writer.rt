@@ -1,6 +1,6 @@
 //! The traits of parsers that also write.
-ghost use Rattle.std.specs.Prelude.{Option, None, ◌≡◌, ◌≤◌, ℕ, List, length};
-ghost use Rattle.nom_write.specs.Leads.{Leads, RefusesOthers, lead_of};
+ghost use Rattle.std.specs.Prelude.{Option, None, ◌≡◌, ◌≤◌, List, length};
+ghost use Rattle.nom_write.specs.Leads.{Leads, StartsWith, Words};
 ghost use Rattle.nom_write.specs.Reads.{Reads, ReadsSome};
 ghost use Rattle.nom_sink.specs.Written.{LacksRoom, Space, Written};
 
@@ -25,10 +25,12 @@ pub trait Writer<I: Items>: StreamParser<I> {
     /// What a caller of `write` must prove: that the form of each part may follow the part before it.
     ghost CanWrite: { Self → Type 0 } = { λ _. Unit {0} };
 
-    /// The codes of the items that forms begin with, if the parser alone determines them. The parser refuses any other first item.
+    /// What forms begin with, if the parser alone determines it: some words, each the codes of some items. The parser refuses as many
+    /// other items.
     ///
-    /// Branches are kept apart if their codes differ. The code of a byte is the byte, and that of a character its code point.
-    ghost Lead: { Self → Option (List ℕ) } = { λ _. None };
+    /// Branches are kept apart if their words differ. The code of a byte is the byte, that of a character its code point, and that of a
+    /// bit 1 or 0.
+    ghost Lead: { Self → Option Words } = { λ _. None };
 
     /// Adds a form of a value to `out`. On an error, `out` is as it was.
     fn write<S: Sink<I::Item>>(&self, value: &Self::Output, out: &mut S) -> Result<(), WriteError>
@@ -40,7 +42,7 @@ pub trait Writer<I: Items>: StreamParser<I> {
     ghost reads: { (p : Self) → (Self.grammar (Self.state p)).meaning.IsSound → CanWrite p → Reads I.model (Self.grammar (Self.state p))
         (Form p) (MayFollow p) };
 
-    /// Each form begins with an item of a code of `Lead`, and any other first item is refused.
+    /// Each form begins with a word of `Lead`, and other items are refused.
     ghost leads: { (p : Self) → Leads I.model I.Item.code (Self.grammar (Self.state p)) (Form p) (Lead p) };
 }
 
@@ -48,6 +50,9 @@ pub trait Writer<I: Items>: StreamParser<I> {
 pub trait Constant<I: Items>: StreamParser<I> {
     /// The items.
     ghost items: { Self → List I.Item };
+
+    /// What the items begin with, if it tells them apart: as for `Lead` of a `Writer`.
+    ghost Start: { Self → Option Words } = { λ _. None };
 
     /// What a caller of `write_constant` must prove: that the parser accepts the items.
     ghost Fits: { Self → Type 0 } = { λ _. Unit {0} };
@@ -61,6 +66,6 @@ pub trait Constant<I: Items>: StreamParser<I> {
     /// The items are accepted, whatever follows.
     ghost accepts: { (p : Self) → (Self.grammar (Self.state p)).meaning.IsSound → Fits p → ReadsSome I.model (Self.grammar (Self.state p)) (items p) };
 
-    /// Any other first item is refused.
-    ghost others: { (p : Self) → RefusesOthers I.model I.Item.code (Self.grammar (Self.state p)).meaning (lead_of I.Item.code (items p)) };
+    /// The items begin with a word of `Start`, and other items are refused.
+    ghost others: { (p : Self) → StartsWith I.model I.Item.code (Self.grammar (Self.state p)).meaning (items p) (Start p) };
 }

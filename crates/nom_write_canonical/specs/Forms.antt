@@ -1,55 +1,55 @@
 -- Formats with one form a value: whatever is accepted is a form of its output, and no value has two.
 use Rattle.std.specs.Prelude.{◌≡◌, ℕ, Bool, List, ◌++◌, Result, Ok, Err}
-use Rattle.nom_internal.specs.Prelude.{Accept, AreBytes, Grammar, IResult, Model, Outcome, ParsesMeaning, items_len}
+use Rattle.nom_internal.specs.Prelude.{Accept, AreValues, Grammar, IResult, Model, Outcome, ParsesMeaning, items_len}
 use Rattle.nom_sink.specs.declared.error.WriteError.{WriteError}
 use Rattle.nom_sink.specs.Choices.{IsUnfit}
 use Rattle.nom_sink.specs.Written.{SinkModel, Space, Written}
 
-module _ {I : Type 0} (w : Model I ℕ) (Fact : List ℕ → Type 0) (i : I) (n : ℕ) where
+module _ {I A : Type 0} (w : Model I A) (Fact : List A → Type 0) (i : I) (n : ℕ) where
   -- an input begins with items, of a length, of which the fact holds
   pub record HasFront : Type 0 where
-    pub front : List ℕ
-    pub rest : List ℕ
+    pub front : List A
+    pub rest : List A
     pub whole : w.elements i ≡ front ++ rest
     pub length_is : items_len w.item_len front ≡ n
     pub fact : Fact front
 
-module _ {I V : Type 0} (w : Model I ℕ) (P : I → Outcome V → Type 0) (Fact : V → List ℕ → Type 0) where
+module _ {I A V : Type 0} (w : Model I A) (P : I → Outcome V → Type 0) (Fact : V → List A → Type 0) where
   -- the items of each acceptance are such that the fact of its tree holds
   pub record AcceptsOnly : Type 0 where
     pub front : (i : I) (n : ℕ) (t : V) → w.IsKnown i → P i (Accept n t) → HasFront w (Fact t) i n
 
 -- items are a form of each output of a tree
-abbrev pub FormOf : {I V O E : Type 0} → Grammar I V O E → (O → List ℕ → Type 0) → V → List ℕ → Type 0
+abbrev pub FormOf : {I A V O E : Type 0} → Grammar I V O E → (O → List A → Type 0) → V → List A → Type 0
 FormOf {O = O} g Form t xs = (v : O) → g.IsOutput t v → Form v xs
 
-module _ {I V O E : Type 0} (w : Model I ℕ) (g : Grammar I V O E) (Form : O → List ℕ → Type 0) where
+module _ {I A V O E : Type 0} (w : Model I A) (g : Grammar I V O E) (Form : O → List A → Type 0) where
   -- in both modes whatever is accepted is a form of its outputs
   pub record AcceptsForms : Type 0 where
     pub accepts : (s : Bool) → AcceptsOnly w (g.meaning.answers s) (FormOf g Form)
 
-module _ {I V O E : Type 0} (w : Model I ℕ) (g : Grammar I V O E) (bytes : List ℕ) where
-  -- in both modes nothing is accepted but these bytes
-  pub record AcceptsBytes : Type 0 where
-    pub accepts : (s : Bool) → AcceptsOnly w (g.meaning.answers s) (λ _ xs. xs ≡ bytes)
+module _ {I A V O E : Type 0} (w : Model I A) (g : Grammar I V O E) (items : List A) where
+  -- in both modes nothing is accepted but these items
+  pub record AcceptsItems : Type 0 where
+    pub accepts : (s : Bool) → AcceptsOnly w (g.meaning.answers s) (λ _ xs. xs ≡ items)
 
--- no two lists of bytes are forms
-pub record IsOneForm (Form : List ℕ → Type 0) : Type 0 where
-  pub one : (xs ys : List ℕ) → AreBytes xs → AreBytes ys → Form xs → Form ys → xs ≡ ys
+-- no two lists of values, such as bytes, are forms
+pub record IsOneForm {A : Type 0} (IsValue : A → Type 0) (Form : List A → Type 0) : Type 0 where
+  pub one : (xs ys : List A) → AreValues IsValue xs → AreValues IsValue ys → Form xs → Form ys → xs ≡ ys
 
 -- No value that the second of two writes is one that the first writes: the first can't write it, whatever the room, and has no form of it.
-pub record Excludes {O : Type 0} (First : O → List ℕ → Type 0) (Fails : O → Space → WriteError → Type 0) (Second : O → List ℕ → Type 0) : Type 0 where
-  pub unfit : (v : O) (xs : List ℕ) → Second v xs → IsUnfit (Fails v)
-  pub apart : (v : O) (xs ys : List ℕ) → First v xs → Second v ys → ⊥
+pub record Excludes {O A : Type 0} (First : O → List A → Type 0) (Fails : O → Space → WriteError → Type 0) (Second : O → List A → Type 0) : Type 0 where
+  pub unfit : (v : O) (xs : List A) → Second v xs → IsUnfit (Fails v)
+  pub apart : (v : O) (xs ys : List A) → First v xs → Second v ys → ⊥
 
--- no value has two forms of bytes
-abbrev pub HasOneForm : {O : Type 0} → (O → List ℕ → Type 0) → Type 0
-HasOneForm {O} Form = (v : O) (xs ys : List ℕ) → AreBytes xs → AreBytes ys → Form v xs → Form v ys → xs ≡ ys
+-- no value has two forms
+abbrev pub HasOneForm : {O A : Type 0} → (A → Type 0) → (O → List A → Type 0) → Type 0
+HasOneForm {O} {A} IsValue Form = (v : O) (xs ys : List A) → AreValues IsValue xs → AreValues IsValue ys → Form v xs → Form v ys → xs ≡ ys
 
--- Bytes that are a form of an output of what was accepted are the items that were consumed.
-abbrev pub WritesBack : {I V O E : Type 0} → Model I ℕ → Grammar I V O E → (O → List ℕ → Type 0) → Type 0
-WritesBack {I} {O = O} w g Form = (streaming : Bool) (i j : I) (v : O) (xs : List ℕ) → w.IsKnown i →
-    ParsesMeaning w g.IsOutput g.meaning streaming i (Ok (j, v)) → AreBytes xs → Form v xs → w.elements i ≡ xs ++ w.elements j
+-- Items that are a form of an output of what was accepted are those that were consumed.
+abbrev pub WritesBack : {I A V O E : Type 0} → Model I A → (A → Type 0) → Grammar I V O E → (O → List A → Type 0) → Type 0
+WritesBack {I} {A} {O = O} w IsValue g Form = (streaming : Bool) (i j : I) (v : O) (xs : List A) → w.IsKnown i →
+    ParsesMeaning w g.IsOutput g.meaning streaming i (Ok (j, v)) → AreValues IsValue xs → Form v xs → w.elements i ≡ xs ++ w.elements j
 
 -- What came of an output that is written again, beside the parser's answer: the sink holds more just the items that were consumed, or it
 -- holds what it did. Where nothing was accepted, nothing is written.

@@ -1,8 +1,11 @@
 pub mod CaseForms
 pub mod ChoiceForms
+pub mod FieldForms
+pub mod GroupForms
 pub mod LeafForms
 pub mod ListForms
 pub mod NumberForms
 pub mod RunForms
 pub mod SeparatedForms
 pub mod SequenceForms
+pub mod TextForms

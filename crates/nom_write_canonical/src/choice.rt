@@ -9,7 +9,7 @@ use nom_internal::either::Or;
 use nom_traits::input::Items;
 
 impl<
-    I: Items<Item = u8>,
+    I: Items,
     F: Canonical<I> + Drop,
     G: Canonical<I, Output = F::Output, Error = F::Error> + Drop,
 > Canonical<I> for Or<F, G> {
@@ -20,11 +20,8 @@ impl<
     ghost one_form = { λ p c v. either_one ((c.2).apart v) (F.one_form p.first c.0 v) (G.one_form p.second c.1 v) };
 }
 
-impl<
-    I: Items<Item = u8>,
-    P: Canonical<I>,
-    Q: Canonical<I, Error = P::Error, Output = P::Output>,
-> Canonical<I> for Choice<(P, Q)> {
+impl<I: Items, P: Canonical<I>, Q: Canonical<I, Error = P::Error, Output = P::Output>> Canonical<I>
+    for Choice<(P, Q)> {
     ghost IsCanonical = { λ p. (P.IsCanonical p.parsers.0 × Q.IsCanonical p.parsers.1) × Excludes (P.Form p.parsers.0) (P.Fails p.parsers.0) (Q.Form
         p.parsers.1) };
 
@@ -35,7 +32,7 @@ impl<
 }
 
 impl<
-    I: Items<Item = u8>,
+    I: Items,
     P: Canonical<I>,
     Q: Canonical<I, Error = P::Error, Output = P::Output>,
     R: Canonical<I, Error = P::Error, Output = P::Output>,
@@ -53,7 +50,7 @@ impl<
 }
 
 impl<
-    I: Items<Item = u8>,
+    I: Items,
     P: Canonical<I>,
     Q: Canonical<I, Error = P::Error, Output = P::Output>,
     R: Canonical<I, Error = P::Error, Output = P::Output>,
@@ -76,7 +73,7 @@ impl<
 }
 
 impl<
-    I: Items<Item = u8>,
+    I: Items,
     P: Canonical<I>,
     Q: Canonical<I, Error = P::Error, Output = P::Output>,
     R: Canonical<I, Error = P::Error, Output = P::Output>,
@@ -104,7 +101,7 @@ impl<
 }
 
 impl<
-    I: Items<Item = u8>,
+    I: Items,
     P: Canonical<I>,
     Q: Canonical<I, Error = P::Error, Output = P::Output>,
     R: Canonical<I, Error = P::Error, Output = P::Output>,
@@ -139,7 +136,7 @@ impl<
 }
 
 impl<
-    I: Items<Item = u8>,
+    I: Items,
     P: Canonical<I>,
     Q: Canonical<I, Error = P::Error, Output = P::Output>,
     R: Canonical<I, Error = P::Error, Output = P::Output>,
@@ -181,7 +178,7 @@ impl<
 }
 
 impl<
-    I: Items<Item = u8>,
+    I: Items,
     P: Canonical<I>,
     Q: Canonical<I, Error = P::Error, Output = P::Output>,
     R: Canonical<I, Error = P::Error, Output = P::Output>,

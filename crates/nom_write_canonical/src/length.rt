@@ -36,8 +36,7 @@ impl CanonicalSize for usize {
     ghost one_number = { λ a b e. e };
 }
 
-impl<I: UnitItems<Item = u8>, F: Canonical<I, Output: CanonicalSize> + Drop> Canonical<I>
-    for LengthData<F> {
+impl<I: UnitItems, F: Canonical<I, Output: CanonicalSize> + Drop> Canonical<I> for LengthData<F> {
     ghost IsCanonical = { λ p. F.IsCanonical p.parser };
 
     ghost accepts_forms = { λ p c. length_data_accepts I.lawful F.Error.errors F.Output.size (F.accepts_forms p.parser c) I.lack };
@@ -46,7 +45,7 @@ impl<I: UnitItems<Item = u8>, F: Canonical<I, Output: CanonicalSize> + Drop> Can
 }
 
 impl<
-    I: Items<Item = u8>,
+    I: Items,
     M: Allocator + Copy,
     F: Canonical<I, Output: CanonicalSize> + Drop,
     G: Canonical<I, Error = F::Error> + Drop,

@@ -9,8 +9,7 @@ use nom_multi::{Count, Many0, SeparatedList1};
 use nom_traits::input::{Input, Items};
 use std::alloc::Allocator;
 
-impl<I: Input<Item = u8>, M: Allocator + Copy, G: Canonical<I> + Drop> Canonical<I>
-    for Many0<M, G> {
+impl<I: Input, M: Allocator + Copy, G: Canonical<I> + Drop> Canonical<I> for Many0<M, G> {
     ghost IsCanonical = { λ p. G.IsCanonical p.parser };
 
     ghost accepts_forms = { λ p c. many0_accepts I.lawful G.Error.errors (G.accepts_forms p.parser c) };
@@ -18,8 +17,7 @@ impl<I: Input<Item = u8>, M: Allocator + Copy, G: Canonical<I> + Drop> Canonical
     ghost one_form = { λ p c v. each_one true (G.one_form p.parser c) v.items };
 }
 
-impl<I: Items<Item = u8>, M: Allocator + Copy, G: Canonical<I> + Drop> Canonical<I>
-    for Count<M, G> {
+impl<I: Items, M: Allocator + Copy, G: Canonical<I> + Drop> Canonical<I> for Count<M, G> {
     ghost IsCanonical = { λ p. G.IsCanonical p.parser };
 
     ghost accepts_forms = { λ p c. count_accepts I.lawful G.Error.errors (G.accepts_forms p.parser c) p.count };
@@ -28,14 +26,14 @@ impl<I: Items<Item = u8>, M: Allocator + Copy, G: Canonical<I> + Drop> Canonical
 }
 
 impl<
-    I: Input<Item = u8>,
+    I: Input,
     M: Allocator + Copy,
     C: CanonicalConstant<I> + Drop,
     G: Canonical<I, Error = C::Error> + Drop,
 > Canonical<I> for SeparatedList1<M, C, G> {
     ghost IsCanonical = { λ p. G.IsCanonical p.next.second };
 
-    ghost accepts_forms = { λ p c. separated_list1_accepts I.lawful C.Error.errors (C.accepts_bytes p.next.first) (G.accepts_forms p.next.second c) };
+    ghost accepts_forms = { λ p c. separated_list1_accepts I.lawful C.Error.errors (C.accepts_items p.next.first) (G.accepts_forms p.next.second c) };
 
     ghost one_form = { λ p c v. separated_one (C.items p.next.first) (G.one_form p.next.second c) v.items };
 }

@@ -3,7 +3,7 @@ ghost use Rattle.std.specs.Prelude.{◌∷◌, []};
 ghost use Rattle.nom_number.specs.Numbers.{binary_number};
 ghost use Rattle.nom_write_canonical.specs.laws.LeafForms.{number_accepts};
 ghost use Rattle.nom_write_canonical.specs.laws.NumberForms.{AreBitsOf, binary_one, byte_accepts, signed_bits};
-ghost use Rattle.nom_write_canonical.specs.laws.SequenceForms.{bytes_one};
+ghost use Rattle.nom_write_canonical.specs.laws.SequenceForms.{items_one};
 
 use crate::canonical::Canonical;
 use nom_error::value::ParseError;
@@ -15,7 +15,7 @@ use nom_traits::input::Input;
 impl<I: Input<Item = u8>, E: ParseError<I>> Canonical<I> for BeU8<I, E> {
     ghost accepts_forms = { λ p c. byte_accepts I.model E.errors };
 
-    ghost one_form = { λ p c v. bytes_one (v ∷ []) };
+    ghost one_form = { λ p c v. items_one (v ∷ []) };
 }
 
 /// A layout in which different bits are different numbers.

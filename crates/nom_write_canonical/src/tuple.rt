@@ -4,8 +4,7 @@ ghost use Rattle.nom_write_canonical.specs.laws.SequenceForms.{both_one, pair_ac
 use crate::canonical::Canonical;
 use nom_traits::input::Items;
 
-impl<I: Items<Item = u8>, P: Canonical<I>, Q: Canonical<I, Error = P::Error>> Canonical<I>
-    for (P, Q) {
+impl<I: Items, P: Canonical<I>, Q: Canonical<I, Error = P::Error>> Canonical<I> for (P, Q) {
     ghost IsCanonical = { λ p. P.IsCanonical p.0 × Q.IsCanonical p.1 };
 
     ghost accepts_forms = { λ p c. tuple_accepts (λ o. (o.0, o.1)) (pair_accepts I.lawful (P.accepts_forms p.0 c.0) (Q.accepts_forms p.1 c.1)) };
@@ -14,7 +13,7 @@ impl<I: Items<Item = u8>, P: Canonical<I>, Q: Canonical<I, Error = P::Error>> Ca
 }
 
 impl<
-    I: Items<Item = u8>,
+    I: Items,
     P: Canonical<I>,
     Q: Canonical<I, Error = P::Error>,
     R: Canonical<I, Error = P::Error>,
@@ -28,7 +27,7 @@ impl<
 }
 
 impl<
-    I: Items<Item = u8>,
+    I: Items,
     P: Canonical<I>,
     Q: Canonical<I, Error = P::Error>,
     R: Canonical<I, Error = P::Error>,
@@ -45,7 +44,7 @@ impl<
 }
 
 impl<
-    I: Items<Item = u8>,
+    I: Items,
     P: Canonical<I>,
     Q: Canonical<I, Error = P::Error>,
     R: Canonical<I, Error = P::Error>,
@@ -63,7 +62,7 @@ impl<
 }
 
 impl<
-    I: Items<Item = u8>,
+    I: Items,
     P: Canonical<I>,
     Q: Canonical<I, Error = P::Error>,
     R: Canonical<I, Error = P::Error>,
@@ -83,7 +82,7 @@ impl<
 }
 
 impl<
-    I: Items<Item = u8>,
+    I: Items,
     P: Canonical<I>,
     Q: Canonical<I, Error = P::Error>,
     R: Canonical<I, Error = P::Error>,
@@ -105,7 +104,7 @@ impl<
 }
 
 impl<
-    I: Items<Item = u8>,
+    I: Items,
     P: Canonical<I>,
     Q: Canonical<I, Error = P::Error>,
     R: Canonical<I, Error = P::Error>,

@@ -7,7 +7,7 @@ use nom_combinator::{Context, Cut, Opt};
 use nom_error::outside::ContextError;
 use nom_traits::input::Items;
 
-impl<I: Items<Item = u8>, F: Canonical<I> + Drop> Canonical<I> for Cut<F> {
+impl<I: Items, F: Canonical<I> + Drop> Canonical<I> for Cut<F> {
     ghost IsCanonical = { λ p. F.IsCanonical p.parser };
 
     ghost accepts_forms = { λ p c. cut_accepts (F.accepts_forms p.parser c) };
@@ -15,7 +15,7 @@ impl<I: Items<Item = u8>, F: Canonical<I> + Drop> Canonical<I> for Cut<F> {
     ghost one_form = { λ p c v. F.one_form p.parser c v };
 }
 
-impl<I: Items<Item = u8>, F: Canonical<I> + Drop> Canonical<I> for Opt<F> {
+impl<I: Items, F: Canonical<I> + Drop> Canonical<I> for Opt<F> {
     ghost IsCanonical = { λ p. F.IsCanonical p.parser };
 
     ghost accepts_forms = { λ p c. opt_accepts (F.accepts_forms p.parser c) };
@@ -23,7 +23,7 @@ impl<I: Items<Item = u8>, F: Canonical<I> + Drop> Canonical<I> for Opt<F> {
     ghost one_form = { λ p c v. opt_one (F.one_form p.parser c) v };
 }
 
-impl<I: Items<Item = u8>, F: Canonical<I> + Drop> Canonical<I> for Context<F>
+impl<I: Items, F: Canonical<I> + Drop> Canonical<I> for Context<F>
 where
     F::Error: ContextError<I>,
 {

@@ -1,12 +1,12 @@
 -- What is read of a first value, and then of one by the parser that is given for the first.
-use Rattle.std.specs.Prelude.{◌≡◌, ℕ, Bool, true, List, ◌++◌, Option, Some, refl}
+use Rattle.std.specs.Prelude.{ℕ, Bool, true, List, ◌++◌, Option, refl}
 use Rattle.std.proofs.Common.{sym, ◌∙◌}
 use Rattle.nom_error.specs.Modes.{with_outputs}
-use Rattle.nom_internal.specs.Prelude.{Model, InputLaws, Grammar, IsOne, labelled}
+use Rattle.nom_internal.specs.Prelude.{Model, InputLaws, Grammar, labelled}
 use Rattle.nom_internal.specs.FlatMap.{GivesState, IsGiven, Maker, MakesOne, flat_map_by, given_family, states_family}
 use Rattle.nom_sink.specs.Parts.{Meets}
 use Rattle.nom_write.specs.FlatMaps.{FlatMapForm, OfEachSecond}
-use Rattle.nom_write.specs.Leads.{Leads}
+use Rattle.nom_write.specs.Leads.{Leads, Words}
 use Rattle.nom_write.specs.Reads.{Reads, ReadsBefore}
 use Rattle.nom_write.specs.laws.ChoiceReads.{become_reads}
 use Rattle.nom_write.specs.laws.LeadLaws.{begins_as, begins_before, then_refuses}
@@ -55,7 +55,7 @@ module _ {I A P O H S Q R E : Type 0} {w : Model I A} (give : Maker O H S) {g : 
             }) ((q parser (k.sound u x parser is given) owed.0).reads v parts.back parts.second.2 s))))
 
   -- it begins as the first value does
-  pub flat_map_leads : (code : A → ℕ) {lead : Option (List ℕ)} → Leads w code g FirstForm lead →
+  pub flat_map_leads : (code : A → ℕ) {lead : Option Words} → Leads w code g FirstForm lead →
       Leads w code (flat_map_by w give g h) (FlatMapForm Back give.Gives FirstForm SecondForm) lead
   flat_map_leads code {lead} p = record {
     begins = λ bs e v xs f.

@@ -1,7 +1,7 @@
 -- Which codes forms begin with, by those of the parts.
-use Rattle.std.specs.Prelude.{◌≡◌, ℕ, Bool, true, false, eqb, ◌||◌, ◌&&◌, not, List, [], ◌∷◌, ◌++◌, length, Option, Some, None, refl}
-use Rattle.std.proofs.Common.{sym, ◌∙◌, ap, subst, inl, inr}
-use Rattle.std.proofs.lemmas.Bool.{eq-eqb, eqb-true}
+use Rattle.std.specs.Prelude.{◌≡◌, ℕ, Bool, true, false, cond, eqb, ◌&&◌, List, [], ◌∷◌, ◌++◌, length, map, Option, Some, None, refl}
+use Rattle.std.proofs.Common.{sym, ◌∙◌, ap, subst, inl, inr, append-nil, append_assoc}
+use Rattle.std.proofs.lemmas.Bool.{eq-eqb}
 use Rattle.std.specs.Borrow.{Bor}
 use Rattle.nom_internal.specs.Prelude.{Errors, Family, GoesOn, GoesOnRefused, Grammar, Meaning, Model, Modes, OnPart, Outcome, Accept, Refuse, Stop}
 use Rattle.nom_internal.specs.Prelude.{Fails, Needs, bytes_model, ComparesBytes, then_meaning, labelled, either_of, always, with_outputs}
@@ -15,7 +15,8 @@ use Rattle.nom_error.specs.Errors.{Contexts}
 use Rattle.nom_sink.specs.declared.error.WriteError.{WriteError}
 use Rattle.nom_sink.specs.Choices.{Either, EitherFails}
 use Rattle.nom_write.specs.Choices.{Apart}
-use Rattle.nom_write.specs.Leads.{BeginsWith, Differ, Leads, RefusesOthers, are_others, either_lead, is_among, lead_of}
+use Rattle.nom_write.specs.Leads.{BeginsWith, Differ, IsAmong, Leads, RefusesOthers, StartsWith, Words}
+use Rattle.nom_write.specs.Leads.{are_others, are_unlike, either_lead, is_unlike, lead_of, whole_lead}
 use Rattle.nom_sink.specs.Parts.{Both}
 use Rattle.nom_write.specs.Reads.{NoItem}
 use Rattle.nom_sink.specs.Written.{Space}
@@ -24,38 +25,40 @@ use Rattle.nom_sink.specs.Written.{Space}
 pub no_lead : {I A V O E : Type 0} {w : Model I A} {code : A → ℕ} {g : Grammar I V O E} {Form : O → List A → Type 0} → Leads w code g Form None
 no_lead = record { begins = λ bs e. absurd (cc (e)); others = record { refuses = λ bs e. absurd (cc (e)) } }
 
-both_true : (a b : Bool) → (not a && b) ≡ true → (a ≡ false) × (b ≡ true)
-both_true true b h = absurd (cc (h))
-both_true false b h = (refl, h)
+-- nor of items
+pub no_start : {I A V E : Type 0} {w : Model I A} {code : A → ℕ} {m : Meaning I V E} {items : List A} → StartsWith w code m items None
+no_start = record { begins = λ bs e. absurd (cc (e)); others = record { refuses = λ bs e. absurd (cc (e)) } }
 
--- a code that is one of the others is none of the first
-is_other : (bs cs : List ℕ) (c : ℕ) → are_others bs cs ≡ true → is_among cs c ≡ true → is_among bs c ≡ false
-is_other bs [] c o h = absurd (cc (h))
-is_other bs (d ∷ cs) c o h = one (eqb d c) refl h (is_other bs cs c now.1)
-  where
-    now : (is_among bs d ≡ false) × (are_others bs cs ≡ true)
-    now = both_true (is_among bs d) (are_others bs cs) o
+both_true : (a b : Bool) → (a && b) ≡ true → (a ≡ true) × (b ≡ true)
+both_true true b h = (refl, h)
+both_true false b h = absurd (cc (h))
 
-    one : (b : Bool) → eqb d c ≡ b → (b || is_among cs c) ≡ true → (is_among cs c ≡ true → is_among bs c ≡ false) → is_among bs c ≡ false
-    one true e k later = ap (λ z. is_among bs z) {x = c} {y = d} (sym (eqb-true d c e)) ∙ now.0
-    one false e k later = later k
+and_true : (a b : Bool) → a ≡ true → b ≡ true → (a && b) ≡ true
+and_true true b h k = k
+and_true false b h k = absurd (cc (h))
+
+-- one of the others is none of the first
+is_other : (bs cs : Words) (c : List ℕ) → are_others bs cs ≡ true → IsAmong cs c → are_unlike bs c ≡ true
+is_other bs [] c o h = absurd h
+is_other bs (d ∷ cs) c o (inl e) = subst (λ z. are_unlike bs z ≡ true) e (both_true (are_unlike bs d) (are_others bs cs) o).0
+is_other bs (d ∷ cs) c o (inr h) = is_other bs cs c (both_true (are_unlike bs d) (are_others bs cs) o).1 h
 
 module _ {I A V U O E : Type 0} {w : Model I A} {code : A → ℕ} {g : Grammar I V O E} {h : Grammar I U O E} {First Second : O → List A → Type 0} where
-  told_apart : (bs cs : List ℕ) → Leads w code g First (Some bs) → Leads w code h Second (Some cs) → are_others bs cs ≡ true →
+  told_apart : (bs cs : Words) → Leads w code g First (Some bs) → Leads w code h Second (Some cs) → are_others bs cs ≡ true →
       Apart w g.meaning (λ xs. (v : O) × Second v xs)
   told_apart bs cs p q o = record {
     refuses = λ xs rest k.
         let b : BeginsWith code cs xs = q.begins cs refl k.0 xs k.1 in
-        let none = is_other bs cs (code b.item) o b.is_one in
-        subst (λ z. NoItem w g.meaning z) (ap (λ z. z ++ rest) (sym b.whole)) (p.others.refuses bs refl b.item (b.more ++ rest) none);
+        let whole : b.front ++ (b.more ++ rest) ≡ xs ++ rest = sym (ap (λ z. z ++ rest) b.whole ∙ append_assoc b.front b.more rest) in
+        subst (λ z. NoItem w g.meaning z) whole (p.others.refuses bs refl b.front (b.more ++ rest) (is_other bs cs (map code b.front) o b.is_one));
   }
 
-  -- what begins with a code of the second's the first refuses
-  pub differ_apart : {a b : Option (List ℕ)} → Leads w code g First a → Leads w code h Second b → Differ a b (Apart w g.meaning (λ xs. (v : O) × Second v xs)) →
+  -- what begins with a word of the second's the first refuses
+  pub differ_apart : {a b : Option Words} → Leads w code g First a → Leads w code h Second b → Differ a b (Apart w g.meaning (λ xs. (v : O) × Second v xs)) →
       Apart w g.meaning (λ xs. (v : O) × Second v xs)
   differ_apart {a} {b} p q d = by a b p q d
     where
-      by : (a b : Option (List ℕ)) → Leads w code g First a → Leads w code h Second b → Differ a b (Apart w g.meaning (λ xs. (v : O) × Second v xs)) →
+      by : (a b : Option Words) → Leads w code g First a → Leads w code h Second b → Differ a b (Apart w g.meaning (λ xs. (v : O) × Second v xs)) →
           Apart w g.meaning (λ xs. (v : O) × Second v xs)
       by (Some bs) (Some cs) p q d = told_apart bs cs p q d
       by (Some bs) None p q d = d
@@ -64,75 +67,102 @@ module _ {I A V U O E : Type 0} {w : Model I A} {code : A → ℕ} {g : Grammar 
 heads : {A : Type 0} (a b : A) (xs ys : List A) → a ∷ xs ≡ b ∷ ys → a ≡ b
 heads a b xs ys e = cc (e)
 
--- the head of the tag has another code than the item
-other_item : {A : Type 0} (code : A → ℕ) (a c : A) → is_among (code a ∷ []) (code c) ≡ false → a ≡ c → ⊥
-other_item code a c h e = absurd (cc (both (eqb (code a) (code c)) false h, eq-eqb (code a) (code c) (ap code e)))
+-- items are told apart by the first, where whatever begins with another is refused
+pub first_starts : {I A V E : Type 0} {w : Model I A} (code : A → ℕ) (m : Meaning I V E) (items : List A) →
+    ((a : A) (more : List A) → items ≡ a ∷ more → (c : A) (rest : List A) → eqb (code a) (code c) ≡ false → NoItem w m (c ∷ rest)) →
+    StartsWith w code m items (lead_of code items)
+first_starts code m [] f = no_start
+first_starts {A = A} {w = w} code m (a ∷ more) f = record {
+  begins = λ bs e. record { front = a ∷ []; more = more; whole = refl; is_one = subst (λ z. IsAmong z (code a ∷ [])) {x = one} {y = bs} (cc (e)) (inl refl) };
+  others = record { refuses = λ bs e front rest h. other front rest (subst (λ z. are_unlike z (map code front) ≡ true) {x = bs} {y = one} (cc (e)) h) };
+}
   where
-    both : (b c : Bool) → (b || c) ≡ false → b ≡ false
-    both true c h = h
-    both false c h = refl
+    one : Words
+    one = (code a ∷ []) ∷ []
+
+    differs : (b : Bool) → (cond b false true && true) ≡ true → b ≡ false
+    differs true h = absurd (cc (h))
+    differs false h = refl
+
+    other : (front rest : List A) → are_unlike one (map code front) ≡ true → NoItem w m (front ++ rest)
+    other [] rest h = absurd (cc (h))
+    other (c ∷ cs) rest h = f a more refl c (cs ++ rest) (differs (eqb (code a) (code c)) h)
+
+-- and by all of them, where as many others are refused
+pub whole_starts : {I A V E : Type 0} {w : Model I A} (code : A → ℕ) (m : Meaning I V E) (items : List A) →
+    ((front rest : List A) → is_unlike (map code items) (map code front) ≡ true → NoItem w m (front ++ rest)) →
+    StartsWith w code m items (whole_lead code items)
+whole_starts code m [] f = no_start
+whole_starts code m (a ∷ more) f = record {
+  begins = λ bs e. record {
+    front = a ∷ more;
+    more = [];
+    whole = sym (append-nil (a ∷ more));
+    is_one = subst (λ z. IsAmong z (map code (a ∷ more))) {x = map code (a ∷ more) ∷ []} {y = bs} (cc (e)) (inl refl);
+  };
+  others = record {
+    refuses = λ bs e front rest h. f front rest (both_true (is_unlike (map code (a ∷ more)) (map code front)) true
+        (subst (λ z. are_unlike z (map code front) ≡ true) {x = bs} {y = map code (a ∷ more) ∷ []} (cc (e)) h)).0;
+  };
+}
+
+-- an item of another code is another
+pub other_item : {A : Type 0} (code : A → ℕ) (a c : A) → eqb (code a) (code c) ≡ false → a ≡ c → ⊥
+other_item code a c h e = absurd (cc (h, eq-eqb (code a) (code c) (ap code e)))
 
 -- a tag begins with its first byte
 module _ {E : Type 0} (errs : Errors (Bor (List ℕ)) E) where
-  tag_refuses : (a : ℕ) (more : List ℕ) (c : ℕ) (rest : List ℕ) → is_among (a ∷ []) c ≡ false →
-      NoItem bytes_model (tag_meaning bytes_model errs length ComparesBytes (a ∷ more)) (c ∷ rest)
-  tag_refuses a more c rest h s i (Accept n t) known e k =
+  tag_refuses : (tag : List ℕ) (a : ℕ) (more : List ℕ) → tag ≡ a ∷ more → (c : ℕ) (rest : List ℕ) → eqb a c ≡ false →
+      NoItem bytes_model (tag_meaning bytes_model errs length ComparesBytes tag) (c ∷ rest)
+  tag_refuses tag a more is c rest h s i (Accept n t) known e k =
       let found = k.2 in
-      let both : (a ∷ more) ++ found.rest ≡ c ∷ rest = ap (λ zs. zs ++ found.rest) (sym found.tag_is) ∙ (sym found.whole ∙ e) in
+      let both : (a ∷ more) ++ found.rest ≡ c ∷ rest = ap (λ zs. zs ++ found.rest) (sym is ∙ sym found.tag_is) ∙ (sym found.whole ∙ e) in
       absurd (other_item (λ x. x) a c h (heads a c (more ++ found.rest) rest both))
-  tag_refuses a more c rest h s i Refuse known e k = refl
-  tag_refuses a more c rest h s i (Stop (Fails cause)) known e k = absurd k
-  tag_refuses a more c rest h s i (Stop (Needs m)) known e k =
+  tag_refuses tag a more is c rest h s i Refuse known e k = refl
+  tag_refuses tag a more is c rest h s i (Stop (Fails cause)) known e k = absurd k
+  tag_refuses tag a more is c rest h s i (Stop (Needs m)) known e k =
       let begun = k.1.0 in
-      let both : a ∷ more ≡ c ∷ (rest ++ (begun.byte ∷ begun.more)) = begun.tag_is ∙ ap (λ zs. zs ++ (begun.byte ∷ begun.more)) e in
+      let both : a ∷ more ≡ c ∷ (rest ++ (begun.byte ∷ begun.more)) = sym is ∙ (begun.tag_is ∙ ap (λ zs. zs ++ (begun.byte ∷ begun.more)) e) in
       absurd (other_item (λ x. x) a c h (heads a c more (rest ++ (begun.byte ∷ begun.more)) both))
 
-  pub tag_refuses_others : (tag : List ℕ) →
-      RefusesOthers bytes_model (λ x. x) (tag_meaning bytes_model errs length ComparesBytes tag) (lead_of (λ x. x) tag)
-  tag_refuses_others [] = record { refuses = λ bs e. absurd (cc (e)) }
-  tag_refuses_others (a ∷ more) = record {
-    refuses = λ bs e c rest h. tag_refuses a more c rest (subst (λ z. is_among z c ≡ false) {x = bs} {y = a ∷ []} (cc (e)) h);
-  }
+  pub tag_starts : (tag : List ℕ) → StartsWith bytes_model (λ x. x) (tag_meaning bytes_model errs length ComparesBytes tag) tag (lead_of (λ x. x) tag)
+  tag_starts tag = first_starts (λ x. x) (tag_meaning bytes_model errs length ComparesBytes tag) tag (tag_refuses tag)
 
 module _ {A : Type 0} (code : A → ℕ) where
-  lead_begins : (items : List A) (bs : List ℕ) → lead_of code items ≡ Some bs → BeginsWith code bs items
-  lead_begins [] bs e = absurd (cc (e))
-  lead_begins (a ∷ more) bs e = record {
-    item = a;
-    more = more;
-    whole = refl;
-    is_one = subst (λ z. is_among z (code a) ≡ true) {x = code a ∷ []} {y = bs} (cc (e)) (ap (λ b. b || false) (eq-eqb (code a) (code a) refl));
-  }
-
-  pub begins_as : (bs : List ℕ) (xs ys : List A) → xs ≡ ys → BeginsWith code bs ys → BeginsWith code bs xs
+  pub begins_as : (bs : Words) (xs ys : List A) → xs ≡ ys → BeginsWith code bs ys → BeginsWith code bs xs
   begins_as bs xs ys e b = subst (BeginsWith code bs) (sym e) b
 
-  pub begins_before : (bs : List ℕ) (front back : List A) → BeginsWith code bs front → BeginsWith code bs (front ++ back)
-  begins_before bs front back b = record { item = b.item; more = b.more ++ back; whole = ap (λ z. z ++ back) b.whole; is_one = b.is_one }
+  pub begins_before : (bs : Words) (front back : List A) → BeginsWith code bs front → BeginsWith code bs (front ++ back)
+  begins_before bs front back b = record {
+    front = b.front;
+    more = b.more ++ back;
+    whole = ap (λ z. z ++ back) b.whole ∙ append_assoc b.front b.more back;
+    is_one = b.is_one;
+  }
 
   -- forms that are some items
-  pub fixed_leads : {I V O E : Type 0} {w : Model I A} {g : Grammar I V O E} {Form : O → List A → Type 0} (items : List A) → ((v : O) (xs : List A) →
-      Form v xs → xs ≡ items) → RefusesOthers w code g.meaning (lead_of code items) → Leads w code g Form (lead_of code items)
-  fixed_leads items is others = record { begins = λ bs e v xs f. begins_as bs xs items (is v xs f) (lead_begins items bs e); others = others }
+  pub fixed_leads : {I V O E : Type 0} {w : Model I A} {g : Grammar I V O E} {Form : O → List A → Type 0} {lead : Option Words} (items : List A) →
+      ((v : O) (xs : List A) → Form v xs → xs ≡ items) → StartsWith w code g.meaning items lead → Leads w code g Form lead
+  fixed_leads items is p = record { begins = λ bs e v xs f. begins_as bs xs items (is v xs f) (p.begins bs e); others = p.others }
 
 -- a part, and then what its tree says, refuses what the part refuses
 pub then_refuses : {I A P Q T E : Type 0} (w : Model I A) (code : A → ℕ) (tree : P → Q → T) (first next : Modes → Modes) (m : Meaning I P E)
-    (f : Family P I Q E) (lead : Option (List ℕ)) → RefusesOthers w code m lead → RefusesOthers w code (then_meaning w tree first next m f) lead
+    (f : Family P I Q E) (lead : Option Words) → RefusesOthers w code m lead → RefusesOthers w code (then_meaning w tree first next m f) lead
 then_refuses w code tree first next m f lead p = record {
-  refuses = λ bs e c rest h s i o known el a. subst (λ z. GoesOn w tree (λ u. (f.at u).answers s) i z o)
-      (p.refuses bs e c rest h s i a.first known el a.answered) a.goes_on;
+  refuses = λ bs e front rest h s i o known el a. subst (λ z. GoesOn w tree (λ u. (f.at u).answers s) i z o)
+      (p.refuses bs e front rest h s i a.first known el a.answered) a.goes_on;
 }
 
 -- a part whose refusals stay refusals
-pub case_refuses : {I A P T E F : Type 0} (w : Model I A) (code : A → ℕ) (m : Meaning I P E) (n : Meaning I T F) (lead : Option (List ℕ))
+pub case_refuses : {I A P T E F : Type 0} (w : Model I A) (code : A → ℕ) (m : Meaning I P E) (n : Meaning I T F) (lead : Option Words)
     (stays : (s : Bool) (i : I) (o : Outcome T) → n.answers s i o → (a : Outcome P) × m.answers s i a × (a ≡ Refuse → o ≡ Refuse)) →
     RefusesOthers w code m lead → RefusesOthers w code n lead
 case_refuses w code m n lead stays p = record {
-  refuses = λ bs e c rest h s i o known el a.
-      let k = stays s i o a in k.2 (p.refuses bs e c rest h s i k.0 known el k.1);
+  refuses = λ bs e front rest h s i o known el a.
+      let k = stays s i o a in k.2 (p.refuses bs e front rest h s i k.0 known el k.1);
 }
 
-module _ {I A V O E : Type 0} {w : Model I A} {code : A → ℕ} {g : Grammar I V O E} {Form : O → List A → Type 0} {lead : Option (List ℕ)}
+module _ {I A V O E : Type 0} {w : Model I A} {code : A → ℕ} {g : Grammar I V O E} {Form : O → List A → Type 0} {lead : Option Words}
     (p : Leads w code g Form lead) where
   -- what stands before other items
   pub both_leads : {Next : O → List A → Type 0} → Leads w code g (λ v. Both (Form v) (Next v)) lead
@@ -194,33 +224,29 @@ module _ {I A V O E : Type 0} {w : Model I A} {code : A → ℕ} {g : Grammar I 
 
 -- items, and then a form
 pub preceded_leads : {I A V U O P E : Type 0} {w : Model I A} (code : A → ℕ) (g : Grammar I V O E) {h : Grammar I U P E} {NextForm : P → List A → Type 0}
-    (items : List A) → RefusesOthers w code g.meaning (lead_of code items) →
-    Leads w code (preceded_of w g h) (λ v. Both (λ ys. ys ≡ items) (NextForm v)) (lead_of code items)
-preceded_leads {w = w} code g {h} items p = record {
+    {lead : Option Words} (items : List A) → StartsWith w code g.meaning items lead →
+    Leads w code (preceded_of w g h) (λ v. Both (λ ys. ys ≡ items) (NextForm v)) lead
+preceded_leads {w = w} code g {h} {lead = lead} items p = record {
   begins = λ bs e v xs f. begins_as code bs xs (f.front ++ f.back) f.whole
-      (begins_before code bs f.front f.back (begins_as code bs f.front items f.first (lead_begins code items bs e)));
-  others = then_refuses w code (λ u v. v) (with_outputs false) (λ o. o) g.meaning (always h.meaning) (lead_of code items) p;
+      (begins_before code bs f.front f.back (begins_as code bs f.front items f.first (p.begins bs e)));
+  others = then_refuses w code (λ u v. v) (with_outputs false) (λ o. o) g.meaning (always h.meaning) lead p.others;
 }
 
-among_both : (bs cs : List ℕ) (c : ℕ) → is_among (bs ++ cs) c ≡ (is_among bs c || is_among cs c)
-among_both [] cs c = refl
-among_both (b ∷ bs) cs c = ap (λ z. eqb b c || z) (among_both bs cs c) ∙ grouped (eqb b c) (is_among bs c) (is_among cs c)
-  where
-    grouped : (x y z : Bool) → (x || (y || z)) ≡ ((x || y) || z)
-    grouped true y z = refl
-    grouped false y z = refl
+among_left : (bs cs : Words) (c : List ℕ) → IsAmong bs c → IsAmong (bs ++ cs) c
+among_left [] cs c h = absurd h
+among_left (b ∷ bs) cs c (inl e) = inl e
+among_left (b ∷ bs) cs c (inr h) = inr (among_left bs cs c h)
 
-or_left : (x y : Bool) → x ≡ true → (x || y) ≡ true
-or_left true y h = refl
-or_left false y h = absurd (cc (h))
+among_right : (bs cs : Words) (c : List ℕ) → IsAmong cs c → IsAmong (bs ++ cs) c
+among_right [] cs c h = h
+among_right (b ∷ bs) cs c h = inr (among_right bs cs c h)
 
-or_right : (x y : Bool) → y ≡ true → (x || y) ≡ true
-or_right true y h = refl
-or_right false y h = h
-
-or_none : (x y : Bool) → (x || y) ≡ false → (x ≡ false) × (y ≡ false)
-or_none true y h = absurd (cc (h))
-or_none false y h = (refl, h)
+-- unlike words of both
+unlike_both : (bs cs : Words) (c : List ℕ) → are_unlike (bs ++ cs) c ≡ true → (are_unlike bs c ≡ true) × (are_unlike cs c ≡ true)
+unlike_both [] cs c h = (refl, h)
+unlike_both (b ∷ bs) cs c h =
+    let here = both_true (is_unlike b c) (are_unlike (bs ++ cs) c) h in
+    let more = unlike_both bs cs c here.1 in (and_true (is_unlike b c) (are_unlike bs c) here.0 more.0, more.1)
 
 labelled_refused : {I A P T : Type 0} (w : Model I A) (label : P → T) (F : I → Outcome P → Type 0) (xs : List A) (i : I) (o : Outcome T) → w.IsKnown i →
     w.elements i ≡ xs → ((i : I) (o : Outcome P) → w.IsKnown i → w.elements i ≡ xs → F i o → o ≡ Refuse) →
@@ -230,7 +256,7 @@ labelled_refused w label F xs i o known e none a =
 
 module _ {I A P Q O E : Type 0} {w : Model I A} {code : A → ℕ} (errs : Errors I E) {g : Grammar I P O E} {h : Grammar I Q O E}
     {First Second : O → List A → Type 0} {FirstFails : O → Space → WriteError → Type 0} where
-  both_told : (bs cs : List ℕ) → Leads w code g First (Some bs) → Leads w code h Second (Some cs) →
+  both_told : (bs cs : Words) → Leads w code g First (Some bs) → Leads w code h Second (Some cs) →
       Leads w code (either_of errs.joined errs.grows g h) (λ v. Either (First v) (FirstFails v) (Second v)) (Some (bs ++ cs))
   both_told bs cs p q = record {
     begins = λ ds e v xs f. subst (λ z. BeginsWith code z xs) {x = bs ++ cs} {y = ds} (cc (e)) (begins v xs f);
@@ -239,33 +265,33 @@ module _ {I A P Q O E : Type 0} {w : Model I A} {code : A → ℕ} (errs : Error
     where
       begins : (v : O) (xs : List A) → Either (First v) (FirstFails v) (Second v) xs → BeginsWith code (bs ++ cs) xs
       begins v xs (inl f) = let b = p.begins bs refl v xs f in record {
-        item = b.item;
+        front = b.front;
         more = b.more;
         whole = b.whole;
-        is_one = among_both bs cs (code b.item) ∙ or_left (is_among bs (code b.item)) (is_among cs (code b.item)) b.is_one;
+        is_one = among_left bs cs (map code b.front) b.is_one;
       }
       begins v xs (inr f) = let b = q.begins cs refl v xs f.1 in record {
-        item = b.item;
+        front = b.front;
         more = b.more;
         whole = b.whole;
-        is_one = among_both bs cs (code b.item) ∙ or_right (is_among bs (code b.item)) (is_among cs (code b.item)) b.is_one;
+        is_one = among_right bs cs (map code b.front) b.is_one;
       }
 
-      others : (ds : List ℕ) → Some (bs ++ cs) ≡ Some ds → (c : A) (rest : List A) → is_among ds (code c) ≡ false →
-          NoItem w (either_of errs.joined errs.grows g h).meaning (c ∷ rest)
-      others ds e c rest none s i o known el r =
-          let parts : (is_among bs (code c) ≡ false) × (is_among cs (code c) ≡ false) = or_none (is_among bs (code c)) (is_among cs (code c))
-          (sym (among_both bs cs (code c)) ∙ subst (λ z. is_among z (code c) ≡ false) {x = ds} {y = bs ++ cs} (cc (e)) none) in
-          let first = labelled_refused w inl (g.meaning.answers s) (c ∷ rest) i r.first known el (p.others.refuses bs refl c rest parts.0 s) r.answered in
-          labelled_refused w inr (h.meaning.answers s) (c ∷ rest) i o known el (q.others.refuses cs refl c rest parts.1 s)
+      others : (ds : Words) → Some (bs ++ cs) ≡ Some ds → (front rest : List A) → are_unlike ds (map code front) ≡ true →
+          NoItem w (either_of errs.joined errs.grows g h).meaning (front ++ rest)
+      others ds e front rest unlike s i o known el r =
+          let parts = unlike_both bs cs (map code front) (subst (λ z. are_unlike z (map code front) ≡ true) {x = ds} {y = bs ++ cs} (cc (e)) unlike) in
+          let first = labelled_refused w inl (g.meaning.answers s) (front ++ rest) i r.first known el (p.others.refuses bs refl front rest parts.0 s)
+          r.answered in
+          labelled_refused w inr (h.meaning.answers s) (front ++ rest) i o known el (q.others.refuses cs refl front rest parts.1 s)
           (subst (λ z. GoesOnRefused (λ o. OnPart (λ (x y : I). x ≡ y) (h.meaning.answers s) (λ _ a. o ≡ labelled inr a) i) z o) first r.goes_on)
 
   -- one of two
-  pub either_leads : {a b : Option (List ℕ)} → Leads w code g First a → Leads w code h Second b →
+  pub either_leads : {a b : Option Words} → Leads w code g First a → Leads w code h Second b →
       Leads w code (either_of errs.joined errs.grows g h) (λ v. Either (First v) (FirstFails v) (Second v)) (either_lead a b)
   either_leads {a} {b} p q = by a b p q
     where
-      by : (a b : Option (List ℕ)) → Leads w code g First a → Leads w code h Second b →
+      by : (a b : Option Words) → Leads w code g First a → Leads w code h Second b →
           Leads w code (either_of errs.joined errs.grows g h) (λ v. Either (First v) (FirstFails v) (Second v)) (either_lead a b)
       by (Some bs) (Some cs) p q = both_told bs cs p q
       by (Some bs) None p q = no_lead
@@ -279,7 +305,7 @@ grouped A B C AFails BFails xs (inr (u, inl b)) = inl (inr (u, b))
 grouped A B C AFails BFails xs (inr (u, inr (v, c))) = inr ((v.0, v.1, inr (u, v.2), v.3), c)
 
 pub leads_regrouped : {I T V O E : Type 0} {w : Model I T} {code : T → ℕ} {g : Grammar I V O E} {A B C : O → List T → Type 0}
-    {AFails BFails : O → Space → WriteError → Type 0} {lead : Option (List ℕ)} →
+    {AFails BFails : O → Space → WriteError → Type 0} {lead : Option Words} →
     Leads w code g (λ v. Either (Either (A v) (AFails v) (B v)) (EitherFails (AFails v) (BFails v)) (C v)) lead →
     Leads w code g (λ v. Either (A v) (AFails v) (Either (B v) (BFails v) (C v))) lead
 leads_regrouped {A = A} {B} {C} {AFails} {BFails} p = record {

@@ -3,7 +3,7 @@ use Rattle.std.specs.Prelude.{◌≡◌, ℕ, Bool, true, List, ◌++◌, Option
 use Rattle.std.proofs.Common.{sym, ◌∙◌, ap, subst}
 use Rattle.nom_internal.specs.Prelude.{Accept, Errors, GivesFor, Grammar, IsJudge, Model, Passes, items_len, Judged, kept_if}
 use Rattle.nom_combinator.specs.Outputs.{GivesValue, value_by, verify_by}
-use Rattle.nom_write.specs.Leads.{Leads, RefusesOthers, lead_of}
+use Rattle.nom_write.specs.Leads.{Leads, StartsWith, Words}
 use Rattle.nom_write.specs.Reads.{Anything, Reads, ReadsSome}
 use Rattle.nom_write.specs.laws.LeadLaws.{case_refuses, fixed_leads}
 
@@ -23,13 +23,16 @@ module _ {I A V O R E : Type 0} {w : Model I A} (g : Grammar I V O E) (value : R
     };
   }
 
-  pub value_leads : (code : A → ℕ) → RefusesOthers w code g.meaning (lead_of code items) →
-      Leads w code (value_by value IsSure IsClone g) (λ v xs. IsClone v × (xs ≡ items)) (lead_of code items)
-  value_leads code p = fixed_leads code items (λ v xs f. f.1) (case_refuses w code g.meaning _ (lead_of code items) (λ s i o a. (
-    a.outcome,
-    subst (λ z. g.meaning.answers s z a.outcome) (sym a.at_is) a.answered,
-    λ e. subst (λ z. Passes (GivesValue value) z o) e a.fact,
-  )) p)
+  pub value_leads : (code : A → ℕ) {lead : Option Words} → StartsWith w code g.meaning items lead →
+      Leads w code (value_by value IsSure IsClone g) (λ v xs. IsClone v × (xs ≡ items)) lead
+  value_leads code {lead} p = fixed_leads code items (λ v xs f. f.1) (record {
+    begins = p.begins;
+    others = case_refuses w code g.meaning _ lead (λ s i o a. (
+      a.outcome,
+      subst (λ z. g.meaning.answers s z a.outcome) (sym a.at_is) a.answered,
+      λ e. subst (λ z. Passes (GivesValue value) z o) e a.fact,
+    )) p.others;
+  })
 
 module _ {I A V O E : Type 0} {w : Model I A} (errs : Errors I E) {g : Grammar I V O E} (Takes : O → Type 0) (Says : O → Bool → Type 0)
     {Form : O → List A → Type 0} where
@@ -46,7 +49,7 @@ module _ {I A V O E : Type 0} {w : Model I A} (errs : Errors I E) {g : Grammar I
     };
   }
 
-  pub verify_leads : {code : A → ℕ} {lead : Option (List ℕ)} → Leads w code g Form lead →
+  pub verify_leads : {code : A → ℕ} {lead : Option Words} → Leads w code g Form lead →
       Leads w code (verify_by errs Takes Says g) (λ v xs. Says v true × Form v xs) lead
   verify_leads {code} {lead} p = record {
     begins = λ bs e v xs f. p.begins bs e v xs f.1;

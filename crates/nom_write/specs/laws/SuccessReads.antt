@@ -1,5 +1,5 @@
 -- What is read of a value that nothing stands for.
-use Rattle.std.specs.Prelude.{◌≡◌, List, []}
+use Rattle.std.specs.Prelude.{◌≡◌, []}
 use Rattle.nom_internal.specs.Prelude.{Model}
 use Rattle.nom_combinator.specs.Ends.{clone_meaning}
 use Rattle.nom_write.specs.Reads.{Anything, Reads}

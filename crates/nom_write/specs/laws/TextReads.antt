@@ -1,5 +1,5 @@
 -- What is read of tags over texts.
-use Rattle.std.specs.Prelude.{◌≡◌, ℕ, ◌<◌, ◌⊎◌, Bool, true, false, cond, nat_lt, ◌||◌, ◌&&◌, List, [], ◌∷◌, ◌++◌, length, Option, Some, refl}
+use Rattle.std.specs.Prelude.{◌≡◌, ℕ, ◌<◌, ◌⊎◌, Bool, true, false, cond, eqb, nat_lt, ◌&&◌, List, [], ◌∷◌, ◌++◌, length, refl}
 use Rattle.std.specs.Prelude.{chars, encode_utf8_all, IsUtf8}
 use Rattle.std.specs.Borrow.{Bor}
 use Rattle.std.specs.Char.{IsScalar, len_utf8}
@@ -7,16 +7,16 @@ use Rattle.std.specs.List.{list_all}
 use Rattle.std.specs.Str.{all_scalars, is_utf8}
 use Rattle.std.proofs.Common.{arith, sym, ◌∙◌, ap, subst, inl, inr, append_assoc}
 use Rattle.std.proofs.Math.Utf8.{scalar}
-use Rattle.std.proofs.lemmas.Bool.{eq-eqb}
 use Rattle.std.proofs.lemmas.Str.{chars-append, chars-encodes, encode_ascii, encodes-chars, IsUtf8-from_is_utf8, is_utf8-from_IsUtf8, scalars-chars}
 use Rattle.nom_internal.specs.Prelude.{AreValues, Errors, IsFirst, IsModelledBy, Accept, Refuse, Stop, Fails, Needs, Slice, items_len}
 use Rattle.nom_internal.specs.Prelude.{ComparesText, sliced, text_comparing}
 use Rattle.nom_traits.specs.Text.{both, items_len-text, text_lawful, text_model, text_values}
 use Rattle.nom_bytes.specs.Tags.{tag_meaning}
 use Rattle.nom_bytes.specs.laws.TagLaws.{tag_lawful}
-use Rattle.nom_write.specs.Leads.{RefusesOthers, is_among, lead_of}
+use Rattle.nom_write.specs.Leads.{StartsWith, lead_of}
 use Rattle.nom_write.specs.Reads.{Anything, Holds, NoItem, Reads, ReadsBefore, ReadsSome}
 use Rattle.nom_write.specs.Texts.{text_items}
+use Rattle.nom_write.specs.laws.LeadLaws.{first_starts, other_item}
 use Rattle.nom_write.specs.laws.LeafReads.{lawful_reads, no_errors}
 use Rattle.nom_write.specs.laws.SequenceReads.{as_whole}
 
@@ -85,20 +85,16 @@ tag_items tag s IsTree stands = elim (viewed tag) [
   }
 ]
 
-scalars_front : (xs ys : List ℕ) → all_scalars (xs ++ ys) ≡ true → all_scalars xs ≡ true
+pub scalars_front : (xs ys : List ℕ) → all_scalars (xs ++ ys) ≡ true → all_scalars xs ≡ true
 scalars_front [] ys h = refl
 scalars_front (x ∷ xs) ys h = let b = both (scalar x) (all_scalars (xs ++ ys)) h in both_true (scalar x) (all_scalars xs) b.0 (scalars_front xs ys b.1)
 
--- what begins with the characters of a tag begins with its code
-other_lead : (tag zs : List ℕ) (c : ℕ) (bs : List ℕ) → chars tag ≡ c ∷ zs → lead_of (λ x. x) (text_items tag) ≡ Some bs → is_among bs c ≡ false → ⊥
-other_lead tag zs c bs head lead none =
-    let first : lead_of (λ x. x) (text_items tag) ≡ Some (c ∷ []) = elim (viewed tag) [
-      | inl v ↦ ap (λ z. lead_of (λ x. x) z) (v.1 ∙ head)
-      | inr e ↦ ap (λ z. lead_of (λ x. x) z) (e ∙ ap (λ z. z ++ 55296 ∷ []) head)
-    ] in
-    let same : ◌≡◌ {A = Option (List ℕ)} (Some bs) (Some (c ∷ [])) = sym lead ∙ first in
-    let codes : bs ≡ c ∷ [] = cc (same) in
-    absurd (cc (sym (ap (λ z. is_among z c) codes) ∙ none, ap (λ b. b || false) (eq-eqb c c refl)))
+-- what begins with the characters of a tag begins with its first item
+other_lead : (tag zs : List ℕ) (a c : ℕ) (more : List ℕ) → text_items tag ≡ a ∷ more → chars tag ≡ c ∷ zs → a ≡ c
+other_lead tag zs a c more is head = elim (viewed tag) [
+  | inl v ↦ cc (sym is ∙ (v.1 ∙ head))
+  | inr e ↦ cc (sym is ∙ (e ∙ ap (λ z. z ++ 55296 ∷ []) head))
+]
 
 module _ {E : Type 0} (errs : Errors (Bor (List ℕ)) E) (tag : List ℕ) where
   pub text_tag_reads_some : ReadsSome text_model (sliced text_model (tag_meaning text_model errs length ComparesText tag)) (text_items tag)
@@ -111,24 +107,26 @@ module _ {E : Type 0} (errs : Errors (Bor (List ℕ)) E) (tag : List ℕ) where
         (λ t h. record { known = f.1.known; elements_are = f.1.elements_are ∙ sym h; mark_is = refl }));
   }
 
-  refuses : (bs : List ℕ) → lead_of (λ x. x) (text_items tag) ≡ Some bs → (c : ℕ) (rest : List ℕ) → is_among bs c ≡ false →
+  refuses : (a : ℕ) (more : List ℕ) → text_items tag ≡ a ∷ more → (c : ℕ) (rest : List ℕ) → eqb a c ≡ false →
       NoItem text_model (tag_meaning text_model errs length ComparesText tag) (c ∷ rest)
-  refuses bs lead c rest none s i (Accept n t) known e k = by k.2.front k.2.whole k.2.tag_is
+  refuses a more is c rest other s i (Accept n t) known e k = by k.2.front k.2.whole k.2.tag_is
     where
       by : (front : List ℕ) → chars i.now ≡ front ++ k.2.rest → encode_utf8_all front ≡ tag → Accept n t ≡ Refuse
-      by [] whole is = absurd (cc (ap (λ z. lead_of (λ x. x) (text_items z)) is ∙ lead))
-      by (x ∷ xs) whole is =
+      by [] whole spelled = absurd (cc (ap text_items spelled ∙ is))
+      by (x ∷ xs) whole spelled =
           let all : all_scalars ((x ∷ xs) ++ k.2.rest) ≡ true = subst (λ z. all_scalars z ≡ true) whole (scalars-chars i.now known.0) in
           let head : x ≡ c = cc (sym whole ∙ e) in
-          let front : chars tag ≡ x ∷ xs = ap chars (sym is) ∙ chars-encodes (x ∷ xs) (scalars_front (x ∷ xs) k.2.rest all) in
-          absurd (other_lead tag xs c bs (front ∙ ap (λ z. z ∷ xs) head) lead none)
-  refuses bs lead c rest none s i Refuse known e k = refl
-  refuses bs lead c rest none s i (Stop (Fails cause)) known e k = absurd k
-  refuses bs lead c rest none s i (Stop (Needs m)) known e k =
+          let front : chars tag ≡ x ∷ xs = ap chars (sym spelled) ∙ chars-encodes (x ∷ xs) (scalars_front (x ∷ xs) k.2.rest all) in
+          absurd (other_item (λ z. z) a c other (other_lead tag xs a c more is (front ∙ ap (λ z. z ∷ xs) head)))
+  refuses a more is c rest other s i Refuse known e k = refl
+  refuses a more is c rest other s i (Stop (Fails cause)) known e k = absurd k
+  refuses a more is c rest other s i (Stop (Needs m)) known e k =
       let begun = k.1.0 in
       let ys = begun.byte ∷ begun.more in
       let spelled : tag ≡ i.now ++ ys = begun.tag_is ∙ ap (λ z. z ++ ys) (encodes-chars i.now known.0) in
-      absurd (other_lead tag (rest ++ chars ys) c bs (ap chars spelled ∙ (chars-append i.now ys known.0 ∙ ap (λ z. z ++ chars ys) e)) lead none)
+      let head = ap chars spelled ∙ (chars-append i.now ys known.0 ∙ ap (λ z. z ++ chars ys) e) in
+      absurd (other_item (λ z. z) a c other (other_lead tag (rest ++ chars ys) a c more is head))
 
-  pub text_tag_refuses_others : RefusesOthers text_model (λ x. x) (tag_meaning text_model errs length ComparesText tag) (lead_of (λ x. x) (text_items tag))
-  text_tag_refuses_others = record { refuses = refuses }
+  pub text_tag_starts : StartsWith text_model (λ x. x) (tag_meaning text_model errs length ComparesText tag) (text_items tag)
+      (lead_of (λ x. x) (text_items tag))
+  text_tag_starts = first_starts (λ x. x) (tag_meaning text_model errs length ComparesText tag) (text_items tag) refuses

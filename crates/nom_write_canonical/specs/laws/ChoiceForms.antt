@@ -1,7 +1,7 @@
 -- Forms of choices and options.
 use Rattle.std.specs.Prelude.{◌≡◌, ℕ, Bool, ◌⊎◌, List, [], Option, Some, None, refl}
 use Rattle.std.proofs.Common.{sym, ap, subst, inl, inr}
-use Rattle.nom_internal.specs.Prelude.{Accept, AreBytes, Errors, GoesOnRefused, Grammar, Model, OnPart, Outcome, Refuse, Stop, either_of, labelled}
+use Rattle.nom_internal.specs.Prelude.{Accept, AreValues, Errors, GoesOnRefused, Grammar, Model, OnPart, Outcome, Refuse, Stop, either_of, labelled}
 use Rattle.nom_combinator.specs.Verdicts.{opt_of, opt_outcome}
 use Rattle.nom_sink.specs.declared.error.WriteError.{WriteError}
 use Rattle.nom_sink.specs.Choices.{Either, EitherFails}
@@ -9,16 +9,16 @@ use Rattle.nom_write.specs.Options.{OptForm}
 use Rattle.nom_sink.specs.Written.{Space}
 use Rattle.nom_write_canonical.specs.Forms.{AcceptsForms, AcceptsOnly, Excludes, FormOf, HasFront, IsOneForm}
 use Rattle.nom_write_canonical.specs.laws.CaseForms.{become_accepts, front_by, labelled_only}
-use Rattle.nom_write_canonical.specs.laws.SequenceForms.{bytes_one, renamed_accepts}
+use Rattle.nom_write_canonical.specs.laws.SequenceForms.{items_one, renamed_accepts}
 
-module _ {I P Q O E : Type 0} {w : Model I ℕ} (errs : Errors I E) {g : Grammar I P O E} {h : Grammar I Q O E} {First Second : O → List ℕ → Type 0}
+module _ {I A P Q O E : Type 0} {w : Model I A} (errs : Errors I E) {g : Grammar I P O E} {h : Grammar I Q O E} {First Second : O → List A → Type 0}
     {Fails : O → Space → WriteError → Type 0} where
   -- one of two, where no value that the second writes is one that the first writes
   pub either_accepts : Excludes First Fails Second → AcceptsForms w g First → AcceptsForms w h Second →
       AcceptsForms w (either_of errs.joined errs.grows g h) (λ v. Either (First v) (Fails v) (Second v))
   either_accepts apart p q = record { accepts = λ s. record { front = front s } }
     where
-      Whole : P ⊎ Q → List ℕ → Type 0
+      Whole : P ⊎ Q → List A → Type 0
       Whole = FormOf (either_of errs.joined errs.grows g h) (λ v. Either (First v) (Fails v) (Second v))
 
       left : (s : Bool) → AcceptsOnly w (λ i o. OnPart (λ (x y : I). x ≡ y) (g.meaning.answers s) (λ _ a. o ≡ labelled inl a) i) Whole
@@ -42,20 +42,20 @@ module _ {I P Q O E : Type 0} {w : Model I ℕ} (errs : Errors I E) {g : Grammar
           of_first (Stop why) b e = absurd (cc (e))
 
 -- one of two has one form where each has, and no value has one of both
-pub either_one : {A B : List ℕ → Type 0} {Fails : Space → WriteError → Type 0} → ((xs ys : List ℕ) → A xs → B ys → ⊥) → IsOneForm A → IsOneForm B →
-    IsOneForm (Either A Fails B)
-either_one {A} {B} {Fails} apart p q = record { one = λ xs ys h k a b. one xs ys h k a b }
+pub either_one : {T : Type 0} {IsValue : T → Type 0} {A B : List T → Type 0} {Fails : Space → WriteError → Type 0} → ((xs ys : List T) → A xs → B ys → ⊥) →
+    IsOneForm IsValue A → IsOneForm IsValue B → IsOneForm IsValue (Either A Fails B)
+either_one {T} {IsValue} {A} {B} {Fails} apart p q = record { one = λ xs ys h k a b. one xs ys h k a b }
   where
-    one : (xs ys : List ℕ) → AreBytes xs → AreBytes ys → Either A Fails B xs → Either A Fails B ys → xs ≡ ys
+    one : (xs ys : List T) → AreValues IsValue xs → AreValues IsValue ys → Either A Fails B xs → Either A Fails B ys → xs ≡ ys
     one xs ys h k (inl a) (inl b) = p.one xs ys h k a b
     one xs ys h k (inl a) (inr b) = absurd (apart xs ys a b.1)
     one xs ys h k (inr a) (inl b) = absurd (apart ys xs b a.1)
     one xs ys h k (inr a) (inr b) = q.one xs ys h k a.1 b.1
 
 -- what neither of two writes
-pub both_exclude : {O : Type 0} {A B C : O → List ℕ → Type 0} {AFails BFails : O → Space → WriteError → Type 0} → Excludes A AFails C → Excludes B BFails C →
+pub both_exclude : {O T : Type 0} {A B C : O → List T → Type 0} {AFails BFails : O → Space → WriteError → Type 0} → Excludes A AFails C → Excludes B BFails C →
     Excludes (λ v. Either (A v) (AFails v) (B v)) (λ v. EitherFails (AFails v) (BFails v)) C
-both_exclude {A = A} {B} {C} {AFails} {BFails} p q = record {
+both_exclude {T = T} {A} {B} {C} {AFails} {BFails} p q = record {
   unfit = λ v xs f.
       let first = p.unfit v xs f in
       let second = q.unfit v xs f in
@@ -63,25 +63,25 @@ both_exclude {A = A} {B} {C} {AFails} {BFails} p q = record {
   apart = apart;
 }
   where
-    apart : (v : _) (xs ys : List ℕ) → Either (A v) (AFails v) (B v) xs → C v ys → ⊥
+    apart : (v : _) (xs ys : List T) → Either (A v) (AFails v) (B v) xs → C v ys → ⊥
     apart v xs ys (inl a) c = p.apart v xs ys a c
     apart v xs ys (inr b) c = q.apart v xs ys b.1 c
 
 -- what is no form of either of two
-pub apart_from_both : {A B C : List ℕ → Type 0} {Fails : Space → WriteError → Type 0} → ((xs ys : List ℕ) → A xs → B ys → ⊥) →
-    ((xs ys : List ℕ) → A xs → C ys → ⊥) → (xs ys : List ℕ) → A xs → Either B Fails C ys → ⊥
+pub apart_from_both : {T : Type 0} {A B C : List T → Type 0} {Fails : Space → WriteError → Type 0} → ((xs ys : List T) → A xs → B ys → ⊥) →
+    ((xs ys : List T) → A xs → C ys → ⊥) → (xs ys : List T) → A xs → Either B Fails C ys → ⊥
 apart_from_both p q xs ys a (inl b) = p xs ys a b
 apart_from_both p q xs ys a (inr c) = q xs ys a c.1
 
 -- a first of two and a second are a first, and two others
-either_split : (A B C : List ℕ → Type 0) (AFails BFails : Space → WriteError → Type 0) (xs : List ℕ) →
+either_split : {T : Type 0} (A B C : List T → Type 0) (AFails BFails : Space → WriteError → Type 0) (xs : List T) →
     Either (Either A AFails B) (EitherFails AFails BFails) C xs → Either A AFails (Either B BFails C) xs
 either_split A B C AFails BFails xs (inl (inl a)) = inl a
 either_split A B C AFails BFails xs (inl (inr b)) = inr (b.0, inl b.1)
 either_split A B C AFails BFails xs (inr ((s, e, inl k, n), c)) = absurd (n k.1)
 either_split A B C AFails BFails xs (inr ((s, e, inr k, n), c)) = inr (k.0, inr ((s, e, k.1, n), c))
 
-pub either_split_accepts : {I V O E : Type 0} {w : Model I ℕ} {g : Grammar I V O E} {A B C : O → List ℕ → Type 0}
+pub either_split_accepts : {I T V O E : Type 0} {w : Model I T} {g : Grammar I V O E} {A B C : O → List T → Type 0}
     {AFails BFails : O → Space → WriteError → Type 0} →
     AcceptsForms w g (λ v. Either (Either (A v) (AFails v) (B v)) (EitherFails (AFails v) (BFails v)) (C v)) →
     AcceptsForms w g (λ v. Either (A v) (AFails v) (Either (B v) (BFails v) (C v)))
@@ -95,11 +95,11 @@ opt_only Refuse n t e = inr (cc (e), cc (e))
 opt_only (Stop why) n t e = absurd (cc (e))
 
 -- a form, or nothing where none is accepted
-pub opt_accepts : {I V O E : Type 0} {w : Model I ℕ} {g : Grammar I V O E} {Form : O → List ℕ → Type 0} → AcceptsForms w g Form →
+pub opt_accepts : {I A V O E : Type 0} {w : Model I A} {g : Grammar I V O E} {Form : O → List A → Type 0} → AcceptsForms w g Form →
     AcceptsForms w (opt_of g) (OptForm Form)
-opt_accepts {I} {V} {O} {w = w} {g} {Form} p = record { accepts = λ s. record { front = front s } }
+opt_accepts {I} {A} {V} {O} {w} {g} {Form} p = record { accepts = λ s. record { front = front s } }
   where
-    Whole : Option V → List ℕ → Type 0
+    Whole : Option V → List A → Type 0
     Whole = FormOf (opt_of g) (OptForm Form)
 
     front : (s : Bool) (i : I) (n : ℕ) (t : Option V) → w.IsKnown i → (opt_of g).meaning.answers s i (Accept n t) → HasFront w (Whole t) i n
@@ -118,6 +118,7 @@ opt_accepts {I} {V} {O} {w = w} {g} {Form} p = record { accepts = λ s. record {
           fact = λ v z. subst (λ y. OptForm Form y []) (sym z) refl;
         })
 
-pub opt_one : {O : Type 0} {Form : O → List ℕ → Type 0} → ((v : O) → IsOneForm (Form v)) → (v : Option O) → IsOneForm (OptForm Form v)
+pub opt_one : {A O : Type 0} {IsValue : A → Type 0} {Form : O → List A → Type 0} → ((v : O) → IsOneForm IsValue (Form v)) → (v : Option O) →
+    IsOneForm IsValue (OptForm Form v)
 opt_one p (Some v) = p v
-opt_one p None = bytes_one []
+opt_one p None = items_one []

@@ -8,24 +8,24 @@ use Rattle.nom_bytes.specs.Takes.{take_meaning}
 use Rattle.nom_bytes.specs.Tags.{tag_meaning}
 use Rattle.nom_number.specs.Numbers.{bytes_lack, number_meaning}
 use Rattle.nom_write.specs.Reads.{Holds}
-use Rattle.nom_write_canonical.specs.Forms.{AcceptsBytes, AcceptsForms, AcceptsOnly, FormOf, HasFront}
+use Rattle.nom_write_canonical.specs.Forms.{AcceptsForms, AcceptsItems, AcceptsOnly, FormOf, HasFront}
 use Rattle.nom_write_canonical.specs.laws.CaseForms.{become_accepts, labelled_only}
 
 -- a slice that is accepted
-slice_front : {I : Type 0} (w : Model I ℕ) (Fact : List ℕ → Type 0) (i : I) (n : ℕ) (t : Slice w) → IsFirst w i n t → Fact t.items → HasFront w Fact i n
+pub slice_front : {I A : Type 0} (w : Model I A) (Fact : List A → Type 0) (i : I) (n : ℕ) (t : Slice w) → IsFirst w i n t → Fact t.items → HasFront w Fact i n
 slice_front w Fact i n t p f = record { front = t.items; rest = p.rest; whole = p.whole; length_is = p.length_is; fact = f }
 
 -- a value that holds the items of a tree
-pub is_held : {I : Type 0} (w : Model I ℕ) (t : Slice w) (v : I) (xs : List ℕ) → IsModelledBy w t v → t.items ≡ xs → Holds w v xs
+pub is_held : {I A : Type 0} (w : Model I A) (t : Slice w) (v : I) (xs : List A) → IsModelledBy w t v → t.items ≡ xs → Holds w v xs
 is_held w t v xs m e = record { known = m.known; elements_are = m.elements_are ∙ e }
 
-module _ {I E : Type 0} (w : Model I ℕ) (errs : Errors I E) where
+module _ {I A E : Type 0} (w : Model I A) (errs : Errors I E) where
   -- as many items as are taken
-  pub take_only : (lack : ℕ → List ℕ → Option ℕ) (count : ℕ) (s : Bool) → AcceptsOnly w ((take_meaning w errs lack count).answers s)
+  pub take_only : (lack : ℕ → List A → Option ℕ) (count : ℕ) (s : Bool) → AcceptsOnly w ((take_meaning w errs lack count).answers s)
       (λ t xs. (length xs ≡ count) × (t.items ≡ xs))
   take_only lack count s = record { front = λ i n t known a. slice_front w (λ xs. (length xs ≡ count) × (t.items ≡ xs)) i n t a.0 (a.1, refl) }
 
-  pub take_accepts : (lack : ℕ → List ℕ → Option ℕ) (count : ℕ) → AcceptsForms w (sliced w (take_meaning w errs lack count))
+  pub take_accepts : (lack : ℕ → List A → Option ℕ) (count : ℕ) → AcceptsForms w (sliced w (take_meaning w errs lack count))
       (λ v xs. (length xs ≡ count) × Holds w v xs)
   take_accepts lack count = record {
     accepts = λ s. record {
@@ -34,6 +34,7 @@ module _ {I E : Type 0} (w : Model I ℕ) (errs : Errors I E) where
     };
   }
 
+module _ {I E : Type 0} (w : Model I ℕ) (errs : Errors I E) where
   -- the items of a number
   pub number_accepts : {N : Type 0} (value : List ℕ → N) (count : ℕ) → AcceptsForms w (valued (number_meaning w errs value count))
       (λ v xs. (length xs ≡ count) × (value xs ≡ v))
@@ -41,7 +42,7 @@ module _ {I E : Type 0} (w : Model I ℕ) (errs : Errors I E) where
     accepts = λ s. become_accepts w (labelled (λ t. value t.items)) (λ t. value t.items) (labelled_only (λ t. value t.items))
         ((take_meaning w errs (bytes_lack w) count).answers s) (λ t xs. (length xs ≡ count) × (t.items ≡ xs))
         (λ n xs. (v : _) → v ≡ n → (length xs ≡ count) × (value xs ≡ v))
-        (λ t xs f v e. (f.0, ap value (sym f.1) ∙ sym e)) (take_only (bytes_lack w) count s);
+        (λ t xs f v e. (f.0, ap value (sym f.1) ∙ sym e)) (take_only w errs (bytes_lack w) count s);
   }
 
 module _ {E : Type 0} (errs : Errors (Bor (List ℕ)) E) (tag : List ℕ) where
@@ -55,7 +56,7 @@ module _ {E : Type 0} (errs : Errors (Bor (List ℕ)) E) (tag : List ℕ) where
       ((a.1).length_is ∙ (a.0 ∙ (ap length (sym front.tag_is) ∙ sym (ones front.front)))) in
       same.0 ∙ front.tag_is
 
-  pub tag_only : AcceptsBytes bytes_model (sliced bytes_model (tag_meaning bytes_model errs length ComparesBytes tag)) tag
+  pub tag_only : AcceptsItems bytes_model (sliced bytes_model (tag_meaning bytes_model errs length ComparesBytes tag)) tag
   tag_only = record {
     accepts = λ s. record { front = λ i n t known a. slice_front bytes_model (λ xs. xs ≡ tag) i n t a.1 (found s i n t a) };
   }

@@ -22,7 +22,7 @@ use Rattle.nom_write.specs.Reads.{Holds}
 use Rattle.nom_write_canonical.specs.Forms.{AcceptsForms, AcceptsOnly, FormOf, HasFront, IsOneForm}
 use Rattle.nom_write_canonical.specs.laws.CaseForms.{front_by}
 use Rattle.nom_write_canonical.specs.laws.LeafForms.{is_held, take_only}
-use Rattle.nom_write_canonical.specs.laws.SequenceForms.{both_one, bytes_one, front_joined, one_beside, then_accepts}
+use Rattle.nom_write_canonical.specs.laws.SequenceForms.{both_one, items_one, front_joined, one_beside, then_accepts}
 
 -- items of a length aren't none
 some_items : {A : Type 0} (item_len : A → ℕ) (xs : List A) → 0 < items_len item_len xs → 0 < length xs
@@ -30,17 +30,17 @@ some_items item_len [] h = absurd (omega (arith, h))
 some_items item_len (x ∷ xs) h = omega arith
 
 -- the length of a front beside its fact
-measured : {I : Type 0} {w : Model I ℕ} {Fact : List ℕ → Type 0} {i : I} {n : ℕ} → HasFront w Fact i n →
+measured : {I A : Type 0} {w : Model I A} {Fact : List A → Type 0} {i : I} {n : ℕ} → HasFront w Fact i n →
     HasFront w (λ xs. Fact xs × (items_len w.item_len xs ≡ n)) i n
 measured p = record { front = p.front; rest = p.rest; whole = p.whole; length_is = p.length_is; fact = (p.fact, p.length_is) }
 
-module _ {I V O E : Type 0} (w : Model I ℕ) (l : InputLaws w) (g : Grammar I V O E) (Form : O → List ℕ → Type 0) (p : AcceptsForms w g Form) (s : Bool)
+module _ {I A V O E : Type 0} (w : Model I A) (l : InputLaws w) (g : Grammar I V O E) (Form : O → List A → Type 0) (p : AcceptsForms w g Form) (s : Bool)
     (May : ℕ → Type 0) (some : Bool) (long : (n : ℕ) → May n → some ≡ true → 0 < n) (least : ℕ) (most : Option ℕ) where
-  abbrev Forms : List V → List ℕ → Type 0
+  abbrev Forms : List V → List A → Type 0
   Forms ts xs = (vs : List O) → AllZip g.IsOutput ts vs → Each (ItemForm some Form) vs xs
 
   -- an item, and those after it
-  item_first : (n : ℕ) → May n → (t : V) (ts : List V) (xs ys : List ℕ) → FormOf g Form t xs × (items_len w.item_len xs ≡ n) → Forms ts ys →
+  item_first : (n : ℕ) → May n → (t : V) (ts : List V) (xs ys : List A) → FormOf g Form t xs × (items_len w.item_len xs ≡ n) → Forms ts ys →
       Forms (t ∷ ts) (xs ++ ys)
   item_first n may t ts xs ys f more [] z = absurd z
   item_first n may t ts xs ys f more (v ∷ vs) z = record {
@@ -65,7 +65,7 @@ module _ {I V O E : Type 0} (w : Model I ℕ) (l : InputLaws w) (g : Grammar I V
       (λ xs. FormOf g Form t xs × (items_len w.item_len xs ≡ q.0)) (Forms ts) (Forms (t ∷ ts)) (item_first q.0 (q.3).2 t ts) first q.4 next)
 
 -- just as many items as there may be
-exactly : {I V : Type 0} (w : Model I ℕ) (Item : I → Outcome V → Type 0) (May : ℕ → Type 0) (most k : ℕ) (i : I) (ts : List V) (n : ℕ) → k ≤ most →
+exactly : {I A V : Type 0} (w : Model I A) (Item : I → Outcome V → Type 0) (May : ℕ → Type 0) (most k : ℕ) (i : I) (ts : List V) (n : ℕ) → k ≤ most →
     Pieces w (TakesItem Item May (Some most)) (EndsItems Item most (Some most)) k i ts n → k + length ts ≡ most
 exactly w Item May most k i [] n h q = ends q.1
   where
@@ -74,7 +74,7 @@ exactly w Item May most k i [] n h q = ends q.1
     ends (inr z) = omega (arith, h, z)
 exactly w Item May most k i (t ∷ ts) n h q = omega (arith, exactly w Item May most (k + 1) q.2 ts q.1 (omega (arith, (q.3).0)) q.5)
 
-module _ {I V O E : Type 0} {w : Model I ℕ} (l : InputLaws w) (errs : Errors I E) {g : Grammar I V O E} {Form : O → List ℕ → Type 0}
+module _ {I A V O E : Type 0} {w : Model I A} (l : InputLaws w) (errs : Errors I E) {g : Grammar I V O E} {Form : O → List A → Type 0}
     (p : AcceptsForms w g Form) where
   -- any number of items
   pub many0_accepts : {M : Type 0} → AcceptsForms w (many0_of {M = M} w errs g) (λ v. Each (ItemForm true Form) v.items)
@@ -105,21 +105,21 @@ module _ {I V O E : Type 0} {w : Model I ℕ} (l : InputLaws w) (errs : Errors I
     };
   }
 
-module _ {I P O E : Type 0} {w : Model I ℕ} (l : InputLaws w) (errs : Errors I E) (size : O → ℕ) {g : Grammar I P O E} {Form : O → List ℕ → Type 0}
+module _ {I A P O E : Type 0} {w : Model I A} (l : InputLaws w) (errs : Errors I E) (size : O → ℕ) {g : Grammar I P O E} {Form : O → List A → Type 0}
     (p : AcceptsForms w g Form) where
   -- a form of a length, by its tree
-  sized : (u : P) (n m : ℕ) (xs : List ℕ) → FormOf g Form u xs → HasSize g.IsOutput size u n → n ≡ m → FormOfSize size Form m xs
+  sized : (u : P) (n m : ℕ) (xs : List A) → FormOf g Form u xs → HasSize g.IsOutput size u n → n ≡ m → FormOfSize size Form m xs
   sized u n m xs f h e = (h.output, h.size_is ∙ e, f h.output h.is_output)
 
   -- a length, and as many items
-  pub length_data_accepts : (lack : ℕ → List ℕ → Option ℕ) → AcceptsForms w (length_data_of w errs lack size g)
+  pub length_data_accepts : (lack : ℕ → List A → Option ℕ) → AcceptsForms w (length_data_of w errs lack size g)
       (λ v. Both (FormOfSize size Form (length (w.elements v))) (Holds w v))
   length_data_accepts lack = record { accepts = accepts }
     where
-      Data : P → Slice w → List ℕ → Type 0
+      Data : P → Slice w → List A → Type 0
       Data u t ys = (n : ℕ) × HasSize g.IsOutput size u n × (length ys ≡ n) × (t.items ≡ ys)
 
-      Whole : P × Slice w → List ℕ → Type 0
+      Whole : P × Slice w → List A → Type 0
       Whole t xs = (v : I) → IsModelledBy w t.1 v → Both (FormOfSize size Form (length (w.elements v))) (Holds w v) xs
 
       taken : (s : Bool) (u : P) → AcceptsOnly w (λ j o. OfValue (HasSize g.IsOutput size u) (λ k. (take_meaning w errs lack k).answers s j o)) (Data u)
@@ -139,14 +139,14 @@ module _ {I P O E : Type 0} {w : Model I ℕ} (l : InputLaws w) (errs : Errors I
           }) (p.accepts s) (taken s)
 
   -- a number, and as many items of another grammar
-  pub length_count_accepts : {U X M : Type 0} {h : Grammar I U X E} {Next : X → List ℕ → Type 0} → AcceptsForms w h Next →
+  pub length_count_accepts : {U X M : Type 0} {h : Grammar I U X E} {Next : X → List A → Type 0} → AcceptsForms w h Next →
       AcceptsForms w (length_count_of {M = M} w errs size g h) (λ v. Both (FormOfSize size Form (length v.items)) (Each (ItemForm false Next) v.items))
   length_count_accepts {U} {X} {M} {h} {Next} q = record { accepts = accepts }
     where
-      Counted : P → List U → List ℕ → Type 0
+      Counted : P → List U → List A → Type 0
       Counted u ts ys = (n : ℕ) × HasSize g.IsOutput size u n × (length ts ≡ n) × ((vs : List X) → AllZip h.IsOutput ts vs → Each (ItemForm false Next) vs ys)
 
-      Whole : List U → List ℕ → Type 0
+      Whole : List U → List A → Type 0
       Whole ts xs = (v : Vec X M) → AllZip h.IsOutput ts v.items → Both (FormOfSize size Form (length v.items)) (Each (ItemForm false Next) v.items) xs
 
       counted : (s : Bool) (u : P) → AcceptsOnly w (λ j o. OfValue (HasSize g.IsOutput size u) (λ k. (items_meaning w errs (exact_limits k) (Unit {0})
@@ -168,18 +168,18 @@ module _ {I P O E : Type 0} {w : Model I ℕ} (l : InputLaws w) (errs : Errors I
           }) (p.accepts s) (counted s)
 
 -- numbers of one size are one
-pub size_one : {O : Type 0} {size : O → ℕ} {Form : O → List ℕ → Type 0} → ((a b : O) → size a ≡ size b → a ≡ b) → ((v : O) → IsOneForm (Form v)) → (n : ℕ) →
-    IsOneForm (FormOfSize size Form n)
+pub size_one : {A O : Type 0} {IsValue : A → Type 0} {size : O → ℕ} {Form : O → List A → Type 0} → ((a b : O) → size a ≡ size b → a ≡ b) →
+    ((v : O) → IsOneForm IsValue (Form v)) → (n : ℕ) → IsOneForm IsValue (FormOfSize size Form n)
 size_one {Form = Form} same p n = record {
   one = λ xs ys h k a b.
       let number : a.0 ≡ b.0 = same a.0 b.0 (a.1 ∙ sym b.1) in (p b.0).one xs ys h k (subst (λ v. Form v xs) number a.2) b.2;
 }
 
-pub each_one : {O : Type 0} (some : Bool) {Form : O → List ℕ → Type 0} → ((v : O) → IsOneForm (Form v)) → (vs : List O) →
-    IsOneForm (Each (ItemForm some Form) vs)
-each_one some p [] = bytes_one []
+pub each_one : {A O : Type 0} {IsValue : A → Type 0} (some : Bool) {Form : O → List A → Type 0} → ((v : O) → IsOneForm IsValue (Form v)) → (vs : List O) →
+    IsOneForm IsValue (Each (ItemForm some Form) vs)
+each_one some p [] = items_one []
 each_one some p (v ∷ vs) = both_one (one_beside (λ xs f. f.0) (p v)) (each_one some p vs)
 
 -- the items of a value
-pub held_one : {I : Type 0} {w : Model I ℕ} {v : I} → IsOneForm (Holds w v)
+pub held_one : {I A : Type 0} {IsValue : A → Type 0} {w : Model I A} {v : I} → IsOneForm IsValue (Holds w v)
 held_one = record { one = λ xs ys h k a b. sym a.elements_are ∙ b.elements_are }

@@ -63,7 +63,7 @@ abbrev pub AreBitsOf : {N : Type 0} → (ℕ → N) → ℕ → Type 0
 AreBitsOf of_bits count = (a b : ℕ) → a < 2 ^ (8 * count) → b < 2 ^ (8 * count) → of_bits a ≡ of_bits b → a ≡ b
 
 pub binary_one : {N : Type 0} (of_bits : ℕ → N) (endian : Endianness) (count : ℕ) → AreBitsOf of_bits count → (v : N) →
-    IsOneForm (λ xs. (length xs ≡ count) × (of_bits (binary_number endian xs) ≡ v))
+    IsOneForm (λ b. b < 256) (λ xs. (length xs ≡ count) × (of_bits (binary_number endian xs) ≡ v))
 binary_one of_bits endian count same v = record {
   one = λ xs ys h k a b.
       let x = subst (λ n. binary_number endian xs < 2 ^ (8 * n)) a.0 (below_in_order (is_big endian) xs h) in

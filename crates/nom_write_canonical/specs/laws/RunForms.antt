@@ -16,7 +16,7 @@ enough least bound count after room (inl h) = h
 enough least (Some most) count after room (inr h) = omega (arith, room, h.0)
 enough least None count after room (inr h) = absurd h.0
 
-module _ {I E : Type 0} (w : Model I ℕ) (Test : ℕ → Bool → Type 0) (least : ℕ) (bound : Option ℕ) where
+module _ {I A E : Type 0} (w : Model I A) (Test : A → Bool → Type 0) (least : ℕ) (bound : Option ℕ) where
   pub run_accepts : (Blames : I → E → Type 0) (Grows : Type 0) → IsRoom least bound →
       AcceptsForms w (sliced w (leaf_meaning Blames Grows (runs w Test bound least))) (IsRunForm w Test least bound)
   run_accepts Blames Grows room = record {
@@ -39,9 +39,10 @@ module _ {I E : Type 0} (w : Model I ℕ) (Test : ℕ → Bool → Type 0) (leas
   }
 
 -- under premises of a parser's own
-pub premised_accepts : {I E : Type 0} {w : Model I ℕ} {m : Meaning I (Slice w) E} (Runs IsSound : Type 0) {Form : I → List ℕ → Type 0} →
+pub premised_accepts : {I A E : Type 0} {w : Model I A} {m : Meaning I (Slice w) E} (Runs IsSound : Type 0) {Form : I → List A → Type 0} →
     AcceptsForms w (sliced w m) Form → AcceptsForms w (sliced w (premised Runs IsSound m)) Form
 premised_accepts Runs IsSound p = record { accepts = λ s. record { front = λ i n t known a. (p.accepts s).front i n t known a } }
 
-pub run_one : {I : Type 0} {w : Model I ℕ} {Test : ℕ → Bool → Type 0} {least : ℕ} {bound : Option ℕ} {v : I} → IsOneForm (IsRunForm w Test least bound v)
+pub run_one : {I A : Type 0} {IsValue : A → Type 0} {w : Model I A} {Test : A → Bool → Type 0} {least : ℕ} {bound : Option ℕ} {v : I} →
+    IsOneForm IsValue (IsRunForm w Test least bound v)
 run_one = record { one = λ xs ys h k a b. sym (a.holds).elements_are ∙ (b.holds).elements_are }

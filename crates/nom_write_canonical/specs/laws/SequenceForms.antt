@@ -1,18 +1,18 @@
 -- Forms of parts in sequence.
 use Rattle.std.specs.Prelude.{◌≡◌, ℕ, ◌+◌, List, [], ◌∷◌, ◌++◌, refl}
 use Rattle.std.proofs.Common.{arith, sym, ◌∙◌, ap, subst, append_assoc}
-use Rattle.nom_internal.specs.Prelude.{AreBytes, Grammar, InputLaws, IsSuffixOf, Model, Outcome, Then, items_len-append, pair_of}
+use Rattle.nom_internal.specs.Prelude.{AreValues, Grammar, InputLaws, IsSuffixOf, Model, Outcome, Then, items_len-append, pair_of}
 use Rattle.nom_internal.specs.Tuples.{tuple_of}
 use Rattle.nom_repeat.proofs.AcceptedMore.{first_accepts}
 use Rattle.nom_sequence.specs.Sequences.{preceded_of, terminated_of}
 use Rattle.nom_sink.specs.Parts.{Both}
 use Rattle.nom_write.specs.laws.SequenceReads.{follows}
-use Rattle.nom_write_canonical.specs.Forms.{AcceptsBytes, AcceptsForms, AcceptsOnly, FormOf, HasFront, IsOneForm}
+use Rattle.nom_write_canonical.specs.Forms.{AcceptsForms, AcceptsItems, AcceptsOnly, FormOf, HasFront, IsOneForm}
 use Rattle.nom_write_canonical.specs.laws.CaseForms.{front_by}
 
 -- a front of a rest, after the front before it
-pub front_joined : {I : Type 0} (w : Model I ℕ) → InputLaws w → (i j : I) (a c : ℕ) (First Next Whole : List ℕ → Type 0) →
-    ((xs ys : List ℕ) → First xs → Next ys → Whole (xs ++ ys)) → HasFront w First i a → IsSuffixOf w i a j → HasFront w Next j c →
+pub front_joined : {I A : Type 0} (w : Model I A) → InputLaws w → (i j : I) (a c : ℕ) (First Next Whole : List A → Type 0) →
+    ((xs ys : List A) → First xs → Next ys → Whole (xs ++ ys)) → HasFront w First i a → IsSuffixOf w i a j → HasFront w Next j c →
     HasFront w Whole i (a + c)
 front_joined w l i j a c First Next Whole joins p s q =
     let rest : w.elements j ≡ p.rest = follows w l i j p.front p.rest p.whole (subst (λ n. IsSuffixOf w i n j) (sym p.length_is) s) in
@@ -25,9 +25,9 @@ front_joined w l i j a c First Next Whole joins p s q =
     }
 
 -- one part after another
-pub then_accepts : {I P Q T : Type 0} (w : Model I ℕ) → InputLaws w → (tree : P → Q → T) (F : I → Outcome P → Type 0) (N : P → I → Outcome Q → Type 0)
-    (First : P → List ℕ → Type 0) (Next : P → Q → List ℕ → Type 0) (Whole : T → List ℕ → Type 0) →
-    ((u : P) (v : Q) (xs ys : List ℕ) → First u xs → Next u v ys → Whole (tree u v) (xs ++ ys)) → AcceptsOnly w F First →
+pub then_accepts : {I A P Q T : Type 0} (w : Model I A) → InputLaws w → (tree : P → Q → T) (F : I → Outcome P → Type 0) (N : P → I → Outcome Q → Type 0)
+    (First : P → List A → Type 0) (Next : P → Q → List A → Type 0) (Whole : T → List A → Type 0) →
+    ((u : P) (v : Q) (xs ys : List A) → First u xs → Next u v ys → Whole (tree u v) (xs ++ ys)) → AcceptsOnly w F First →
     ((u : P) → AcceptsOnly w (N u) (Next u)) → AcceptsOnly w (Then w tree F N) Whole
 then_accepts w l tree F N First Next Whole joins p q = record {
   front = λ i n t known a.
@@ -38,8 +38,8 @@ then_accepts w l tree F N First Next Whole joins p q = record {
       subst (λ m. HasFront w (Whole t) i m) (sym f.8) (subst (λ z. HasFront w (Whole z) i (f.0 + f.1)) (sym f.9) both);
 }
 
-module _ {I V W O P E : Type 0} {w : Model I ℕ} (l : InputLaws w) {g : Grammar I V O E} {h : Grammar I W P E} where
-  pub pair_accepts : {First : O → List ℕ → Type 0} {Next : P → List ℕ → Type 0} → AcceptsForms w g First → AcceptsForms w h Next →
+module _ {I A V W O P E : Type 0} {w : Model I A} (l : InputLaws w) {g : Grammar I V O E} {h : Grammar I W P E} where
+  pub pair_accepts : {First : O → List A → Type 0} {Next : P → List A → Type 0} → AcceptsForms w g First → AcceptsForms w h Next →
       AcceptsForms w (pair_of w g h) (λ v. Both (First v.0) (Next v.1))
   pair_accepts {First} {Next} p q = record {
     accepts = λ s. then_accepts w l (λ u v. (u, v)) (g.meaning.answers s) (λ u. h.meaning.answers s) (FormOf g First) (λ u. FormOf h Next)
@@ -47,26 +47,26 @@ module _ {I V W O P E : Type 0} {w : Model I ℕ} (l : InputLaws w) {g : Grammar
         (λ u t xs ys f n v k. record { front = xs; back = ys; whole = refl; first = f v.0 k.0; second = n v.1 k.1 }) (p.accepts s) (λ u. q.accepts s);
   }
 
-  -- bytes, and then a form
-  pub preceded_accepts : {bytes : List ℕ} {Next : P → List ℕ → Type 0} → AcceptsBytes w g bytes → AcceptsForms w h Next →
-      AcceptsForms w (preceded_of w g h) (λ v. Both (λ xs. xs ≡ bytes) (Next v))
-  preceded_accepts {bytes} {Next} p q = record {
-    accepts = λ s. then_accepts w l (λ u v. v) (g.meaning.answers s) (λ u. h.meaning.answers s) (λ u xs. xs ≡ bytes) (λ u. FormOf h Next)
-        (FormOf h (λ v. Both (λ xs. xs ≡ bytes) (Next v)))
+  -- items, and then a form
+  pub preceded_accepts : {items : List A} {Next : P → List A → Type 0} → AcceptsItems w g items → AcceptsForms w h Next →
+      AcceptsForms w (preceded_of w g h) (λ v. Both (λ xs. xs ≡ items) (Next v))
+  preceded_accepts {items} {Next} p q = record {
+    accepts = λ s. then_accepts w l (λ u v. v) (g.meaning.answers s) (λ u. h.meaning.answers s) (λ u xs. xs ≡ items) (λ u. FormOf h Next)
+        (FormOf h (λ v. Both (λ xs. xs ≡ items) (Next v)))
         (λ u t xs ys f n v k. record { front = xs; back = ys; whole = refl; first = f; second = n v k }) (p.accepts s) (λ u. q.accepts s);
   }
 
-  -- a form, and then bytes
-  pub terminated_accepts : {bytes : List ℕ} {First : O → List ℕ → Type 0} → AcceptsForms w g First → AcceptsBytes w h bytes →
-      AcceptsForms w (terminated_of w g h) (λ v. Both (First v) (λ xs. xs ≡ bytes))
-  terminated_accepts {bytes} {First} p q = record {
-    accepts = λ s. then_accepts w l (λ u v. u) (g.meaning.answers s) (λ u. h.meaning.answers s) (FormOf g First) (λ u v xs. xs ≡ bytes)
-        (FormOf g (λ v. Both (First v) (λ xs. xs ≡ bytes)))
+  -- a form, and then items
+  pub terminated_accepts : {items : List A} {First : O → List A → Type 0} → AcceptsForms w g First → AcceptsItems w h items →
+      AcceptsForms w (terminated_of w g h) (λ v. Both (First v) (λ xs. xs ≡ items))
+  terminated_accepts {items} {First} p q = record {
+    accepts = λ s. then_accepts w l (λ u v. u) (g.meaning.answers s) (λ u. h.meaning.answers s) (FormOf g First) (λ u v xs. xs ≡ items)
+        (FormOf g (λ v. Both (First v) (λ xs. xs ≡ items)))
         (λ u t xs ys f n v k. record { front = xs; back = ys; whole = refl; first = f v k; second = n }) (p.accepts s) (λ u. q.accepts s);
   }
 
 -- a part of a sequence that ends another one
-both_grouped : {A B C : List ℕ → Type 0} {xs : List ℕ} → Both (Both A B) C xs → Both A (Both B C) xs
+both_grouped : {T : Type 0} {A B C : List T → Type 0} {xs : List T} → Both (Both A B) C xs → Both A (Both B C) xs
 both_grouped f = record {
   front = f.first.front;
   back = f.first.back ++ f.back;
@@ -76,43 +76,43 @@ both_grouped f = record {
 }
 
 -- what is a form by another name
-pub renamed_accepts : {I V O E : Type 0} {w : Model I ℕ} {g : Grammar I V O E} {Form Other : O → List ℕ → Type 0} →
-    ((v : O) (xs : List ℕ) → Form v xs → Other v xs) → AcceptsForms w g Form → AcceptsForms w g Other
+pub renamed_accepts : {I A V O E : Type 0} {w : Model I A} {g : Grammar I V O E} {Form Other : O → List A → Type 0} →
+    ((v : O) (xs : List A) → Form v xs → Other v xs) → AcceptsForms w g Form → AcceptsForms w g Other
 renamed_accepts f p = record {
   accepts = λ s. record { front = λ i n t known a. front_by (λ xs k v o. f v xs (k v o)) ((p.accepts s).front i n t known a) };
 }
 
-pub regrouped_accepts : {I V O E : Type 0} {w : Model I ℕ} {g : Grammar I V O E} {A B C : O → List ℕ → Type 0} →
+pub regrouped_accepts : {I T V O E : Type 0} {w : Model I T} {g : Grammar I V O E} {A B C : O → List T → Type 0} →
     AcceptsForms w g (λ v. Both (Both (A v) (B v)) (C v)) → AcceptsForms w g (λ v. Both (A v) (Both (B v) (C v)))
 regrouped_accepts p = renamed_accepts (λ v xs f. both_grouped f) p
 
 -- a tuple, by the nested pairs of its outputs
-pub tuple_accepts : {I V O F E : Type 0} {w : Model I ℕ} {g : Grammar I V O E} {Form : O → List ℕ → Type 0} (pairs : F → O) →
+pub tuple_accepts : {I A V O F E : Type 0} {w : Model I A} {g : Grammar I V O E} {Form : O → List A → Type 0} (pairs : F → O) →
     AcceptsForms w g Form → AcceptsForms w (tuple_of pairs g) (λ v. Form (pairs v))
 tuple_accepts pairs p = record {
   accepts = λ s. record { front = λ i n t known a. front_by (λ xs k v o. k (pairs v) o) ((p.accepts s).front i n t known a) };
 }
 
--- lists of bytes that are joined are lists of bytes
-pub bytes_apart : (xs ys : List ℕ) → AreBytes (xs ++ ys) → AreBytes xs × AreBytes ys
-bytes_apart [] ys h = (tt, h)
-bytes_apart (x ∷ xs) ys h = let r = bytes_apart xs ys h.1 in ((h.0, r.0), r.1)
+-- lists of values that are joined are lists of values
+pub values_apart : {A : Type 0} (IsValue : A → Type 0) (xs ys : List A) → AreValues IsValue (xs ++ ys) → AreValues IsValue xs × AreValues IsValue ys
+values_apart IsValue [] ys h = (tt, h)
+values_apart IsValue (x ∷ xs) ys h = let r = values_apart IsValue xs ys h.1 in ((h.0, r.0), r.1)
 
 -- one form after another is one
-pub both_one : {A B : List ℕ → Type 0} → IsOneForm A → IsOneForm B → IsOneForm (Both A B)
-both_one p q = record {
+pub both_one : {T : Type 0} {IsValue : T → Type 0} {A B : List T → Type 0} → IsOneForm IsValue A → IsOneForm IsValue B → IsOneForm IsValue (Both A B)
+both_one {IsValue = IsValue} p q = record {
   one = λ xs ys h k a b.
-      let x = bytes_apart a.front a.back (subst AreBytes a.whole h) in
-      let y = bytes_apart b.front b.back (subst AreBytes b.whole k) in
+      let x = values_apart IsValue a.front a.back (subst (AreValues IsValue) a.whole h) in
+      let y = values_apart IsValue b.front b.back (subst (AreValues IsValue) b.whole k) in
       let first : a.front ≡ b.front = p.one a.front b.front x.0 y.0 a.first b.first in
       let second : a.back ≡ b.back = q.one a.back b.back x.1 y.1 a.second b.second in
       a.whole ∙ (ap (λ z. z ++ a.back) first ∙ (ap (λ z. b.front ++ z) second ∙ sym b.whole));
 }
 
 -- what has a fact of one form beside it
-pub one_beside : {A B : List ℕ → Type 0} → ((xs : List ℕ) → B xs → A xs) → IsOneForm A → IsOneForm B
+pub one_beside : {T : Type 0} {IsValue : T → Type 0} {A B : List T → Type 0} → ((xs : List T) → B xs → A xs) → IsOneForm IsValue A → IsOneForm IsValue B
 one_beside f p = record { one = λ xs ys h k a b. p.one xs ys h k (f xs a) (f ys b) }
 
--- bytes that are given
-pub bytes_one : (bytes : List ℕ) → IsOneForm (λ xs. xs ≡ bytes)
-bytes_one bytes = record { one = λ xs ys h k a b. a ∙ sym b }
+-- items that are given
+pub items_one : {A : Type 0} {IsValue : A → Type 0} (items : List A) → IsOneForm IsValue (λ xs. xs ≡ items)
+items_one items = record { one = λ xs ys h k a b. a ∙ sym b }
