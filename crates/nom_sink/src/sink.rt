@@ -70,9 +70,14 @@ impl<T: Copy, A: Allocator> Sink<T> for Vec<T, A> {
     #[inline(always)]
     fn add(&mut self, items: &[T]) -> Result<(), WriteError> {
         if !has_room(self, items.len()) {
+            let len = Vec::len(self);
             replace_with(self, items.len(), |list: Vec<T, A>, more: usize| {
                 (larger((list, more)), ())
             });
+            // The length stays. This tells the compiler, so that a loop needn't ask whether an item was empty.
+            if Vec::len(self) != len {
+                return Err(WriteError::OutOfMemory);
+            }
         }
         if !has_room(self, items.len()) {
             return Err(WriteError::OutOfMemory);
