@@ -41,8 +41,9 @@ module _ {I : Type 0} (w : Model I ℕ) where
 
     pub bool_accepts : AcceptsForms (bits_model w) (valued (bool_meaning w errs)) (λ v bs. bs ≡ v ∷ [])
     bool_accepts = record {
-      accepts = λ s. become_accepts (bits_model w) (labelled (λ number. nat_eq number 1)) (λ number. nat_eq number 1) (labelled_only (λ number. nat_eq number 1))
-          ((take_meaning w errs 1 1).answers s) (λ number bs. (length bs ≡ 1) × (spelled bs ≡ number)) (λ b bs. (v : Bool) → v ≡ b → bs ≡ v ∷ [])
+      accepts = λ s. become_accepts (bits_model w) (labelled (λ number. nat_eq number 1)) (λ number. nat_eq number 1)
+          (labelled_only (λ number. nat_eq number 1)) ((take_meaning w errs 1 1).answers s)
+          (λ number bs. (length bs ≡ 1) × (spelled bs ≡ number)) (λ b bs. (v : Bool) → v ≡ b → bs ≡ v ∷ [])
           (λ number bs f v e. one_bit bs f.0 ∙ ap (λ b. b ∷ []) (ap (λ m. nat_eq m 1) f.1 ∙ sym e)) (field_only 1 1 s);
     }
 
@@ -53,7 +54,8 @@ module _ {I : Type 0} (w : Model I ℕ) where
       spelled_kept bs v number room e n o =
           sym (kept (spelled bs) (field_below bs count width e room)) ∙ ap bits (ap of_bits n ∙ sym o)
 
-      pub take_bits_accepts : count ≤ width → AcceptsForms (bits_model w) (record { meaning = take_meaning w errs width count; IsOutput = λ t v. v ≡ of_bits t })
+      pub take_bits_accepts : count ≤ width → AcceptsForms (bits_model w)
+          (record { meaning = take_meaning w errs width count; IsOutput = λ t v. v ≡ of_bits t })
           (λ v. AreBitsOf count (bits v))
       take_bits_accepts room = record {
         accepts = λ s. record {
