@@ -1,1 +1,3 @@
+pub mod Brackets
 pub mod Codes
+pub mod Colors

@@ -1,9 +1,18 @@
-//! Grammars of lines and records: as contracts, by the words of `nom`'s own specs, and one with nothing to prove.
+//! Grammars as a user of the library writes them: with a contract in words of `nom`'s own specs, with one of the user's, and with
+//! nothing to prove.
 #![tactic(auto)]
 
+mod bits;
+mod brackets;
 mod configuration;
 pub mod grammars;
+mod hex;
 pub mod lengths;
+mod promises;
 pub mod words;
 
+pub use crate::bits::twelve_bits;
+pub use crate::brackets::{brackets_line, nested_brackets};
 pub use crate::configuration::{Line, settings};
+pub use crate::hex::{Color, hex_color};
+pub use crate::promises::promised;

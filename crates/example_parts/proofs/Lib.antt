@@ -1,2 +1,4 @@
+pub mod Depths
 pub mod FirstItem
+pub mod Passed
 pub mod TokenItems

@@ -1,2 +1,0 @@
-pub mod Brackets
-pub mod Colors

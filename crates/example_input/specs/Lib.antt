@@ -1,3 +1,0 @@
-pub mod Nestings
-pub mod Settings
-pub mod Sources
