@@ -4,10 +4,12 @@
 
 mod bits;
 mod brackets;
+pub mod closures;
 mod configuration;
 pub mod grammars;
 mod hex;
 pub mod lengths;
+pub mod own;
 mod promises;
 pub mod words;
 

@@ -1,4 +1,5 @@
 pub mod Fields
+pub mod Kinds
 pub mod Messages
 pub mod Pipes
 pub mod Records

@@ -1,9 +1,11 @@
-//! Grammars of items that come in a stream: records, fields, frames, and the messages of `example_protocol`. Frames are also written
-//! to a pipe: what was written is what is read.
+//! Items that come in a stream: records, fields, frames, and the messages of `example_protocol`. Frames are also written to a pipe:
+//! what was written is what is read. A header and frames of a kind are read and written by one parser.
 #![tactic(auto)]
 
 pub mod fields;
 pub mod frames;
+pub mod header;
+pub mod kinds;
 pub mod messages;
 pub mod pipes;
 pub mod records;
