@@ -2,7 +2,7 @@
 use Rattle.std.proofs.Common.{◌≡◌, ℕ, List, [], ◌∷◌, length, subst}
 use Rattle.nom.specs.Bytes.{BytesGrammar, Endianness, Big, all_consuming_of, alt_of, length_data_of, length_value_of, map_of, number_of, or_of, pair_of}
 use Rattle.nom.specs.Bytes.{preceded_of, tag_of}
-use Rattle.example_protocol.specs.Messages.{Body}
+use Rattle.example_streams.specs.Protocol.{Body}
 use Rattle.example_streams.specs.declared.messages.Received.{Received}
 use Rattle.example_streams.specs.declared.messages.Received.TheVariants.{Ping, Text, Close}
 use Rattle.example_streams.specs.Messages.{message_of}

@@ -1,11 +1,11 @@
-//! The messages of `example_protocol`, one after another:
+//! The messages of `protocol`, one after another:
 //!
 //! ```text
 //! message  = length:u16 body           (the length is the body's, in bytes; numbers have the highest byte first)
 //! body     = 1 number:u32 | 2 length:u8 bytes | 3
 //! ```
 ghost use Rattle.std.specs.Prelude.{◌≡◌, length};
-ghost use Rattle.example_protocol.specs.Messages.{Body};
+ghost use Rattle.example_streams.specs.Protocol.{Body};
 ghost use Rattle.example_streams.specs.Messages.{message_of};
 ghost use Rattle.example_streams.specs.declared.messages.Received.TheVariants.{Ping, Text, Close};
 

@@ -24,9 +24,9 @@ use Rattle.nom_write_stream.specs.Pipes.{TellsItems}
 use Rattle.nom_write_stream.proofs.Everywhere.{rest_of, values_after}
 use Rattle.nom_write_stream.proofs.Piped.{items_of_forms}
 use Rattle.nom_write_stream.proofs.Sending.{sends_none, sends_then}
-use Rattle.example_protocol.specs.declared.message.Message.{Message}
-use Rattle.example_protocol.specs.declared.message.Message.TheVariants as Sent
-use Rattle.example_protocol.specs.Messages.{Body}
+use Rattle.example_streams.specs.declared.protocol.Message.{Message}
+use Rattle.example_streams.specs.declared.protocol.Message.TheVariants as Sent
+use Rattle.example_streams.specs.Protocol.{Body}
 use Rattle.example_streams.specs.Messages.{message_of}
 use Rattle.example_streams.specs.declared.messages.Received.{Received}
 use Rattle.example_streams.specs.declared.messages.Received.TheVariants.{Ping, Text, Close}

@@ -22,9 +22,9 @@ use Rattle.nom_write.specs.laws.LengthReads.{length_data_reads, length_value_rea
 use Rattle.nom_write.specs.laws.SequenceReads.{pair_reads, preceded_reads}
 use Rattle.nom_write.specs.laws.WholeReads.{whole_reads}
 use Rattle.nom_write_stream.proofs.Everywhere.{values_after}
-use Rattle.example_protocol.specs.Messages.{Body}
-use Rattle.example_protocol.specs.declared.message.Message.{Message}
-use Rattle.example_protocol.specs.declared.message.Message.TheVariants as Sent
+use Rattle.example_streams.specs.Protocol.{Body}
+use Rattle.example_streams.specs.declared.protocol.Message.{Message}
+use Rattle.example_streams.specs.declared.protocol.Message.TheVariants as Sent
 use Rattle.example_streams.specs.declared.messages.Received.TheVariants as Received
 use Rattle.nom_messages_run.specs.Forms.{IsBody, IsMessage}
 use Rattle.nom_messages_run.specs.Back.{FileReadsBack, StreamReadsBack, received}

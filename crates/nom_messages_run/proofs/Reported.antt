@@ -6,8 +6,8 @@ use Rattle.nom_internal.specs.Prelude.{IResult, bytes_model, Cause}
 use Rattle.nom_growing.specs.Growing.{IsGrown}
 use Rattle.nom_internal.specs.Promises.{HasNoFailure}
 use Rattle.nom.specs.Bytes.{Bytes}
-use Rattle.example_protocol.specs.declared.message.Message.{Message}
-use Rattle.example_protocol.specs.Messages.{Body, body_of, messages_of}
+use Rattle.example_streams.specs.declared.protocol.Message.{Message}
+use Rattle.example_streams.specs.Protocol.{Body, body_of, messages_of}
 use Rattle.nom_run.specs.Report.{IsTold}
 use Rattle.nom_run.specs.Texts.{bytes_text}
 use Rattle.nom_run.proofs.Reported.{reported}

@@ -11,9 +11,9 @@ use Rattle.nom_stream.specs.Wholes.{HasLeft}
 use Rattle.nom_write.specs.Reads.{Anything, Reads}
 use Rattle.nom_write_stream.specs.declared.outgoing.Outgoing.{Outgoing}
 use Rattle.nom_write_stream.specs.Outgoing.{held_of}
-use Rattle.example_protocol.specs.declared.message.Message.{Message}
-use Rattle.example_protocol.specs.declared.message.Message.TheVariants as Sent
-use Rattle.example_protocol.specs.Messages.{body_of}
+use Rattle.example_streams.specs.declared.protocol.Message.{Message}
+use Rattle.example_streams.specs.declared.protocol.Message.TheVariants as Sent
+use Rattle.example_streams.specs.Protocol.{body_of}
 use Rattle.example_streams.specs.Messages.{message_of}
 use Rattle.example_streams.specs.declared.messages.Received.{Received}
 use Rattle.example_streams.specs.declared.messages.Received.TheVariants.{Ping, Text, Close}

@@ -20,7 +20,7 @@ use Rattle.nom_write_stream.specs.declared.outgoing.Unwritten as Unwrittens
 use Rattle.nom_write_stream.specs.declared.outgoing.Unwritten.TheVariants as Unwritten
 use Rattle.nom_write_stream.specs.Outgoing.{IsItem, Sends, held_of}
 use Rattle.nom_write_stream.specs.Targets.{NoFault, OneFault}
-use Rattle.example_protocol.specs.declared.message.Message.{Message}
+use Rattle.example_streams.specs.declared.protocol.Message.{Message}
 use Rattle.nom_messages_run.specs.Forms.{IsLong, IsMessage, body_len}
 use Rattle.nom_messages_run.specs.Typed.{typed_of}
 use Rattle.nom_messages_run.specs.declared.write.Halt as Halts

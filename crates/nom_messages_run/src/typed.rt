@@ -2,10 +2,10 @@
 ghost use Rattle.std.specs.Prelude.{◌≡◌, ◌-◌, false, Err, length};
 ghost use Rattle.nom_error.specs.declared.answer.Err.TheVariants as Answer;
 ghost use Rattle.nom.specs.Bytes.{Parses};
-ghost use Rattle.example_protocol.specs.declared.message.Message.TheVariants.{Ping, Text, Close};
+ghost use Rattle.example_streams.specs.declared.protocol.Message.TheVariants.{Ping, Text, Close};
 ghost use Rattle.nom_messages_run.specs.Typed.{typed_of};
 
-use example_protocol::Message;
+use example_streams::protocol::Message;
 use nom::branch::alt;
 use nom::bytes::{tag, take};
 use nom::character::u32;

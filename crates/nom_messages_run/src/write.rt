@@ -3,7 +3,7 @@ ghost use Rattle.std.specs.Prelude.{◌≡◌, ◌++◌, ◌≤◌, ℕ, List, [
 ghost use Rattle.nom_messages_run.specs.Forms.{IsBody, IsFrame, body_len};
 ghost use Rattle.nom_messages_run.specs.Sent.{HaltsLine, Says, SendsMessage, SendsNone, SentBefore, SentUntil};
 ghost use Rattle.nom_messages_run.specs.Sent.{WhyNoBody, WhyUnframed, WhyUnmade, WhyUnsent, halt_by, halt_for, halt_text, unsent_of};
-ghost use Rattle.example_protocol.specs.declared.message.Message.{Message};
+ghost use Rattle.example_streams.specs.declared.protocol.Message.{Message};
 ghost use Rattle.nom_messages_run.specs.Sent as Sent;
 ghost use Rattle.nom_stream.specs.Streams.{IsOpen};
 ghost use Rattle.nom_write_stream.specs.Outgoing.{IsItem, Sends};
@@ -11,7 +11,7 @@ ghost use Rattle.nom_write_stream.specs.Outgoing as Outgoings;
 ghost use Rattle.nom_write_stream.specs.Targets.{NoFault};
 
 use crate::typed::typed;
-use example_protocol::Message;
+use example_streams::protocol::Message;
 use nom::bytes::tag;
 use nom::error::Error;
 use nom::multi::length_data;

@@ -2,8 +2,8 @@ use Rattle.std.proofs.Common.{◌∙◌, ap}
 use Rattle.nom_internal.specs.Prelude.{bytes_model}
 use Rattle.nom_growing.specs.Growing.{IsGrown}
 use Rattle.nom_internal.specs.Promises.{HasNoFailure}
-use Rattle.example_protocol.proofs.WrittenMessages.{by_its_parts, of_whole}
-use Rattle.example_protocol.proofs.message.messages.Goals as goal
+use Rattle.example_streams.proofs.WrittenMessages.{by_its_parts, of_whole}
+use Rattle.example_streams.proofs.protocol.messages.Goals as goal
 
 pub returns : goal.returns
 returns g c =

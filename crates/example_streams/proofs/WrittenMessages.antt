@@ -8,9 +8,9 @@ use Rattle.nom_growing.specs.Growing.IsBeginning.{AtCut, AtEnd}
 use Rattle.nom_internal.specs.Promises.{HasNoFailure}
 use Rattle.nom.specs.Bytes.{Bytes, BytesGrammar, Endianness, Big, all_consuming_of, alt_of, length_data_of, length_value_of, many0_of, map_of, number_of}
 use Rattle.nom.specs.Bytes.{or_of, pair_of, preceded_of, tag_of, terminated_of}
-use Rattle.example_protocol.specs.declared.message.Message.{Message}
-use Rattle.example_protocol.specs.declared.message.Message.TheVariants.{Ping, Text, Close}
-use Rattle.example_protocol.specs.Messages.{Body, messages_of}
+use Rattle.example_streams.specs.declared.protocol.Message.{Message}
+use Rattle.example_streams.specs.declared.protocol.Message.TheVariants.{Ping, Text, Close}
+use Rattle.example_streams.specs.Protocol.{Body, messages_of}
 
 -- the grammar, by which bytes each kind begins and the messages end, and by the orders of numbers of several bytes
 abbrev written_of : {M : Type 0} → (ping text close end : List ℕ) → (length_endian number_endian : Endianness) → BytesGrammar (List Body) (Vec Message M)

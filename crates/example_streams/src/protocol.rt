@@ -3,8 +3,8 @@ ghost use Rattle.std.specs.Prelude.{◌≡◌};
 ghost use Rattle.nom_internal.specs.Prelude.{bytes_model};
 ghost use Rattle.nom_growing.specs.Growing.{AreCuts, IsGrown};
 ghost use Rattle.nom_internal.specs.Promises.{HasNoFailure};
-ghost use Rattle.example_protocol.specs.Messages.{TellsWhole, messages_of};
-ghost use Rattle.example_protocol.specs.declared.message.Message.TheVariants.{Ping, Text, Close};
+ghost use Rattle.example_streams.specs.Protocol.{TellsWhole, messages_of};
+ghost use Rattle.example_streams.specs.declared.protocol.Message.TheVariants.{Ping, Text, Close};
 
 use nom::branch::alt;
 use nom::bytes::tag;
