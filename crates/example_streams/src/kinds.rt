@@ -51,10 +51,10 @@ pub type Frame<'a> = (Kind, &'a [u8]);
 type Byte<'a> = BeU8<&'a [u8], Error<&'a [u8]>>;
 
 /// Returns the parser of a frame: a byte, by the functions between it and its kind, and data after a length of one byte.
-fn frames<'a, To, From>(
-    to: To,
-    from: From,
-) -> (MapResBoth<Byte<'a>, To, From>, LengthData<Byte<'a>>)
+fn frames<'a, ToKind, ToByte>(
+    to: ToKind,
+    from: ToByte,
+) -> (MapResBoth<Byte<'a>, ToKind, ToByte>, LengthData<Byte<'a>>)
     ensures to { result.0.map.map ≡ to }
     ensures from { result.0.back ≡ from }
 {
