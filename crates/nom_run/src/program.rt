@@ -97,11 +97,13 @@ fn answer<R: Report, F: Folder, W: Sink>(
         Ok(task) => task,
         Err(error) => return Err(error),
     };
-    let mut source = match folder.open(task.file.as_str()) {
+    let name = task.file.as_str();
+    let cuts = task.cuts.as_slice();
+    let mut source = match folder.open(name) {
         Ok(source) => source,
         Err(_) => return Err(RunError::Read),
     };
-    run(alloc, report, &mut source, &task.cuts, sink)
+    run(alloc, report, &mut source, cuts, sink)
 }
 
 fn fault(error: RunError) -> &'static str
