@@ -7,6 +7,7 @@
 pub mod called;
 pub mod counted;
 pub mod error;
+pub mod folder;
 pub mod pieces;
 pub mod program;
 pub mod report;

@@ -4,19 +4,18 @@
 //! If there is no report, one line shows the reason, and the status is 3. After a failed write nothing more
 //! is written.
 ghost use Rattle.std.specs.Prelude.{◌≡◌, ◌<◌, ⊤, length, map, IfOk, IfErr, string_bytes};
-ghost use Rattle.nom_run.specs.Lines.{BeganReport, Told, WroteReport, WroteText, fault_text};
-ghost use Rattle.nom_run.specs.Asked.{Asks, IsWrong};
+ghost use Rattle.nom_run.specs.Lines.{Told, WroteText, fault_text};
+ghost use Rattle.nom_run.specs.Asked.{Asks, BeginsAsked, IsWrong, ReportsAsked, ToldAsked, WhyMemory, WhyRead, WhyUsage};
 ghost use Rattle.nom_run.specs.Stream.{MatchRunError, WriteFailed};
 
-use crate::counted::Counted;
 use crate::error::RunError;
+use crate::folder::{Disk, Folder};
 use crate::report::Report;
 use crate::run::{run, write_all};
 use crate::stream::Sink;
 use crate::words::read_cuts;
 use std::alloc::Global;
 use std::env;
-use std::fs::File;
 use std::io::ErrorKind;
 use std::rt::{Env, Files};
 
@@ -76,33 +75,35 @@ fn read_task(alloc: Global, words: &[String]) -> Result<Task, RunError>
     Ok(Task { file, cuts })
 }
 
-// Writes the report on the file that the command line names.
-fn answer<R: Report, W: Sink>(
-    rt: &(impl Env + Files + Alloc<A = Global>),
+// Writes the report on the file that the words name.
+fn answer<R: Report, F: Folder, W: Sink>(
+    alloc: Global,
+    words: &[String],
     report: &R,
+    folder: &mut F,
     sink: &mut W,
 ) -> Result<u8, RunError>
-    ensures status { IfOk result (λ status. WroteReport R.is_report (W.held sink.old) (W.held sink.new) status
-        × (W.failures sink.new ≡ W.failures sink.old)) }
-    ensures error { IfErr result (λ e. MatchRunError e (sink.new ≡ sink.old)
-        (BeganReport R.is_report (W.held sink.old) (W.held sink.new)
+    ensures status { IfOk result (λ status. ReportsAsked F.is_file F.File.left F.File.failures (map string_bytes words.now) F.missed folder.old folder.new
+        R.is_report (W.held sink.old) (W.held sink.new) status × (W.failures sink.new ≡ W.failures sink.old)) }
+    ensures error { IfErr result (λ e. MatchRunError e
+        ((sink.new ≡ sink.old) × WhyRead F.is_file F.File.left F.File.failures (map string_bytes words.now) F.missed folder.old folder.new)
+        (BeginsAsked F.is_file F.File.left F.File.failures (map string_bytes words.now) F.missed folder.old folder.new
+        R.is_report (W.held sink.old) (W.held sink.new)
         × WriteFailed (W.failures sink.old) (W.failures sink.new) (W.stalls sink.old) (W.stalls sink.new))
-        (sink.new ≡ sink.old) (sink.new ≡ sink.old)) }
+        ((sink.new ≡ sink.old) × WhyMemory F.is_file F.File.left F.File.failures (map string_bytes words.now) F.missed folder.old folder.new)
+        ((sink.new ≡ sink.old) × WhyUsage F.is_file F.File.left F.File.failures (map string_bytes words.now) F.missed folder.old folder.new)) }
 {
-    let words = match read_words(rt) {
-        Ok(words) => words,
-        Err(error) => return Err(error),
-    };
-    let task = match read_task(rt.alloc(), &words) {
+    let task = match read_task(alloc, words) {
         Ok(task) => task,
         Err(error) => return Err(error),
     };
-    let file = match File::open(rt, task.file.as_str()) {
-        Ok(file) => file,
+    let name = task.file.as_str();
+    let cuts = task.cuts.as_slice();
+    let mut source = match folder.open(name) {
+        Ok(source) => source,
         Err(_) => return Err(RunError::Read),
     };
-    let mut source = Counted::new(file);
-    run(rt.alloc(), report, &mut source, &task.cuts, sink)
+    run(alloc, report, &mut source, cuts, sink)
 }
 
 fn fault(error: RunError) -> &'static str
@@ -128,9 +129,29 @@ pub fn tell_fault<W: Sink>(sink: &mut W, error: RunError) -> u8
     NO_REPORT
 }
 
-/// Writes the report on the file that the command line names, and returns the status.
+/// Writes the report on the file that words name, and returns the status. The first word is the program's name.
 ///
 /// If there is no report, it writes the line that shows the reason.
+pub fn status_for<R: Report, F: Folder, W: Sink>(
+    alloc: Global,
+    words: &[String],
+    report: &R,
+    folder: &mut F,
+    sink: &mut W,
+) -> u8
+    ensures { ToldAsked F.is_file F.File.left F.File.failures (map string_bytes words.now) F.missed folder.old folder.new R.is_report
+        (W.held sink.old) (W.held sink.new) (W.failures sink.old) (W.failures sink.new) (W.stalls sink.old) (W.stalls sink.new) result }
+{
+    match answer(alloc, words, report, folder, sink) {
+        Ok(status) => status,
+        Err(error) => tell_fault(sink, error),
+    }
+}
+
+/// Writes the report on the file that the command line names, and returns the status.
+///
+/// If there is no report, it writes the line that shows the reason. It does what `status_for` does, for the
+/// words of the command line; nothing is proved of which these are.
 pub fn status_of<R: Report, W: Sink>(
     rt: &(impl Env + Files + Alloc<A = Global>),
     report: &R,
@@ -139,8 +160,11 @@ pub fn status_of<R: Report, W: Sink>(
     ensures { Told R.is_report (W.held sink.old) (W.held sink.new) (W.failures sink.old) (W.failures sink.new)
         (W.stalls sink.old) (W.stalls sink.new) result }
 {
-    match answer(rt, report, sink) {
-        Ok(status) => status,
+    match read_words(rt) {
+        Ok(words) => {
+            let mut folder = Disk::new(rt);
+            status_for(rt.alloc(), &words, report, &mut folder, sink)
+        }
         Err(error) => tell_fault(sink, error),
     }
 }

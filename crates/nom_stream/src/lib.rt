@@ -8,6 +8,7 @@ pub mod grammar;
 pub mod held;
 pub mod promises;
 pub mod reader;
+pub mod retried;
 pub mod settings;
 pub mod step;
 pub mod stream;

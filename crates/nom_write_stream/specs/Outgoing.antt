@@ -14,7 +14,7 @@ use Rattle.nom_write_stream.specs.declared.outgoing.Halted.{Halted}
 use Rattle.nom_write_stream.specs.declared.outgoing.Outgoing.{Outgoing}
 use Rattle.nom_write_stream.specs.declared.outgoing.Unwritten.{Unwritten}
 use Rattle.nom_write_stream.specs.declared.outgoing.Unwritten.TheVariants.{TooLong, Mismatch, Nothing, OverLimit, Fault, OutOfMemory}
-use Rattle.nom_write_stream.specs.Targets.{NoFault, OneFault}
+use Rattle.nom_write_stream.specs.Targets.{NoFault, OneFault, one_more}
 
 -- the bytes that aren't written yet
 abbrev pub held_of : {W A : Type 0} → Outgoing W A → List ℕ
@@ -40,6 +40,12 @@ pub record IsItem (Form : List ℕ → Type 0) (most : ℕ) (xs : List ℕ) : Ty
 abbrev pub Sends : {W A : Type 0} → (W → Option (List ℕ)) → (a b : Outgoing W A) → (xs : List ℕ) → Type 0
 Sends contents a b xs =
     (written : List ℕ) × (held_of a ++ xs ≡ written ++ held_of b) × Appends (contents a.target.inner) (contents b.target.inner) written
+
+-- All was written, and the writer was flushed, once; or a write failed, and it wasn't.
+abbrev pub Flushes : {W A T : Type 0} → (a b : Outgoing W A) → Result T Error → Type 0
+Flushes a b (Ok x) = b.target.flushes ≡ one_more a.target.flushes
+Flushes a b (Err e) =
+    ((held_of b ≡ []) × (b.target.flushes ≡ one_more a.target.flushes)) ⊎ ((0 < length (held_of b)) × (b.target.flushes ≡ a.target.flushes))
 
 -- why an item isn't written that begins at a place of what is held; none where there is no room for it beside what is held
 abbrev pub told_of : WriteError → (start : ℕ) → Option Unwritten

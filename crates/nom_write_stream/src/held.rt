@@ -1,5 +1,5 @@
 //! Bytes that wait to be written.
-ghost use Rattle.std.specs.Prelude.{◌≡◌, ◌≤◌, [], IfOk, drop, length, vec_capacity};
+ghost use Rattle.std.specs.Prelude.{◌≡◌, ◌<◌, ◌≤◌, [], OnErr, OnOk, drop, length, vec_capacity};
 ghost use Rattle.nom_sink.specs.Written.Lack.{OfSpace};
 
 use nom_error::answer::OutOfMemory;
@@ -16,12 +16,24 @@ pub struct Held<A: Allocator> {
 }
 
 impl<A: Allocator> Held<A> {
-    /// Returns an empty buffer with room for at least `count` bytes.
-    pub fn with_room(alloc: A, count: usize) -> Result<Self, OutOfMemory>
-        ensures { IfOk result (λ held. (held.bytes.items ≡ []) × (count ≤ vec_capacity held.bytes)) }
+    /// Returns an empty buffer without room.
+    pub fn new(alloc: A) -> Self
+        ensures { result.bytes.items ≡ [] }
     {
-        match Vec::with_capacity(alloc, count) {
-            Ok(bytes) => Ok(Held { bytes }),
+        Held {
+            bytes: Vec::new(alloc),
+        }
+    }
+
+    /// Takes memory for at least `count` bytes, if the buffer has too little.
+    pub fn take_room(&mut self, count: usize) -> Result<(), OutOfMemory>
+        requires { self.old.bytes.items ≡ [] }
+        ensures same { self.new.bytes.items ≡ self.old.bytes.items }
+        ensures room { OnOk result (count ≤ vec_capacity self.new.bytes) }
+        ensures lacks { OnErr result (vec_capacity self.new.bytes < count) }
+    {
+        match self.bytes.reserve_exact(count) {
+            Ok(()) => Ok(()),
             Err(_) => Err(OutOfMemory),
         }
     }

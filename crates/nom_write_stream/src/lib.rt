@@ -6,4 +6,5 @@
 pub mod held;
 pub mod outgoing;
 pub mod promises;
+pub mod retried;
 pub mod target;

@@ -1,7 +1,7 @@
 //! Items that are written one after another.
-ghost use Rattle.std.specs.Prelude.{◌≡◌, [], IfOk, OnOk};
-ghost use Rattle.nom_write_stream.specs.Outgoing.{Adds, AddsAll, Fits, IsOpen, Sends, held_of, told_of};
-ghost use Rattle.nom_write_stream.specs.Targets.{CountsWrite};
+ghost use Rattle.std.specs.Prelude.{◌≡◌, ◌<◌, [], IfErr, IfOk, OnErr, OnOk, length};
+ghost use Rattle.nom_write_stream.specs.Outgoing.{Adds, AddsAll, Fits, Flushes, IsOpen, Sends, held_of, told_of};
+ghost use Rattle.nom_write_stream.specs.Targets.{CountsWrite, IsLate};
 
 use crate::held::Held;
 use crate::target::Target;
@@ -73,9 +73,11 @@ impl<W: Write, A: Allocator> Outgoing<W, A> {
         ensures none { IfOk result (λ new. held_of new ≡ []) }
         ensures target { IfOk result (λ new. (new.target.inner ≡ target) × (new.target.faults ≡ 0)) }
         ensures most { IfOk result (λ new. new.most ≡ most) }
+        ensures memory { OnErr result (0 < most) }
     {
-        match Held::with_room(alloc, most) {
-            Ok(held) => Ok(Outgoing {
+        let mut held = Held::new(alloc);
+        match held.take_room(most) {
+            Ok(()) => Ok(Outgoing {
                 target: Target::new(target),
                 held,
                 most,
@@ -123,8 +125,11 @@ impl<W: Write, A: Allocator> Outgoing<W, A> {
         requires { IsOpen self.old }
         ensures open { IsOpen self.new }
         ensures none { OnOk result (held_of self.new ≡ []) }
+        ensures some { OnErr result (0 < length (held_of self.new)) }
         ensures sends { Sends W.contents self.old self.new [] }
         ensures counts { CountsWrite self.old.target self.new.target result }
+        ensures again { IfErr result (IsLate self.new.target) }
+        ensures flushes { self.new.target.flushes ≡ self.old.target.flushes }
         ensures most { self.new.most ≡ self.old.most }
     {
         let (count, fault) = self.target.write_all(&self.held.bytes);
@@ -145,6 +150,7 @@ impl<W: Write, A: Allocator> Outgoing<W, A> {
         requires open { IsOpen self.old }
         ensures open { IsOpen self.new }
         ensures adds { Adds W.contents self.old self.new (P.Form writer.now value.now) (P.Fails writer.now value.now) result }
+        ensures flushes { self.new.target.flushes ≡ self.old.target.flushes }
         ensures most { self.new.most ≡ self.old.most }
     {
         match self.add(writer, value) {
@@ -173,6 +179,7 @@ impl<W: Write, A: Allocator> Outgoing<W, A> {
         requires open { IsOpen self.old }
         ensures open { IsOpen self.new }
         ensures adds { AddsAll W.contents self.old self.new (P.Form writer.now) (P.Fails writer.now) values.now result }
+        ensures flushes { self.new.target.flushes ≡ self.old.target.flushes }
         ensures most { self.new.most ≡ self.old.most }
     {
         for count in 0..values.len() {
@@ -184,11 +191,12 @@ impl<W: Write, A: Allocator> Outgoing<W, A> {
         Ok(())
     }
 
-    /// Writes the held bytes, and flushes the writer.
+    /// Writes the held bytes, and flushes the writer, once. After a failed write the writer isn't flushed.
     pub fn flush(&mut self) -> io::Result<()>
         requires { IsOpen self.old }
         ensures open { IsOpen self.new }
         ensures none { OnOk result (held_of self.new ≡ []) }
+        ensures flushed { Flushes self.old self.new result }
         ensures sends { Sends W.contents self.old self.new [] }
         ensures counts { CountsWrite self.old.target self.new.target result }
         ensures most { self.new.most ≡ self.old.most }

@@ -1,27 +1,27 @@
 //! A writer of std that counts its faults.
-ghost use Rattle.std.specs.Prelude.{◌≡◌, ◌↔◌, ◌<◌, ◌≤◌, None, IfOk, IsTrue, length, take, MatchOption};
+ghost use Rattle.std.specs.Prelude.{◌≡◌, ◌↔◌, None, IsTrue, MatchBool};
 ghost use Rattle.std.specs.Io.{WritesAtMost};
-ghost use Rattle.std.specs.Io.KnownBytes.{Appends, Keeps, WriteAppends};
+ghost use Rattle.std.specs.Io.KnownBytes.{Keeps, WriteAppends};
 ghost use Rattle.std.specs.IoError.{error_kind};
-ghost use Rattle.nom_write_stream.specs.Targets.{CountsCall, CountsWrite, NoFault, OneFault};
+ghost use Rattle.nom_write_stream.specs.Targets.{CountsCall, CountsError, CountsWrite, IsPassed, OneFault, one_more};
 
 use std::io;
 use std::io::{ErrorKind, Write};
 
-/// A writer of std, with the count of its failed calls.
+/// A writer of std, with the counts of its failed calls, of its interrupted writes and of its flushes.
 ///
-/// An interrupted write hasn't failed: it is made again. A write that takes none of the bytes has failed, with
-/// `WriteZero`.
+/// An interrupted write hasn't failed: it is made again. Only the interruption that comes after 2^64 - 2
+/// others is a failure. A write that takes none of the bytes has failed, with `WriteZero`.
 ///
-/// A trait of std says nothing about how often it is called, nor about its errors. The first line of `call`
-/// shows that it calls the writer exactly once; this isn't proved.
+/// `call` and `flush` alone raise the counts. A trait of std says nothing about how often it is called, nor
+/// about its errors. The bodies of the two show that each calls the writer exactly once; this isn't proved.
 #[derive(Drop)]
 pub struct Target<W> {
     pub inner: W,
-    /// The number of failed calls. It stays at the greatest `u64`.
-    pub faults: u64,
-    /// The error of the last failed call.
-    pub last_fault: Option<io::Error>,
+    faults: u64,
+    last_fault: Option<io::Error>,
+    interruptions: u64,
+    flushes: u64,
 }
 
 // Whether an error is that of an interruption.
@@ -32,16 +32,39 @@ fn is_interrupted(error: io::Error) -> bool
 }
 
 impl<W> Target<W> {
-    /// Returns a writer whose count starts at 0.
+    /// Returns a writer whose counts start at 0.
     pub fn new(inner: W) -> Self
         ensures inner { result.inner ≡ inner }
-        ensures none { (result.faults ≡ 0) × (result.last_fault ≡ None) }
+        ensures none { (result.faults ≡ 0) × (result.last_fault ≡ None) × (result.interruptions ≡ 0) × (result.flushes ≡ 0) }
     {
         Target {
             inner,
             faults: 0,
             last_fault: None,
+            interruptions: 0,
+            flushes: 0,
         }
+    }
+
+    /// Returns the number of failed calls. It stays at the greatest `u64`.
+    pub fn faults(&self) -> u64
+        ensures { result ≡ self.now.faults }
+    {
+        self.faults
+    }
+
+    /// Returns the error of the last failed call.
+    pub fn last_fault(&self) -> Option<io::Error>
+        ensures { result ≡ self.now.last_fault }
+    {
+        self.last_fault
+    }
+
+    /// Returns the number of calls of `flush`. It stays at the greatest `u64`.
+    pub fn flushes(&self) -> u64
+        ensures { result ≡ self.now.flushes }
+    {
+        self.flushes
     }
 
     /// Returns the inner writer.
@@ -52,89 +75,68 @@ impl<W> Target<W> {
         inner
     }
 
+    /// Returns whether a write that gave this error last was interrupted, and can be made again.
+    pub fn is_passed(&self, error: io::Error) -> bool
+        ensures { MatchBool result (IsPassed self.now error) (IsPassed self.now error → ⊥) }
+    {
+        is_interrupted(error) && self.interruptions < u64::MAX
+    }
+
     // A call failed, with this error.
     fn fail(&mut self, error: io::Error)
         ensures inner { self.new.inner ≡ self.old.inner }
         ensures fault { OneFault self.old self.new error }
+        ensures others { (self.new.interruptions ≡ self.old.interruptions) × (self.new.flushes ≡ self.old.flushes) }
     {
         self.faults = self.faults.saturating_add(1);
         self.last_fault = Some(error);
     }
+
+    // A write gave this error.
+    fn count(&mut self, error: io::Error)
+        ensures inner { self.new.inner ≡ self.old.inner }
+        ensures counts { CountsError self.old self.new error }
+        ensures flushes { self.new.flushes ≡ self.old.flushes }
+    {
+        if is_interrupted(error) {
+            self.interruptions = self.interruptions.saturating_add(1);
+            if self.interruptions < u64::MAX {
+                return;
+            }
+        }
+        self.fail(error);
+    }
 }
 
 impl<W: Write> Target<W> {
-    // One call of `write`.
-    fn call(&mut self, bytes: &[u8]) -> io::Result<usize>
+    /// Calls `write` once. If the call takes no byte, the error `WriteZero` is counted.
+    pub fn call(&mut self, bytes: &[u8]) -> io::Result<usize>
         ensures bound { WritesAtMost result bytes.now }
         ensures bytes { WriteAppends (W.contents self.old.inner) (W.contents self.new.inner) result bytes.now }
         ensures counts { CountsCall self.old self.new result }
+        ensures flushes { self.new.flushes ≡ self.old.flushes }
     {
         match self.inner.write(bytes) {
-            Ok(count) => Ok(count),
-            Err(error) => {
-                if !is_interrupted(error) {
-                    self.fail(error);
+            Ok(count) => {
+                if count == 0 {
+                    self.fail(io::Error::from(ErrorKind::WriteZero));
                 }
+                Ok(count)
+            }
+            Err(error) => {
+                self.count(error);
                 Err(error)
             }
         }
     }
 
-    /// Makes one write, and makes it again if it is interrupted.
-    ///
-    /// A write that takes no byte has failed, and so has one that is interrupted 2^64 - 1 times.
-    pub fn write(&mut self, bytes: &[u8]) -> io::Result<usize>
-        ensures bound { WritesAtMost result bytes.now }
-        ensures some { IfOk result (λ n. 0 < n) }
-        ensures bytes { WriteAppends (W.contents self.old.inner) (W.contents self.new.inner) result bytes.now }
-        ensures counts { CountsWrite self.old self.new result }
-    {
-        for _turn in 0..u64::MAX {
-            match self.call(bytes) {
-                Ok(count) => {
-                    if count == 0 {
-                        let error = io::Error::from(ErrorKind::WriteZero);
-                        self.fail(error);
-                        return Err(error);
-                    }
-                    return Ok(count);
-                }
-                Err(error) => {
-                    if !is_interrupted(error) {
-                        return Err(error);
-                    }
-                }
-            }
-        }
-        let error = io::Error::from(ErrorKind::Interrupted);
-        self.fail(error);
-        Err(error)
-    }
-
-    /// Writes all bytes, in as many calls as needed.
-    ///
-    /// It returns how many were taken, and the error of a failed write, if one stopped it.
-    pub fn write_all(&mut self, bytes: &[u8]) -> (usize, Option<io::Error>)
-        ensures within { result.0 ≤ length bytes.now }
-        ensures wrote { Appends (W.contents self.old.inner) (W.contents self.new.inner) (take result.0 bytes.now) }
-        ensures told { MatchOption result.1 ((result.0 ≡ length bytes.now) × NoFault self.old self.new)
-            (λ e. (result.0 < length bytes.now) × OneFault self.old self.new e) }
-    {
-        let mut at = 0;
-        while at < bytes.len() {
-            match self.write(&bytes[at..]) {
-                Ok(count) => at += count,
-                Err(error) => return (at, Some(error)),
-            }
-        }
-        (at, None)
-    }
-
-    /// Calls `flush` once.
+    /// Calls `flush` once. An interrupted flush has failed.
     pub fn flush(&mut self) -> io::Result<()>
         ensures bytes { Keeps (W.contents self.old.inner) (W.contents self.new.inner) }
         ensures counts { CountsWrite self.old self.new result }
+        ensures flushes { self.new.flushes ≡ one_more self.old.flushes }
     {
+        self.flushes = self.flushes.saturating_add(1);
         match self.inner.flush() {
             Ok(()) => Ok(()),
             Err(error) => {

@@ -1,6 +1,9 @@
-use Rattle.nom_run.proofs.Ended.{told_end}
+use Rattle.nom_run.specs.Lines.Told.{Fault}
+use Rattle.nom_run.proofs.Ended.{not_write, told}
 use Rattle.nom_run.proofs.program.status_of.Goals as goal
 
+pub returns-in-Ok : goal.returns-in-Ok
+returns-in-Ok g c = told _ _ _ _ _ _ _ _ _ _ _ _ _ _ _ c.status_for.ensures
+
 pub returns-in-Err : goal.returns-in-Err
-returns-in-Err g c = told_end g.R.Report.is_report g.W.Sink.held g.W.Sink.failures g.W.Sink.stalls c.args.sink.now c.answer.new.sink c.tell_fault.new.sink
-    _ c.tell_fault.ensures.status c.in-Err.error c.in-Err.ensures.error c.tell_fault.ensures.wrote c.tell_fault.ensures.after_write
+returns-in-Err g c = Fault c.in-Err.error (not_write c.in-Err.error c.in-Err.ensures) c.tell_fault.ensures.wrote c.tell_fault.ensures.status

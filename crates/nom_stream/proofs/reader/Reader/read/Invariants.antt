@@ -1,4 +1,4 @@
-use Rattle.std.proofs.Common.{◌≡◌, length}
+use Rattle.std.proofs.Common.{◌≡◌, ◌+◌, ◌-◌, ◌^◌, ◌<◌, ◌≤◌, length}
 use Rattle.std.specs.Io.KnownBytes.{Keeps}
 use Rattle.nom_stream.specs.Readers.{NoFault}
 use Rattle.nom_stream.proofs.reader.Reader.read.Given as goal
@@ -8,4 +8,6 @@ invariant-loop-turn g l = record {
   kept : Keeps (g.R.Read.remaining l.fn.self.inner) (g.R.Read.remaining l.self.inner);
   len : length l.room ≡ length l.fn.room;
   none : NoFault l.fn.self l.self;
+  counted : l._turn ≤ l.self.interruptions;
+  passed : 0 < l._turn → l.self.interruptions < 2 ^ 64 - 1;
 }

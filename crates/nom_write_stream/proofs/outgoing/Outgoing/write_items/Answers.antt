@@ -17,5 +17,6 @@ loop-count-preserved g c =
       added = one_added g.W.Write.contents (g.P.Writer.Form c.args.writer.now) (g.P.Writer.Fails c.args.writer.now) c.args.values.now c.loop-count.count
           c.args.self.now c.loop-count.self c.write_item.new.self i.added i.most c.index-values-count.result c.loop-count-test.true
           c.index-values-count.is c.in-Ok.field-0 c.in-Ok.ensures.adds;
+      flushes = c.in-Ok.ensures.flushes ∙ i.flushes;
       most = c.in-Ok.ensures.most ∙ i.most;
     }

@@ -1,3 +1,4 @@
+use Rattle.std.proofs.Common.{◌≡◌, ◌-◌, ◌^◌, ◌<◌, ◌≤◌}
 use Rattle.std.specs.Io.KnownBytes.{Keeps}
 use Rattle.nom_write_stream.specs.Targets.{NoFault}
 use Rattle.nom_write_stream.proofs.target.Target.write.Given as goal
@@ -6,4 +7,7 @@ abbrev pub invariant-loop-turn : goal.invariant-loop-turn
 invariant-loop-turn g l = record {
   kept : Keeps (g.W.Write.contents l.fn.self.inner) (g.W.Write.contents l.self.inner);
   none : NoFault l.fn.self l.self;
+  flushes : l.self.flushes ≡ l.fn.self.flushes;
+  counted : l._turn ≤ l.self.interruptions;
+  passed : 0 < l._turn → l.self.interruptions < 2 ^ 64 - 1;
 }

@@ -1,4 +1,4 @@
-use Rattle.std.proofs.Common.{arith, ◌≤◌, ◌-◌, length}
+use Rattle.std.proofs.Common.{arith, ◌≤◌, ◌-◌, ◌∙◌, length}
 use Rattle.std.proofs.lemmas.List.{places}
 use Rattle.nom_write_stream.proofs.Known.{appends-more, none_then, take-on}
 use Rattle.nom_write_stream.proofs.target.Target.write_all.Goals as goal
@@ -14,4 +14,5 @@ loop-at-preserved g c =
           (appends-more (g.W.Write.contents c.args.self.now.inner) (g.W.Write.contents c.loop-at.self.inner)
           (g.W.Write.contents c.write.new.self.inner) _ _ c.loop-at.invariant.wrote c.in-Ok.ensures.bytes);
       none = none_then c.args.self.now c.loop-at.self c.write.new.self c.loop-at.invariant.none c.in-Ok.ensures.counts;
+      flushes = c.in-Ok.ensures.flushes ∙ c.loop-at.invariant.flushes;
     }

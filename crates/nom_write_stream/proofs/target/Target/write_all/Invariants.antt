@@ -1,4 +1,4 @@
-use Rattle.std.proofs.Common.{length, ◌-◌, ◌≤◌, take}
+use Rattle.std.proofs.Common.{◌≡◌, length, ◌-◌, ◌≤◌, take}
 use Rattle.std.specs.Io.KnownBytes.{Appends}
 use Rattle.nom_write_stream.specs.Targets.{NoFault}
 use Rattle.nom_write_stream.proofs.target.Target.write_all.Given as goal
@@ -8,6 +8,7 @@ invariant-loop-at g l = record {
   within : l.at ≤ length l.bytes;
   wrote : Appends (g.W.Write.contents l.fn.self.inner) (g.W.Write.contents l.self.inner) (take l.at l.bytes);
   none : NoFault l.fn.self l.self;
+  flushes : l.self.flushes ≡ l.fn.self.flushes;
 }
 
 abbrev pub decreases-loop-at : goal.decreases-loop-at

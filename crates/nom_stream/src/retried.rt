@@ -1,0 +1,38 @@
+//! Reads that are made again where they are interrupted.
+//!
+//! This module can't raise the counts of a reader.
+ghost use Rattle.std.specs.Prelude.{◌≡◌, ◌-◌, ◌^◌, ◌≤◌, IfErr, length};
+ghost use Rattle.std.specs.Io.{ReadsAtMost};
+ghost use Rattle.std.specs.Io.KnownBytes.{ReadConsumes};
+ghost use Rattle.std.specs.IoError.{error_kind};
+ghost use Rattle.std_io.specs.declared.io.kind.ErrorKind.TheVariants.{Interrupted};
+ghost use Rattle.nom_stream.specs.Readers.{CountsRead};
+
+use crate::reader::Reader;
+use std::io;
+use std::io::Read;
+
+impl<R: Read> Reader<R> {
+    /// Makes one read, and makes it again if it is interrupted.
+    ///
+    /// The error is that of the call that failed. It is an interruption only after 2^64 - 2 others.
+    pub fn read(&mut self, room: &mut [u8]) -> io::Result<usize>
+        ensures bound { ReadsAtMost result room.new }
+        ensures bytes { ReadConsumes (R.remaining self.old.inner) (R.remaining self.new.inner) result room.new }
+        ensures len { length room.new ≡ length room.old }
+        ensures counts { CountsRead self.old self.new result }
+        ensures again { IfErr result (λ e. error_kind e ≡ Interrupted → 2 ^ 64 - 1 ≤ self.new.interruptions) }
+    {
+        for _turn in 0..u64::MAX {
+            match self.call(room) {
+                Ok(count) => return Ok(count),
+                Err(error) => {
+                    if !self.is_passed(error) {
+                        return Err(error);
+                    }
+                }
+            }
+        }
+        unreachable!()
+    }
+}
