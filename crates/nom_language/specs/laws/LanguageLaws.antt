@@ -35,8 +35,8 @@ module _ {I A V W E : Type 0} {w : Model I A} {Lacks : V → Type 0} {part : Mea
   pub lacking_steady : IsSteady w m → IsSteady w (lacking_meaning Lacks part m)
   lacking_steady l = record { stays = l.stays }
 
-module _ {I A T C E : Type 0} {w : Model I A} (l : InputLaws w) (errs : Errors I E) {Waits : T → Type 0} {term : Meaning I T E} {binary : Meaning I C E}
-    where
+module _ {I A T C E : Type 0} {w : Model I A} (l : InputLaws w) (errs : Errors I E) {Waits : T → Type 0} {term : Meaning I T E}
+    {binary : Meaning I C E} where
   pub terms_lawful : IsLawful w term → IsLawful w binary → IsLawful w (terms_meaning w errs Waits term binary)
   terms_lawful p q = lacking_lawful (sequence_lawful l (closed_lawful p) (items_lawful l errs (any_limits Kind.Precedence) (built_lawful (pair_lawful l q p))))
 
