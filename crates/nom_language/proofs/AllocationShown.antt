@@ -5,7 +5,8 @@ use Rattle.nom_error.specs.declared.answer.Err as Answer
 use Rattle.nom_internal.specs.Prelude.{Model, Modes, Meaning, Needed, ShowsMeaning, RanOut, OfError, judged_meaning, with_outputs}
 use Rattle.nom_internal.proofs.Judges.{judged_unfit}
 use Rattle.nom_internal.proofs.Shown.{accepts}
-use Rattle.nom_language.specs.Allocations.{StopsFold, Tells, lacking_meaning}
+use Rattle.nom_language.specs.Allocations.{StopsFold, Tells}
+use Rattle.nom_language.specs.Precedences.{lacking_meaning}
 use Rattle.nom_language.specs.declared.allocating.FoldError.{FoldError}
 use Rattle.nom_language.specs.declared.allocating.FoldError.TheVariants.{Refused, OutOfMemory}
 use Rattle.nom_language.proofs.EvaluationShown.{runs_out_beside}

@@ -1,5 +1,5 @@
 -- What is evaluated of terms, as they are read.
-use Rattle.std.specs.Prelude.{◌≡◌, ◌⊎◌, Bool, true, List, [], ◌∷◌, ◌++◌, Option, Some, None, IfSome, IsSome, Result, refl}
+use Rattle.std.specs.Prelude.{◌≡◌, ◌<◌, ◌⊎◌, Bool, true, List, [], ◌∷◌, ◌++◌, length, Option, Some, None, IfSome, IsSome, Result, refl}
 use Rattle.std.proofs.Common.{sym, ◌∙◌, ap, subst, inl, append_assoc, append-nil}
 use Rattle.nom_internal.specs.Prelude.{PResult, Built, BuiltFrom, Modes, Model, Outcome, Accept, ShowsAnswer, RanOut, Shown, Meaning, closed_meaning}
 use Rattle.nom_internal.proofs.Shown.{Accepts}
@@ -14,7 +14,7 @@ use Rattle.nom_operators.specs.declared.precedences.Unary.{Unary}
 use Rattle.nom_operators.specs.declared.precedences.Binary.{Binary}
 use Rattle.nom_language.specs.Evaluated.{TermOutput, symbols_of_term, symbols_of_pairs, IsEvaluated}
 use Rattle.nom_language.specs.helpers.Accumulated.{OfThat, HasReadInto, PairPushes}
-use Rattle.nom_language.specs.Precedences.{AcceptsAt}
+use Rattle.nom_language.specs.Precedences.{LacksAt, PrefixesWait}
 use Rattle.nom_language.proofs.LeftShown.{some_same}
 
 -- memory may run out for another cause too
@@ -25,17 +25,27 @@ runs_out_beside (RanOut e h) = RanOut e (inl h)
 runs_out_beside (Shown o a s) = Shown o a s
 
 -- what is accepted of a part that is closed is accepted of the part
-pub closed_accepts : {I A V O E : Type 0} {w : Model I A} {IsOutput : V → O → Type 0} {built streaming : Bool} {i j : I} {x : Option O}
-    (Closes : I → E → E → Type 0) (Grows : Type 0) (m : Meaning I V E) → Accepts w IsOutput built i ((closed_meaning Closes Grows m).answers streaming i) j x →
-    AcceptsAt m streaming i
-closed_accepts {streaming = streaming} Closes Grows m a =
+pub closed_lacks : {I A V O E : Type 0} {w : Model I A} {IsOutput : V → O → Type 0} {built streaming : Bool} {i j : I} {x : Option O}
+    (Closes : I → E → E → Type 0) (Grows : Type 0) (Lacks : V → Type 0) (m : Meaning I V E)
+    (a : Accepts w IsOutput built i ((closed_meaning Closes Grows m).answers streaming i) j x) → Lacks a.tree → LacksAt Lacks m streaming i
+closed_lacks {streaming = streaming} Closes Grows Lacks m a h =
     let p = a.answered in
     record {
-      length = a.length;
-      tree = a.tree;
-      accepted = subst (λ k. m.answers streaming k (Accept a.length a.tree)) (sym p.at_is)
-          (subst (λ o. m.answers streaming p.at o) (sym p.fact) p.answered);
+      accepts = record {
+        length = a.length;
+        tree = a.tree;
+        accepted = subst (λ k. m.answers streaming k (Accept a.length a.tree)) (sym p.at_is)
+            (subst (λ o. m.answers streaming p.at o) (sym p.fact) p.answered);
+      };
+      lacks = h;
     }
+
+-- the prefixes of a term that was built wait
+pub term_waits : {T P O Q M : Type 0} (IsTerm : T → TermOutput P O Q M → Type 0) (t : T) (built : Option (TermOutput P O Q M)) (term : TermOutput P O Q M) →
+    built ≡ Some term → Built true (IsTerm t) built → 1 < length term.0.items → PrefixesWait IsTerm t
+term_waits IsTerm t built term e b h =
+    let same : term ≡ b.0 = some_same term b.0 (sym e ∙ b.1) in
+    (term, subst (IsTerm t) (sym same) b.2, h)
 
 pub that_some : {X : Type 0} (Fact : X → Type 0) (x : Option X) → OfThat x Fact → IsSome x
 that_some Fact (Some y) h = refl

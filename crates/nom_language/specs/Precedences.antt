@@ -1,5 +1,5 @@
 -- Expressions: terms with operators between them, and a fold that may refuse.
-use Rattle.std.specs.Prelude.{◌≡◌, ℕ, ◌⊎◌, Bool, List, Result, Ok, is_ok}
+use Rattle.std.specs.Prelude.{◌≡◌, ◌<◌, ℕ, ◌⊎◌, Bool, List, Result, Ok, is_ok, length}
 use Rattle.nom_error.specs.Errors.{Errors, Externals}
 use Rattle.nom_error.specs.declared.kind.ErrorKind.TheVariants as Kind
 use Rattle.nom_internal.specs.Prelude.{Grammar, Meaning, Model, Accept, IsJudge, closed_meaning, judged_meaning, sequence_meaning, premised, OfError}
@@ -18,21 +18,32 @@ pub record AcceptsAt {I V E : Type 0} (m : Meaning I V E) (streaming : Bool) (i 
   pub tree : V
   pub accepted : m.answers streaming i (Accept length tree)
 
--- a meaning where memory may run out after a first part too
-abbrev pub growing_meaning : {I V W E : Type 0} → Meaning I V E → Meaning I W E → Meaning I W E
-growing_meaning first m = record m {
-  may_run_out = λ mode i. m.may_run_out mode i ⊎ AcceptsAt first mode.streaming i;
-  IsFrugal = λ _. ⊥;
+-- an acceptance of a tree for which there is no memory
+pub record LacksAt {I V E : Type 0} (Lacks : V → Type 0) (m : Meaning I V E) (streaming : Bool) (i : I) : Type 0 where
+  pub accepts : AcceptsAt m streaming i
+  pub lacks : Lacks accepts.tree
+
+-- a meaning where memory may run out for what a part accepts too
+abbrev pub lacking_meaning : {I V W E : Type 0} → (V → Type 0) → Meaning I V E → Meaning I W E → Meaning I W E
+lacking_meaning {V = V} Lacks part m = record m {
+  may_run_out = λ mode i. m.may_run_out mode i ⊎ LacksAt Lacks part mode.streaming i;
+  IsFrugal = λ mode. m.IsFrugal mode × ((v : V) → Lacks v → ⊥);
 }
+
+-- Two prefixes or more of a term wait for its operand. The last of them takes no memory.
+abbrev pub PrefixesWait : {T P O Q M : Type 0} → (T → TermOutput P O Q M → Type 0) → T → Type 0
+PrefixesWait {P = P} {O = O} {Q = Q} {M = M} IsTerm t = (o : TermOutput P O Q M) × IsTerm t o × (1 < length o.0.items)
 
 -- a binary operator and a term after it, as a tuple
 abbrev pub operator_and_term_meaning : {I A C T E : Type 0} → Model I A → Meaning I C E → Meaning I T E → Meaning I (C × T) E
 operator_and_term_meaning w binary term = built_meaning (pair_meaning w binary term)
 
 -- A first term, to whose refusal `Precedence` is added at the start; and then pairs, as many as are accepted. Where an operator or its
--- term is refused, the pairs end before that operator. A pair that consumes nothing is refused. What waits takes memory.
-abbrev pub terms_meaning : {I A T C E : Type 0} → Model I A → Errors I E → Meaning I T E → Meaning I C E → Meaning I (T × List (C × T)) E
-terms_meaning w errs term binary = growing_meaning term (sequence_meaning w (λ t ps. (t, ps)) (λ o. o) (λ o. o)
+-- term is refused, the pairs end before that operator. A pair that consumes nothing is refused. What waits takes memory: of the first
+-- term its prefixes, and then operators.
+abbrev pub terms_meaning : {I A T C E : Type 0} → Model I A → Errors I E → (Waits : T → Type 0) → Meaning I T E → Meaning I C E →
+    Meaning I (T × List (C × T)) E
+terms_meaning w errs Waits term binary = lacking_meaning Waits term (sequence_meaning w (λ t ps. (t, ps)) (λ o. o) (λ o. o)
     (closed_meaning (λ i. errs.appended i Kind.Precedence) errs.grows term)
     (items_meaning w errs (any_limits Kind.Precedence) (Unit {0}) (operator_and_term_meaning w binary term)))
 
@@ -43,17 +54,18 @@ Itself r s = s ≡ r
 -- What is read is evaluated in every mode, by what a tree stands for: a refusal of the fold refuses it, at the start. The premise of the
 -- laws is that the fold either refuses all that a tree stands for, or nothing.
 abbrev pub evaluated_meaning : {I A T C O X E : Type 0} → Model I A → Errors I E → Externals I X E → (CanFold : Type 0) →
-    (T × List (C × T) → Result O X → Type 0) → Meaning I T E → Meaning I C E → Meaning I (T × List (C × T)) E
-evaluated_meaning {O = O} {X = X} w errs externals CanFold Evaluates term binary =
+    (Waits : T → Type 0) → (T × List (C × T) → Result O X → Type 0) → Meaning I T E → Meaning I C E → Meaning I (T × List (C × T)) E
+evaluated_meaning {O = O} {X = X} w errs externals CanFold Waits Evaluates term binary =
     premised (term.Runs × binary.Runs × CanFold) (term.IsSound × binary.IsSound × IsJudge {R = Result O X} Evaluates Itself is_ok)
     (judged_meaning {R = Result O X} Evaluates (λ _. Unit {0}) Itself is_ok (λ i. OfError (externals.of_external i Kind.Precedence)) externals.grows
-    (terms_meaning w errs term binary))
+    (terms_meaning w errs Waits term binary))
 
 -- an expression, by the grammars of its terms and of its binary operators, and by what the fold gives for each operation
 abbrev pub expression_by : {I A T C P Q B O X M E : Type 0} → Model I A → Errors I E → Externals I X E → (CanFold : Type 0) →
     (Operation P Q B O → Result O X → Type 0) → Grammar I T (TermOutput P O Q M) E → Grammar I C (Binary B) E → Grammar I (T × List (C × T)) O E
 expression_by w errs externals CanFold Gives term binary = record {
-  meaning = evaluated_meaning w errs externals CanFold (IsEvaluated term.IsOutput binary.IsOutput Gives) term.meaning binary.meaning;
+  meaning = evaluated_meaning w errs externals CanFold (PrefixesWait term.IsOutput) (IsEvaluated term.IsOutput binary.IsOutput Gives)
+      term.meaning binary.meaning;
   IsOutput = λ e y. IsEvaluated term.IsOutput binary.IsOutput Gives e (Ok y);
 }
 

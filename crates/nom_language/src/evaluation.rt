@@ -1,5 +1,5 @@
 //! The value of an expression, as it is read.
-ghost use Rattle.std.specs.Prelude.{◌≡◌, IfSome, IsSome, [], List, true};
+ghost use Rattle.std.specs.Prelude.{◌≡◌, ◌<◌, IfSome, IsSome, None, [], List, length, true};
 ghost use Rattle.nom_internal.specs.Prelude.{BuiltFrom};
 ghost use Rattle.nom_language.specs.Evaluated.{symbols_of_term};
 ghost use Rattle.nom_language.specs.helpers.Accumulated.{HasReadInto, PairPushes};
@@ -89,7 +89,7 @@ fn term<P: Drop, O: Drop, Q: Drop, A: Allocator>(
     }
 }
 
-/// Begins with the first term. It returns `None` if there is no memory for its prefixes.
+/// Begins with the first term. It returns `None` if there is no memory for its prefixes. The last of them takes none.
 #[inline(always)]
 pub fn begin_evaluation<
     'a,
@@ -110,6 +110,7 @@ pub fn begin_evaluation<
         (symbols_of_term first) k) }
     ensures nested { IfSome result (λ k. IfSome k.partial (λ r. IsNested r.innermost k.outer.items)) }
     ensures fold { IfSome result (λ k. k.fold.now ≡ fold.now) }
+    ensures full { result ≡ None → 1 < length first.0.items }
 {
     let mut outer: Vec<Pending<P, B, Result<O, X>>, A> = Vec::new(alloc);
     match begin(&mut outer, term(first), fold) {

@@ -3,7 +3,7 @@ ghost use Rattle.std.specs.Prelude.{◌≡◌, List, Result, true};
 ghost use Rattle.nom_error.specs.Answers.{Refuses};
 ghost use Rattle.nom_internal.specs.Prelude.{modes, ShowsMeaning};
 ghost use Rattle.nom_language.specs.Evaluated.{IsEvaluated};
-ghost use Rattle.nom_language.specs.Precedences.{expression_by, terms_meaning};
+ghost use Rattle.nom_language.specs.Precedences.{PrefixesWait, expression_by, terms_meaning};
 ghost use Rattle.nom_operators.specs.declared.operation.Operation.{Operation};
 
 use crate::evaluation::{Evaluation, begin_evaluation, evaluated};
@@ -140,7 +140,8 @@ pub(crate) fn terms<
     requires binary { (C.grammar (C.state pair.old.0)).meaning.Runs }
     requires fold { (x : Operation P Q B O) → G.pre fold.now x }
     ensures shown { ShowsMeaning {O = Result O X} I.model (IsEvaluated (T.grammar (T.state pair.old.1)).IsOutput (C.grammar (C.state pair.old.0)).IsOutput
-        (G.post fold.now)) (terms_meaning I.model T.Error.errors (T.grammar (T.state pair.old.1)).meaning (C.grammar (C.state pair.old.0)).meaning)
+        (G.post fold.now)) (terms_meaning I.model T.Error.errors (PrefixesWait (T.grammar (T.state pair.old.1)).IsOutput)
+        (T.grammar (T.state pair.old.1)).meaning (C.grammar (C.state pair.old.0)).meaning)
         (modes true OM.Error.BUILDS OM.Incomplete.STREAMING) input result }
     ensures term_kept { T.state pair.new.1 ≡ T.state pair.old.1 }
     ensures binary_kept { C.state pair.new.0 ≡ C.state pair.old.0 }

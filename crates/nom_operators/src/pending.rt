@@ -1,11 +1,11 @@
 //! Operators before, after and between operands, each with its precedence: which of them wait for their right operand,
 //! and how they join their operands. If the fold refuses, its error takes the place of the value.
-ghost use Rattle.std.specs.Prelude.{◌≡◌, ◌∷◌, ◌++◌, IfSome, [], List, map};
+ghost use Rattle.std.specs.Prelude.{◌≡◌, ◌+◌, ◌<◌, ◌≤◌, ◌∷◌, ◌++◌, IfSome, None, [], List, length, map, vec_capacity};
 ghost use Rattle.nom_operators.specs.Evaluations.{IsValueOf, PostfixGives, term_symbols};
 ghost use Rattle.nom_operators.specs.Groups.{is_left};
 ghost use Rattle.nom_operators.specs.OperatorTrees.{Symbol, ends_operand};
 ghost use Rattle.nom_operators.specs.OperatorTrees.Symbol.{OfBinary, OfOperand, OfPostfix};
-ghost use Rattle.nom_operators.specs.helpers.Pending.{EndsNone, HasRead, IsEnding, PendingGives, WaitsBefore, level_of_pending, with_prefixes};
+ghost use Rattle.nom_operators.specs.helpers.Pending.{EndsNone, HasRead, IsEnding, LacksRoom, PendingGives, WaitsBefore, level_of_pending, with_prefixes};
 ghost use Rattle.nom_operators.specs.Steps.{IsNested, waiting};
 ghost use Rattle.nom_operators.specs.declared.operation.Operation.{Operation};
 ghost use Rattle.nom_operators.specs.declared.precedences.Unary.{Unary};
@@ -39,7 +39,7 @@ pub struct Term<P, O, Q, A: Allocator> {
     pub postfixes: Vec<Unary<Q>, A>,
 }
 
-/// Starts with a term. Returns None if there is no memory for its prefixes.
+/// Starts with a term. Returns None if there is no memory for its prefixes. The last of them needs none.
 #[inline(always)]
 pub fn begin<
     P: Drop,
@@ -59,12 +59,13 @@ pub fn begin<
     ensures read { IfSome result (λ r. HasRead (G.post fold.now) (term_symbols term.prefixes.items term.operand term.postfixes.items)
         (waiting r.innermost outer.new.items) r.value) }
     ensures nested { IfSome result (λ r. IsNested r.innermost outer.new.items) }
+    ensures full { result ≡ None → LacksRoom (vec_capacity outer.old) (length term.prefixes.items) }
 {
     read_term(None, outer, term, fold)
 }
 
 /// Adds a binary operator and a term: folds the operands that it ends, and lets it wait. Returns None if there is no
-/// memory for it.
+/// memory for all that wait then. The innermost of them needs none.
 #[inline(always)]
 pub fn put_term<
     P: Drop,
@@ -88,6 +89,8 @@ pub fn put_term<
         HasRead (G.post fold.now) (ss ++ OfBinary operator ∷ term_symbols term.prefixes.items term.operand term.postfixes.items)
         (waiting r.innermost outer.new.items) r.value) }
     ensures nested { IfSome result (λ r. IsNested r.innermost outer.new.items) }
+    ensures full { result ≡ None → LacksRoom (vec_capacity outer.old)
+        (length (waiting partial.innermost outer.old.items) + (1 + length term.prefixes.items)) }
 {
     let Partial { value, innermost } = partial;
     let (left, under) = end_operands(
@@ -158,6 +161,8 @@ fn read_term<
         HasRead (G.post fold.now) (ss ++ term_symbols term.prefixes.items term.operand term.postfixes.items)
         (waiting r.innermost outer.new.items) r.value) }
     ensures nested { IfSome result (λ r. IsNested r.innermost outer.new.items) }
+    ensures full { result ≡ None → LacksRoom (vec_capacity outer.old)
+        (length (waiting innermost outer.old.items) + length term.prefixes.items) }
 {
     let Term {
         prefixes,
@@ -180,6 +185,8 @@ fn wait_all<P: Drop, B: Drop, R: Drop, A: Allocator>(
     requires nested { IsNested innermost outer.old.items }
     ensures waiting { IfSome result (λ new. waiting new outer.new.items ≡ with_prefixes prefixes.items (waiting innermost outer.old.items)) }
     ensures nested { IfSome result (λ new. IsNested new outer.new.items) }
+    ensures full { result ≡ None → LacksRoom (vec_capacity outer.old)
+        (length (waiting innermost outer.old.items) + length prefixes.items) }
 {
     let mut inner = innermost;
     let mut prefixes = prefixes;
@@ -285,6 +292,8 @@ fn end_operands<
         IsEnding (G.post fold.now) precedence from_left ss (waiting result.1 outer.new.items) result.0 }
     ensures none { EndsNone (waiting result.1 outer.new.items) precedence from_left }
     ensures nested { IsNested result.1 outer.new.items }
+    ensures capacity { vec_capacity outer.new ≡ vec_capacity outer.old }
+    ensures fewer { length (waiting result.1 outer.new.items) ≤ length (waiting innermost outer.old.items) }
 {
     let mut value = value;
     let mut innermost = innermost;

@@ -1,5 +1,5 @@
 //! Operators that wait for their right side, and the values that they join.
-ghost use Rattle.std.specs.Prelude.{◌≡◌, ◌≤◌, ℕ, [], IfSome, IsTrue, None, false, true, reverse, vec_len, vec_capacity};
+ghost use Rattle.std.specs.Prelude.{◌≡◌, ◌<◌, ◌≤◌, ℕ, [], IfSome, IsTrue, None, false, true, length, reverse, vec_len, vec_capacity};
 ghost use Rattle.nom_operators.specs.Closes.{Closes, GoesUnder, UnderInnermost};
 ghost use Rattle.nom_operators.specs.Groups.{groups_left};
 ghost use Rattle.nom_operators.specs.Steps.{IsNested, Joined, Pushed, waiting};
@@ -119,6 +119,8 @@ pub fn next<E: Drop, A: Allocator>(outer: &mut Vec<E, A>) -> Option<E>
 pub fn keep<E: Drop, A: Allocator>(outer: &mut Vec<E, A>, innermost: Option<E>) -> bool
     ensures kept { IsTrue result → reverse outer.new.items ≡ waiting innermost outer.old.items }
     ensures full { result ≡ false → vec_capacity outer.old ≤ vec_len outer.old }
+    ensures lacks { result ≡ false → vec_capacity outer.old < length (waiting innermost outer.old.items) }
+    ensures capacity { vec_capacity outer.old ≤ vec_capacity outer.new }
 {
     match innermost {
         Some(open) => outer.push(open).is_ok(),

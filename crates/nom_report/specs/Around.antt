@@ -1,7 +1,6 @@
 -- The contexts that a report keeps.
 use Rattle.std.specs.Prelude.{◌≡◌, ◌↔◌, ◌<◌, ◌⊎◌, IsTrue, List, [], ◌∷◌, ◌++◌, Option, Some, None, length, map, take}
 use Rattle.nom_report.specs.Named.{Context, named}
-use Rattle.nom_report.specs.declared.enclosing.TheConstants.{MOST_ENCLOSING}
 use Rattle.nom_report.specs.declared.enclosing.Contexts.{Contexts}
 use Rattle.nom_report.specs.declared.around.Around.{Around}
 
@@ -13,7 +12,7 @@ some_around (Some c) = map named (take c.len c.items)
 abbrev pub around : Around → List Context
 around a = some_around a.contexts
 
--- the contexts of a, and one around them; that one is left out, and it is told, where no more fit
+-- the contexts of a, and one around them; that one is left out, and it is told, where there are four
 pub record IsEnclosed (a : Around) (it : Context) (e : Around) : Type 0 where
-  pub kept : around e ≡ take MOST_ENCLOSING (around a ++ (it ∷ []))
-  pub told : IsTrue e.more ↔ (IsTrue a.more ⊎ (MOST_ENCLOSING < length (around a ++ (it ∷ []))))
+  pub kept : around e ≡ take 4 (around a ++ (it ∷ []))
+  pub told : IsTrue e.more ↔ (IsTrue a.more ⊎ (4 < length (around a ++ (it ∷ []))))

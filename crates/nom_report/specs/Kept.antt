@@ -2,7 +2,6 @@
 use Rattle.std.specs.Prelude.{◌≡◌, ◌<◌, Bool, true, false, ◌||◌, List, [], ◌∷◌, ◌++◌, length, map, take}
 use Rattle.std.specs.List.{IsAmong}
 use Rattle.nom_report.specs.Wanted.{Wanted, seen}
-use Rattle.nom_report.specs.declared.several.TheConstants.{MOST_EXPECTED}
 use Rattle.nom_report.specs.declared.several.Several.{Several}
 use Rattle.nom_report.specs.declared.list.Expectations.{Expectations}
 use Rattle.nom_report.specs.declared.list.First.{First}
@@ -24,12 +23,13 @@ kept e = record { wanted = first_wanted e.first; more = e.more }
 abbrev pub just : Wanted → Kept
 just it = record { wanted = it ∷ []; more = false }
 
--- e is a, where the thing is wanted there; a and the thing at the end, where there is room; and a that tells of more where there isn't
+-- e is a, where the thing is wanted there; a and the thing at the end, where there are fewer than eight; and a that tells of more where there
+-- are eight
 pub data Adds (a : Kept) (it : Wanted) (e : Kept) : Type 0 where
   IsKnown : IsAmong a.wanted it → e ≡ a → Adds a it e
-  HasRoom : (IsAmong a.wanted it → ⊥) → length a.wanted < MOST_EXPECTED →
+  HasRoom : (IsAmong a.wanted it → ⊥) → length a.wanted < 8 →
       e ≡ record { wanted = a.wanted ++ (it ∷ []); more = a.more } → Adds a it e
-  IsLeftOut : (IsAmong a.wanted it → ⊥) → length a.wanted ≡ MOST_EXPECTED → e ≡ record { wanted = a.wanted; more = true } → Adds a it e
+  IsLeftOut : (IsAmong a.wanted it → ⊥) → length a.wanted ≡ 8 → e ≡ record { wanted = a.wanted; more = true } → Adds a it e
 
 -- one after another
 abbrev pub AddsEach : Kept → List Wanted → Kept → Type 0

@@ -9,7 +9,6 @@ use Rattle.nom_report.specs.Left.{slice_place}
 use Rattle.nom_report.specs.Named.{Context}
 use Rattle.nom_report.specs.Rendered.{more_text, name_text}
 use Rattle.nom_report.specs.Words.{all_expected_text}
-use Rattle.nom_report.specs.declared.octets.TheConstants.{QUOTED, AHEAD}
 use Rattle.nom_report.specs.declared.value.Report.{Report}
 use Rattle.std.specs.Borrow.{Bor}
 
@@ -20,9 +19,9 @@ octet_text b = 32 ∷ digit_char (b / 16) ∷ digit_char (b % 16) ∷ []
 abbrev pub octets_text : List ℕ → List ℕ
 octets_text bs = flat_map octet_text bs
 
--- the place of the first byte that is quoted, before an offset
+-- the place of the first byte that is quoted, eight before an offset
 abbrev pub quoted_from : ℕ → ℕ
-quoted_from offset = offset - AHEAD
+quoted_from offset = offset - 8
 
 -- bytes, after the offset of the first of them
 abbrev pub octets_line : ℕ → List ℕ → List ℕ
@@ -32,11 +31,11 @@ octets_line begin bs = decimal begin ++ codes " |" ++ octets_text bs ++ codes "\
 abbrev pub octets_caret : ℕ → ℕ → List ℕ
 octets_caret digits count = replicate digits 32 ++ codes " |" ++ replicate (3 * count) 32 ++ codes " ^\n"
 
--- the bytes around an offset, and the caret
+-- sixteen bytes around an offset, and the caret
 abbrev pub octets_quote : List ℕ → ℕ → List ℕ
 octets_quote source offset =
     let begin = quoted_from offset in
-    octets_line begin (take QUOTED (drop begin source)) ++ octets_caret (length (decimal begin)) (offset - begin)
+    octets_line begin (take 16 (drop begin source)) ++ octets_caret (length (decimal begin)) (offset - begin)
 
 -- an offset in a source, by its place; none lies behind the end
 abbrev pub offset_in : List ℕ → ℕ → ℕ → ℕ

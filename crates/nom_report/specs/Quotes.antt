@@ -4,7 +4,6 @@ use Rattle.std.specs.Prelude.{◌∷◌, ◌++◌, length, map, take, drop, char
 use Rattle.std.specs.Fmt.{decimal}
 use Rattle.std.specs.Str.{IsCharBoundary}
 use Rattle.nom_report.specs.Words.{shown_char}
-use Rattle.nom_report.specs.declared.quote.TheConstants.{WIDEST, BEFORE}
 
 -- a source at an offset; at its end, where no character begins there
 pub data IsCut (source : List ℕ) (offset : ℕ) (before after : List ℕ) : Type 0 where
@@ -50,13 +49,13 @@ written_char false = shown_char
 abbrev pub written_text : Bool → List ℕ → List ℕ
 written_text below cs = encode_utf8_all (map (written_char below) cs)
 
--- The characters of the line before the place that are left out, where the line is too wide: all but the last BEFORE.
+-- The characters of the line before the place that are left out, where the line is too wide: all but the last 38. A line of 76 is not too wide.
 abbrev pub left_out : ℕ → ℕ → ℕ
-left_out before after = if nat_le (before + after) WIDEST then 0 else before - BEFORE
+left_out before after = if nat_le (before + after) 76 then 0 else before - 38
 
 -- how many characters from the place on are shown: as many as there is room for
 abbrev pub shown_after : ℕ → ℕ → ℕ
-shown_after before after = min after (WIDEST - (before - left_out before after))
+shown_after before after = min after (76 - (before - left_out before after))
 
 -- `..`, where something is left out
 abbrev pub dots : Bool → List ℕ

@@ -18,8 +18,11 @@ use nom_error::value::ParseError;
 
 /// An error for people.
 ///
-/// It shows the furthest place that any alternative reached, the expectations there, and the contexts that
+/// Of a choice it shows the furthest place that a branch reached, the expectations there, and the contexts that
 /// enclose it. It takes no memory. If something doesn't fit, it reports that there was more.
+///
+/// It shows nothing of a refusal that something was accepted after, such as that of the item at which `many0`
+/// ends or of the part of `opt`. `many_till` keeps the refusal of its item.
 ///
 /// If nothing was consumed under `context`, the context's name replaces the expectations, for example "a
 /// number" in place of `Digit`. Otherwise the context is one that encloses the place.
@@ -73,7 +76,7 @@ impl<I> Report<I> {
 }
 
 impl<I: Copy> Report<I> {
-    /// Returns the input at the furthest place that an alternative reached.
+    /// Returns the input at the place of the report, of a choice the furthest that a branch reached.
     pub fn at(&self) -> I
         ensures { result ≡ self.now.at }
     {

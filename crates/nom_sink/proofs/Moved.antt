@@ -15,6 +15,19 @@ front_is (suc n) zero (x ∷ xs) h k = absurd (omega (arith, k (omega arith)))
 front_is (suc n) (suc u) [] h k = refl
 front_is (suc n) (suc u) (x ∷ xs) h k = ap (λ z. x ∷ z) (front_is n u xs (omega (arith, h)) (λ b. omega (arith, k (omega (arith, b)))))
 
+-- a slice keeps its length when a part of it is put anew
+pub same_length : {A : Type 0} (a k : ℕ) (xs ys : List A) → a + k ≤ length xs → length ys ≡ k → length (put_mid a k xs ys) ≡ length xs
+same_length a k xs ys within long = omega (
+  arith,
+  length-append (take a xs) (ys ++ drop k (drop a xs)),
+  length-append ys (drop k (drop a xs)),
+  long,
+  within,
+  length-take-le a xs (omega (arith, within)),
+  length-drop k (drop a xs),
+  length-drop a xs,
+)
+
 pub moved_front : {A : Type 0} (buf new : List A) (used u s m : ℕ) → u ≤ used → u ≤ length buf → (u < used → length buf ≤ u) → s ≤ u →
     length new ≡ u - s →
     new ≡ drop (m - s) (take (u - s) (drop s buf)) ++ take (m - s) (take (u - s) (drop s buf)) →

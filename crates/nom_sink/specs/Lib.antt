@@ -5,4 +5,5 @@ pub mod Lists
 pub mod Parts
 pub mod Slices
 pub mod Texts
+pub mod Vecs
 pub mod Written

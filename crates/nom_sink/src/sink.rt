@@ -1,8 +1,8 @@
 //! Places that items are written to.
-ghost use Rattle.std.specs.Prelude.{◌≡◌, ◌+◌, ◌<◌, ◌≤◌, ◌++◌, [], false, length, take, true, vec_capacity, vec_len};
-ghost use Rattle.nom_sink.specs.Slices.{held, room_of};
+ghost use Rattle.std.specs.Prelude.{◌≡◌, ◌+◌, ◌<◌, ◌≤◌, ◌++◌, ◌⊎◌, [], OnErr, false, length, take, true, vec_capacity, vec_len};
+ghost use Rattle.nom_sink.specs.Slices.{behind, held, loan_of, room_of, slice_model};
+ghost use Rattle.nom_sink.specs.Vecs.{vec_model};
 ghost use Rattle.nom_sink.specs.Written.{LacksRoom, SinkModel, Written, moved_behind};
-ghost use Rattle.nom_sink.specs.Written.Lack.{OfMemory, OfSpace};
 ghost use Rattle.nom_sink.specs.declared.error.WriteError.{WriteError};
 
 use crate::error::WriteError;
@@ -52,6 +52,7 @@ fn has_room<T, A: Allocator>(list: &Vec<T, A>, more: usize) -> bool
 fn larger<T: Copy, A: Allocator>(args: (Vec<T, A>, usize)) -> Vec<T, A>
     ensures items { result.items ≡ args.0.items }
     ensures capacity { vec_capacity args.0 ≤ vec_capacity result }
+    ensures all { (vec_len result + args.1 ≤ vec_capacity result) ⊎ (vec_capacity result ≡ vec_capacity args.0) }
 {
     let (mut list, more) = args;
     let _ = list.reserve(more);
@@ -60,7 +61,7 @@ fn larger<T: Copy, A: Allocator>(args: (Vec<T, A>, usize)) -> Vec<T, A>
 
 /// A list grows. Its error is `OutOfMemory`.
 impl<T: Copy, A: Allocator> Sink<T> for Vec<T, A> {
-    ghost model = { record { items = λ v. v.items; room = λ v. vec_capacity v; lack = OfMemory } };
+    ghost model = { vec_model };
 
     #[inline(always)]
     fn len(&self) -> usize {
@@ -68,7 +69,11 @@ impl<T: Copy, A: Allocator> Sink<T> for Vec<T, A> {
     }
 
     #[inline(always)]
-    fn add(&mut self, items: &[T]) -> Result<(), WriteError> {
+    fn add(&mut self, items: &[T]) -> Result<(), WriteError>
+        ensures written { Written (λ xs. xs ≡ items.now) (LacksRoom (length items.now)) vec_model self.old self.new result }
+        ensures room { vec_capacity self.old ≤ vec_capacity self.new }
+        ensures unchanged { OnErr result (vec_capacity self.new ≡ vec_capacity self.old) }
+    {
         if !has_room(self, items.len()) {
             let len = Vec::len(self);
             replace_with(self, items.len(), |list: Vec<T, A>, more: usize| {
@@ -112,6 +117,7 @@ pub struct SliceSink<'a, T> {
 pub fn slice_sink<'a, T>(buffer: &'a mut [T]) -> SliceSink<'a, T>
     ensures held { held result ≡ [] }
     ensures room { room_of result ≡ length buffer.old }
+    ensures loan { loan_of result ≡ buffer.entry.ghost_name }
 {
     SliceSink { buffer, used: 0 }
 }
@@ -128,7 +134,7 @@ impl<'a, T> SliceSink<'a, T> {
 
 /// It takes as many items as the slice has. Its error is `Full`.
 impl<'a, T: Copy> Sink<T> for SliceSink<'a, T> {
-    ghost model = { record { items = held; room = room_of; lack = OfSpace } };
+    ghost model = { slice_model };
 
     #[inline(always)]
     fn len(&self) -> usize {
@@ -136,7 +142,12 @@ impl<'a, T: Copy> Sink<T> for SliceSink<'a, T> {
     }
 
     #[inline]
-    fn add(&mut self, items: &[T]) -> Result<(), WriteError> {
+    fn add(&mut self, items: &[T]) -> Result<(), WriteError>
+        ensures written { Written (λ xs. xs ≡ items.now) (LacksRoom (length items.now)) slice_model self.old self.new result }
+        ensures room { room_of self.old ≤ room_of self.new }
+        ensures loan { loan_of self.new ≡ loan_of self.old }
+        ensures rest { behind (length (held self.new)) self.new ≡ behind (length (held self.new)) self.old }
+    {
         let used = self.used.min(self.buffer.len());
         if items.len() <= self.buffer.len() - used {
             let end = used + items.len();
@@ -149,14 +160,26 @@ impl<'a, T: Copy> Sink<T> for SliceSink<'a, T> {
     }
 
     #[inline(always)]
-    fn truncate(&mut self, len: usize) {
+    fn truncate(&mut self, len: usize)
+        ensures items { held self.new ≡ take len (held self.old) }
+        ensures room { room_of self.old ≤ room_of self.new }
+        ensures loan { loan_of self.new ≡ loan_of self.old }
+        ensures rest { self.new.buffer.now ≡ self.old.buffer.now }
+    {
         if len < self.used {
             self.used = len;
         }
     }
 
     #[inline]
-    fn move_behind(&mut self, start: usize, middle: usize) {
+    fn move_behind(&mut self, start: usize, middle: usize)
+        requires start { start ≤ middle }
+        requires middle { middle ≤ length (held self.old) }
+        ensures items { held self.new ≡ moved_behind start middle (held self.old) }
+        ensures room { room_of self.old ≤ room_of self.new }
+        ensures loan { loan_of self.new ≡ loan_of self.old }
+        ensures rest { behind (length (held self.old)) self.new ≡ behind (length (held self.old)) self.old }
+    {
         let used = self.used.min(self.buffer.len());
         self.buffer[start..used].rotate_left(middle - start);
     }

@@ -3,32 +3,17 @@ use Rattle.std.specs.Prelude.{List, Result, is_ok}
 use Rattle.nom_error.specs.Errors.{Errors, Externals}
 use Rattle.nom_internal.specs.Prelude.{Meaning, Model, InputLaws, IsLawful, IsSteady, IsJudge, premised_lawful, premised_steady}
 use Rattle.nom_internal.specs.laws.JudgedLaws.{judged_lawful, judged_steady}
-use Rattle.nom_language.specs.Allocations.{Tells, evaluated_alloc_meaning, lacking_meaning}
+use Rattle.nom_language.specs.Allocations.{Tells, evaluated_alloc_meaning}
 use Rattle.nom_language.specs.declared.allocating.FoldError.{FoldError}
-use Rattle.nom_language.specs.laws.LanguageLaws.{terms_lawful, terms_steady}
-
-module _ {I A V W E : Type 0} {w : Model I A} {Lacks : V → Type 0} {part : Meaning I V E} {m : Meaning I W E} where
-  lacking_lawful : IsLawful w m → IsLawful w (lacking_meaning Lacks part m)
-  lacking_lawful l = record {
-    within = l.within;
-    one_outcome = l.one_outcome;
-    alike = l.alike;
-    frugal = λ mode i k h. absurd h;
-    settles = l.settles;
-    blames_alike = l.blames_alike;
-    never_fails = l.never_fails;
-  }
-
-  lacking_steady : IsSteady w m → IsSteady w (lacking_meaning Lacks part m)
-  lacking_steady l = record { stays = l.stays }
+use Rattle.nom_language.specs.laws.LanguageLaws.{lacking_lawful, lacking_steady, terms_lawful, terms_steady}
 
 module _ {I A T C O X E : Type 0} {w : Model I A} (l : InputLaws w) (errs : Errors I E) (externals : Externals I X E) {CanFold : Type 0}
-    {Evaluates : T × List (C × T) → Result O (FoldError X) → Type 0} {term : Meaning I T E} {binary : Meaning I C E}
+    {Waits : T → Type 0} {Evaluates : T × List (C × T) → Result O (FoldError X) → Type 0} {term : Meaning I T E} {binary : Meaning I C E}
     (j : IsJudge {R = Result O X} Evaluates Tells is_ok) where
   pub evaluated_alloc_lawful : IsLawful w term → IsLawful w binary →
-      IsLawful w (evaluated_alloc_meaning w errs externals CanFold Evaluates term binary)
+      IsLawful w (evaluated_alloc_meaning w errs externals CanFold Waits Evaluates term binary)
   evaluated_alloc_lawful p q = premised_lawful (lacking_lawful (judged_lawful {Takes = λ _. Unit {0}} j (terms_lawful l errs p q)))
 
   pub evaluated_alloc_steady : IsSteady w term → IsSteady w binary →
-      IsSteady w (evaluated_alloc_meaning w errs externals CanFold Evaluates term binary)
+      IsSteady w (evaluated_alloc_meaning w errs externals CanFold Waits Evaluates term binary)
   evaluated_alloc_steady p q = premised_steady (lacking_steady (judged_steady {Takes = λ _. Unit {0}} j (terms_steady l errs p q)))

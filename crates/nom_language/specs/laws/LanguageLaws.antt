@@ -1,7 +1,8 @@
 -- The laws of expressions, and of items that are folded from the left, by those of their parts.
 use Rattle.std.specs.Prelude.{List, Result, is_ok}
+use Rattle.std.proofs.Common.{inl, inr}
 use Rattle.nom_error.specs.Errors.{Errors, Externals}
-use Rattle.nom_internal.specs.Prelude.{Meaning, Model, InputLaws, IsLawful, IsSteady, IsJudge, premised, premised_lawful, premised_steady, sequence_meaning}
+use Rattle.nom_internal.specs.Prelude.{Meaning, Model, Modes, InputLaws, IsLawful, IsSteady, IsJudge, premised, premised_lawful, premised_steady, sequence_meaning}
 use Rattle.nom_internal.specs.laws.CaseLaws.{closed_lawful, closed_steady}
 use Rattle.nom_internal.specs.laws.JudgedLaws.{judged_lawful, judged_steady}
 use Rattle.nom_internal.specs.laws.SequenceLaws.{sequence_lawful, sequence_steady}
@@ -12,37 +13,43 @@ use Rattle.nom_combinator.specs.laws.VerdictLaws.{not_lawful, not_steady}
 use Rattle.nom_repeat.specs.Bounds.{any_limits}
 use Rattle.nom_repeat.specs.laws.ItemsLaws.{items_lawful, items_steady}
 use Rattle.nom_language.specs.LeftFolds.{left_assoc_meaning}
-use Rattle.nom_language.specs.Precedences.{growing_meaning, terms_meaning, Itself, evaluated_meaning}
+use Rattle.nom_language.specs.Precedences.{lacking_meaning, terms_meaning, Itself, evaluated_meaning}
 
-module _ {I A V W E : Type 0} {w : Model I A} {first : Meaning I V E} {m : Meaning I W E} where
-  growing_lawful : IsLawful w m → IsLawful w (growing_meaning first m)
-  growing_lawful l = record {
+module _ {I A V W E : Type 0} {w : Model I A} {Lacks : V → Type 0} {part : Meaning I V E} {m : Meaning I W E} where
+  lacking_frugal : IsLawful w m → (mode : Modes) (i : I) → w.IsKnown i → (lacking_meaning Lacks part m).IsFrugal mode →
+      (lacking_meaning Lacks part m).may_run_out mode i → ⊥
+  lacking_frugal l mode i k h (inl r) = l.frugal mode i k h.0 r
+  lacking_frugal l mode i k h (inr r) = h.1 r.accepts.tree r.lacks
+
+  pub lacking_lawful : IsLawful w m → IsLawful w (lacking_meaning Lacks part m)
+  lacking_lawful l = record {
     within = l.within;
     one_outcome = l.one_outcome;
     alike = l.alike;
-    frugal = λ mode i k h. absurd h;
+    frugal = lacking_frugal l;
     settles = l.settles;
     blames_alike = l.blames_alike;
     never_fails = l.never_fails;
   }
 
-  growing_steady : IsSteady w m → IsSteady w (growing_meaning first m)
-  growing_steady l = record { stays = l.stays }
+  pub lacking_steady : IsSteady w m → IsSteady w (lacking_meaning Lacks part m)
+  lacking_steady l = record { stays = l.stays }
 
-module _ {I A T C E : Type 0} {w : Model I A} (l : InputLaws w) (errs : Errors I E) {term : Meaning I T E} {binary : Meaning I C E} where
-  pub terms_lawful : IsLawful w term → IsLawful w binary → IsLawful w (terms_meaning w errs term binary)
-  terms_lawful p q = growing_lawful (sequence_lawful l (closed_lawful p) (items_lawful l errs (any_limits Kind.Precedence) (built_lawful (pair_lawful l q p))))
+module _ {I A T C E : Type 0} {w : Model I A} (l : InputLaws w) (errs : Errors I E) {Waits : T → Type 0} {term : Meaning I T E}
+    {binary : Meaning I C E} where
+  pub terms_lawful : IsLawful w term → IsLawful w binary → IsLawful w (terms_meaning w errs Waits term binary)
+  terms_lawful p q = lacking_lawful (sequence_lawful l (closed_lawful p) (items_lawful l errs (any_limits Kind.Precedence) (built_lawful (pair_lawful l q p))))
 
-  pub terms_steady : IsSteady w term → IsSteady w binary → IsSteady w (terms_meaning w errs term binary)
-  terms_steady p q = growing_steady (sequence_steady l (closed_steady p) (items_steady l errs (any_limits Kind.Precedence) (built_steady (pair_steady l q p))))
+  pub terms_steady : IsSteady w term → IsSteady w binary → IsSteady w (terms_meaning w errs Waits term binary)
+  terms_steady p q = lacking_steady (sequence_steady l (closed_steady p) (items_steady l errs (any_limits Kind.Precedence) (built_steady (pair_steady l q p))))
 
 module _ {I A T C O X E : Type 0} {w : Model I A} (l : InputLaws w) (errs : Errors I E) (externals : Externals I X E) {CanFold : Type 0}
-    {Evaluates : T × List (C × T) → Result O X → Type 0} {term : Meaning I T E} {binary : Meaning I C E}
+    {Waits : T → Type 0} {Evaluates : T × List (C × T) → Result O X → Type 0} {term : Meaning I T E} {binary : Meaning I C E}
     (j : IsJudge {R = Result O X} Evaluates Itself is_ok) where
-  pub evaluated_lawful : IsLawful w term → IsLawful w binary → IsLawful w (evaluated_meaning w errs externals CanFold Evaluates term binary)
+  pub evaluated_lawful : IsLawful w term → IsLawful w binary → IsLawful w (evaluated_meaning w errs externals CanFold Waits Evaluates term binary)
   evaluated_lawful p q = premised_lawful (judged_lawful {Takes = λ _. Unit {0}} j (terms_lawful l errs p q))
 
-  pub evaluated_steady : IsSteady w term → IsSteady w binary → IsSteady w (evaluated_meaning w errs externals CanFold Evaluates term binary)
+  pub evaluated_steady : IsSteady w term → IsSteady w binary → IsSteady w (evaluated_meaning w errs externals CanFold Waits Evaluates term binary)
   evaluated_steady p q = premised_steady (judged_steady {Takes = λ _. Unit {0}} j (terms_steady l errs p q))
 
 module _ {I A T C E : Type 0} {w : Model I A} (l : InputLaws w) (errs : Errors I E) {CanBuild : Type 0} {child : Meaning I T E} {operator : Meaning I C E} where

@@ -1,6 +1,6 @@
 -- Operators whose right operand isn't read to its end, the innermost first, and the value of what stands after the innermost: what they
 -- stand for.
-use Rattle.std.specs.Prelude.{◌≡◌, ℕ, Bool, true, false, List, [], ◌∷◌, ◌++◌, Result}
+use Rattle.std.specs.Prelude.{◌≡◌, ℕ, ◌+◌, ◌<◌, Bool, true, false, List, [], ◌∷◌, ◌++◌, Result}
 use Rattle.nom_operators.specs.Groups.{is_left}
 use Rattle.nom_operators.specs.OperatorTrees.{OperatorTree, Symbol, symbols, ends_operand, RightEdge, LeftEdge, IsGrouped}
 use Rattle.nom_operators.specs.OperatorTrees.Symbol.{OfPrefix, OfBinary}
@@ -24,6 +24,10 @@ EndsNone (e ∷ s) k left = ends_operand k left (level_of_pending e) ≡ false
 abbrev pub with_prefixes : {P B R : Type 0} → List (Unary P) → List (Pending P B R) → List (Pending P B R)
 with_prefixes [] s = s
 with_prefixes (p ∷ ps) s = with_prefixes ps (Prefix p ∷ s)
+
+-- A list has no room for that many operators that wait. The innermost isn't kept in it.
+abbrev pub LacksRoom : (capacity waits : ℕ) → Type 0
+LacksRoom capacity waits = capacity + 1 < waits
 
 module _ {P Q B O X : Type 0} (Gives : Operation P Q B O → Result O X → Type 0) where
   -- what an operator gives for the value on its right

@@ -11,9 +11,9 @@ use Rattle.nom_repeat.specs.Items.{items_meaning}
 use Rattle.nom_operators.specs.Steps.{IsNested}
 use Rattle.nom_operators.specs.declared.operation.Operation.{Operation}
 use Rattle.nom_language.specs.helpers.Accumulated.{PairPushes}
-use Rattle.nom_language.specs.Precedences.{operator_and_term_meaning}
+use Rattle.nom_language.specs.Precedences.{PrefixesWait, operator_and_term_meaning}
 use Rattle.nom_language.specs.declared.evaluation.Evaluation.{Evaluation}
-use Rattle.nom_language.proofs.EvaluationShown.{runs_out_beside, built_some, closed_accepts, evaluated_built, that_some}
+use Rattle.nom_language.proofs.EvaluationShown.{runs_out_beside, built_some, closed_lacks, evaluated_built, term_waits, that_some}
 use Rattle.nom_language.proofs.expression.terms.Given as given
 use Rattle.nom_language.proofs.expression.terms.Goals as goal
 
@@ -89,4 +89,6 @@ returns-in-None-clause-shown g c =
     let errs = g.T.Error.ParseError.errors in
     let closed = closed_shown g.I.Items.model term.IsOutput (modes true g.OM.Error.Mode.BUILDS g.OM.Incomplete.IsStreaming.STREAMING) c.args.input
     term.meaning (λ i. errs.appended i Kind.Precedence) errs.grows c.process-read.result _ c.process-read.ensures.shown c.in_ok-rest.ensures in
-    RanOut refl (inr (closed_accepts (λ i. errs.appended i Kind.Precedence) errs.grows term.meaning (accepts closed)))
+    let a = accepts closed in
+    RanOut refl (inr (closed_lacks (λ i. errs.appended i Kind.Precedence) errs.grows (PrefixesWait term.IsOutput) term.meaning a
+    (term_waits term.IsOutput a.tree _ c.emitted.result c.emitted.ensures a.built_is (c.in-None.ensures.full refl))))

@@ -1,8 +1,9 @@
-use Rattle.std.proofs.Common.{rules, ◌≡◌, true, subst}
+use Rattle.std.proofs.Common.{arith, rules, ◌≡◌, ◌∙◌, true, subst}
 use Rattle.nom_operators.specs.OperatorTrees.{ends_operand}
 use Rattle.nom_operators.specs.helpers.Pending.{IsEnding}
 use Rattle.nom_operators.specs.Steps.{waiting}
 use Rattle.nom_operators.proofs.PendingShown.{next_read}
+use Rattle.nom_operators.proofs.StepsShown.{fewer_wait}
 use Rattle.nom_operators.proofs.pending.end_operands.Goals as goal
 
 pub loop-innermost-preserved : goal.loop-innermost-preserved
@@ -13,6 +14,13 @@ loop-innermost-preserved g c =
           c.loop-innermost.innermost next.result c.loop-innermost.outer.items next.new.outer.items c.in-Some.pending c.loop-innermost.value
           c.fold_pending-value.result c.in-Some.is (c.loop-innermost.invariant.ended ss h) (search rules) c.fold_pending-value.ensures next.ensures.next;
       nested = next.ensures.nested;
+      capacity = (next.ensures.room).0 ∙ c.loop-innermost.invariant.capacity;
+      fewer = omega (
+        arith,
+        fewer_wait c.loop-innermost.innermost next.result c.loop-innermost.outer.items next.new.outer.items c.in-Some.pending c.in-Some.is
+            next.ensures.next,
+        c.loop-innermost.invariant.fewer,
+      );
     }
 
 pub returns-then-not-ends-clause-ended : goal.returns-then-not-ends-clause-ended

@@ -6,7 +6,7 @@ use Rattle.nom_internal.proofs.Judges.{judged_err, judged_fit}
 use Rattle.nom_internal.proofs.Shown.{built_error, err_from_residual}
 use Rattle.nom_language.specs.Allocations.{Tells}
 use Rattle.nom_language.specs.Evaluated.{IsEvaluated}
-use Rattle.nom_language.specs.Precedences.{terms_meaning}
+use Rattle.nom_language.specs.Precedences.{PrefixesWait, terms_meaning}
 use Rattle.nom_language.proofs.AllocationShown.{stopped_shown}
 use Rattle.nom_language.proofs.EvaluationShown.{runs_out_beside}
 use Rattle.nom_language.proofs.allocating.ExpressionAllocParser.process.Goals as goal
@@ -17,7 +17,7 @@ returns-in_err-end-clause-shown g c =
     let binary = g.C.Parser.grammar (g.C.Parser.state c.args.self.now.pair.0) in
     runs_out_beside (judged_err {R = Result g.row.O.Denot g.row.X.Denot} {Takes = λ _. Unit {0}} {Gives = Tells}
     (λ i. OfError (g.T.Error.FromExternalError.externals.of_external i Kind.Precedence))
-    (terms_meaning g.I.Items.model g.T.Error.ParseError.errors term.meaning binary.meaning) (record { takes = λ t p h. tt }) c.in_err-end.ensures.shown
+    (terms_meaning g.I.Items.model g.T.Error.ParseError.errors (PrefixesWait term.IsOutput) term.meaning binary.meaning) (record { takes = λ t p h. tt }) c.in_err-end.ensures.shown
     (err_from_residual c.from_residual.ensures))
 
 pub returns-in-Ok-clause-shown : goal.returns-in-Ok-clause-shown
@@ -26,7 +26,7 @@ returns-in-Ok-clause-shown g c =
     let binary = g.C.Parser.grammar (g.C.Parser.state c.args.self.now.pair.0) in
     runs_out_beside (judged_fit {R = Result g.row.O.Denot g.row.X.Denot} {Takes = λ _. Unit {0}} {Gives = Tells}
     (λ i. OfError (g.T.Error.FromExternalError.externals.of_external i Kind.Precedence))
-    (terms_meaning g.I.Items.model g.T.Error.ParseError.errors term.meaning binary.meaning) {r = Ok c.in-Ok.value} (record { takes = λ t p h. tt })
+    (terms_meaning g.I.Items.model g.T.Error.ParseError.errors (PrefixesWait term.IsOutput) term.meaning binary.meaning) {r = Ok c.in-Ok.value} (record { takes = λ t p h. tt })
     (c.emitted.ensures ∙ ap Some c.in-Ok.is) refl refl c.in_ok-end.ensures.shown
     (λ t h. built_error g.OM.Output.Mode.BUILDS _ _ _ (λ y e. subst (λ z. IsEvaluated term.IsOutput binary.IsOutput
     (λ o. g.G.Fn.post c.args.self.now.fold (o, tt)) t (Ok z)) (sym e) h) c.built.ensures))
@@ -37,5 +37,5 @@ returns-in-Err-clause-shown g c =
     let binary = g.C.Parser.grammar (g.C.Parser.state c.args.self.now.pair.0) in
     stopped_shown (IsEvaluated term.IsOutput binary.IsOutput (λ o. g.G.Fn.post c.args.self.now.fold (o, tt)))
     (λ i. g.T.Error.FromExternalError.externals.of_external i Kind.Precedence) g.T.Error.FromExternalError.externals.grows
-    (terms_meaning g.I.Items.model g.T.Error.ParseError.errors term.meaning binary.meaning) c.in-Err.error
+    (terms_meaning g.I.Items.model g.T.Error.ParseError.errors (PrefixesWait term.IsOutput) term.meaning binary.meaning) c.in-Err.error
     (c.emitted.ensures ∙ ap Some c.in-Err.is) c.in_ok-end.ensures.shown c.stopped.ensures
