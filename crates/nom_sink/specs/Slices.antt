@@ -21,4 +21,4 @@ abbrev pub loan_of : {A : Type 0} → SliceSink A → ℕ
 loan_of s = s.buffer.ghost_name
 
 abbrev pub slice_model : {A : Type 0} → SinkModel (SliceSink A) A
-slice_model = record { items = held; room = room_of; lack = OfSpace }
+slice_model = record { items = held; room = room_of; lack = OfSpace; loan = loan_of }

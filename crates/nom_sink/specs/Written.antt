@@ -13,11 +13,17 @@ abbrev pub lack_error : Lack → WriteError
 lack_error OfMemory = OutOfMemory
 lack_error OfSpace = Full
 
--- what a sink is: the items that it holds, for how many it has room in all, and what it has too little of where it has no room
+-- What a sink is: the items that it holds, for how many it has room in all, what it has too little of where it has no room, and the name of
+-- the loan by which it holds a caller's slice, or 0.
 pub record SinkModel (S A : Type 0) : Type 0 where
   pub items : S → List A
   pub room : S → ℕ
   pub lack : Lack
+  pub loan : S → ℕ
+
+-- a sink that holds no slice of a caller's
+abbrev pub no_loan : {S : Type 0} → S → ℕ
+no_loan s = 0
 
 -- the items from a place on, up to a middle, moved behind those that follow them
 abbrev pub moved_behind : {A : Type 0} → (start middle : ℕ) → List A → List A

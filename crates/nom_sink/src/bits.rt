@@ -169,6 +169,7 @@ fn add_word<S: Sink<u8>>(
     requires fits { bits < 2 ^ (8 * count) }
     ensures written { Written (AreBytesOf endian count bits) (LacksRoom count) S.model out.old out.new result }
     ensures room { S.model.room out.old ≤ S.model.room out.new }
+    ensures loan { S.model.loan out.new ≡ S.model.loan out.old }
 {
     if endian.is_big() {
         let bytes = bits.to_be_bytes();
@@ -191,6 +192,7 @@ pub fn add_bits<S: Sink<u8>>(
     requires fits { bits < 2 ^ (8 * count) }
     ensures written { Written (AreBytesOf endian count bits) (LacksRoom count) S.model out.old out.new result }
     ensures room { S.model.room out.old ≤ S.model.room out.new }
+    ensures loan { S.model.loan out.new ≡ S.model.loan out.old }
 {
     // A number of eight bytes or fewer becomes one store; one of 128 bits doesn't.
     match u64::try_from(bits) {

@@ -29,7 +29,8 @@ pub trait PutItem<T> {
     fn put_item<S: Sink<T>>(&self, item: &Self::Item, out: &mut S) -> Result<(), WriteError>
         requires { CanPut self.now }
         ensures written { Written (Form self.now item.now) (Fails self.now item.now) S.model out.old out.new result }
-        ensures room { S.model.room out.old ≤ S.model.room out.new };
+        ensures room { S.model.room out.old ≤ S.model.room out.new }
+        ensures loan { S.model.loan out.new ≡ S.model.loan out.old };
 }
 
 /// Adds one value. If `some`, a value without items is a mismatch. On an error, `out` is as it was.
@@ -44,6 +45,7 @@ fn put_one<T, P: PutItem<T>, S: Sink<T>>(
     ensures written { Written (ItemForm some (P.Form by.now) item.now) (ItemFails some (P.Form by.now)
         (P.Fails by.now) item.now) S.model out.old out.new result }
     ensures room { S.model.room out.old ≤ S.model.room out.new }
+    ensures loan { S.model.loan out.new ≡ S.model.loan out.old }
 {
     let start = out.len();
     match by.put_item(item, out) {
@@ -69,6 +71,7 @@ fn with_each<T, V, P: PutItem<T, Item = V>, S: Sink<T>>(
         (P.Form args.entry.0.now)) (ItemFails args.entry.2 (P.Form args.entry.0.now) (P.Fails args.entry.0.now)) args.entry.1.now) S.model
         out result.0 result.1 }
     ensures room { S.model.room out ≤ S.model.room result.0 }
+    ensures loan { S.model.loan result.0 ≡ S.model.loan out }
 {
     let (by, items, some) = args;
     let mut out = out;
@@ -98,6 +101,7 @@ pub fn put_each<T, P: PutItem<T>, S: Sink<T>>(
     ensures written { Written (Each (ItemForm some (P.Form by.now)) items.now) (EachFail (ItemForm some
         (P.Form by.now)) (ItemFails some (P.Form by.now) (P.Fails by.now)) items.now) S.model out.old out.new result }
     ensures room { S.model.room out.old ≤ S.model.room out.new }
+    ensures loan { S.model.loan out.new ≡ S.model.loan out.old }
 {
     replace_with(
         out,

@@ -1,11 +1,12 @@
 //! What is ready to be written.
-ghost use Rattle.std.specs.Prelude.{◌≤◌, ◌≡◌, List, length};
+ghost use Rattle.std.specs.Prelude.{◌≤◌, ◌≡◌, ℕ, IfErr, IfOk, List, length, take};
 ghost use Rattle.nom_sink.specs.Choices.{Either, EitherFails};
 ghost use Rattle.nom_sink.specs.Parts.{Both, BothFail};
 ghost use Rattle.nom_sink.specs.Written.{LacksRoom, Space, Written};
+ghost use Rattle.nom_sink.specs.Written.Lack.{OfSpace};
 
 use crate::error::WriteError;
-use crate::sink::Sink;
+use crate::sink::{Sink, slice_sink};
 
 /// Something that is ready to be written. It needs no value.
 pub trait Piece<T> {
@@ -24,7 +25,8 @@ pub trait Piece<T> {
     fn put<S: Sink<T>>(&self, out: &mut S) -> Result<(), WriteError>
         requires { CanPut self.now }
         ensures written { Written (Form self.now) (Fails self.now) S.model out.old out.new result }
-        ensures room { S.model.room out.old ≤ S.model.room out.new };
+        ensures room { S.model.room out.old ≤ S.model.room out.new }
+        ensures loan { S.model.loan out.new ≡ S.model.loan out.old };
 }
 
 /// Items as they are.
@@ -94,5 +96,20 @@ impl<T, F: Piece<T>, G: Piece<T>> Piece<T> for FirstFit<F, G> {
                 }
             }
         }
+    }
+}
+
+/// Puts a piece at the start of a slice, and returns the number of its items. The slice then begins with them.
+#[inline]
+pub fn put_in_slice<T: Copy, P: Piece<T>>(piece: &P, buffer: &mut [T]) -> Result<usize, WriteError>
+    requires { P.CanPut piece.now }
+    ensures put { IfOk result (λ n. (n ≤ length buffer.new) × P.Form piece.now (take n buffer.new)) }
+    ensures fails { IfErr result (λ e. (room : ℕ) × (length buffer.old ≤ room) ×
+        P.Fails piece.now (record { lack = OfSpace; room = room; start = 0 }) e) }
+{
+    let mut out = slice_sink(buffer);
+    match piece.put(&mut out) {
+        Ok(()) => Ok(out.len()),
+        Err(error) => Err(error),
     }
 }

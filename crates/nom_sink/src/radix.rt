@@ -55,7 +55,8 @@ pub trait OfCode: Value {
     /// Adds the item of a code. On an error, `out` is as it was.
     fn put_code<S: Sink<Self>>(code: u8, out: &mut S) -> Result<(), WriteError>
         ensures written { Written (λ xs. xs ≡ of_code code ∷ []) (LacksRoom 1) S.model out.old out.new result }
-        ensures room { S.model.room out.old ≤ S.model.room out.new };
+        ensures room { S.model.room out.old ≤ S.model.room out.new }
+        ensures loan { S.model.loan out.new ≡ S.model.loan out.old };
 
     /// The item of a code has the code.
     ghost coded: { (n : ℕ) → Self.code (of_code n) ≡ n };
@@ -116,6 +117,7 @@ pub fn write_digits<T: OfCode, R: Radix, S: Sink<T>>(
 ) -> Result<(), WriteError>
     ensures written { Written (AreDigitsOf T.of_code R.RADIX number) (LacksDigits T.of_code R.RADIX number) S.model out.old out.new result }
     ensures room { S.model.room out.old ≤ S.model.room out.new }
+    ensures loan { S.model.loan out.new ≡ S.model.loan out.old }
 {
     let last = last_digit::<R>(number);
     if number < R::RADIX {

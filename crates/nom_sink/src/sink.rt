@@ -2,7 +2,7 @@
 ghost use Rattle.std.specs.Prelude.{◌≡◌, ◌+◌, ◌<◌, ◌≤◌, ◌++◌, ◌⊎◌, [], OnErr, false, length, take, true, vec_capacity, vec_len};
 ghost use Rattle.nom_sink.specs.Slices.{behind, held, loan_of, room_of, slice_model};
 ghost use Rattle.nom_sink.specs.Vecs.{vec_model};
-ghost use Rattle.nom_sink.specs.Written.{LacksRoom, SinkModel, Written, moved_behind};
+ghost use Rattle.nom_sink.specs.Written.{LacksRoom, SinkModel, Written, moved_behind, no_loan};
 ghost use Rattle.nom_sink.specs.declared.error.WriteError.{WriteError};
 
 use crate::error::WriteError;
@@ -21,19 +21,22 @@ pub trait Sink<T> {
     /// Adds items. On an error, it is as it was.
     fn add(&mut self, items: &[T]) -> Result<(), WriteError>
         ensures written { Written (λ xs. xs ≡ items.now) (LacksRoom (length items.now)) model self.old self.new result }
-        ensures room { model.room self.old ≤ model.room self.new };
+        ensures room { model.room self.old ≤ model.room self.new }
+        ensures loan { model.loan self.new ≡ model.loan self.old };
 
     /// Removes all items but the first `len`.
     fn truncate(&mut self, len: usize)
         ensures items { model.items self.new ≡ take len (model.items self.old) }
-        ensures room { model.room self.old ≤ model.room self.new };
+        ensures room { model.room self.old ≤ model.room self.new }
+        ensures loan { model.loan self.new ≡ model.loan self.old };
 
     /// Moves the items from `start` up to `middle` behind the items that follow them.
     fn move_behind(&mut self, start: usize, middle: usize)
         requires start { start ≤ middle }
         requires middle { middle ≤ length (model.items self.old) }
         ensures items { model.items self.new ≡ moved_behind start middle (model.items self.old) }
-        ensures room { model.room self.old ≤ model.room self.new };
+        ensures room { model.room self.old ≤ model.room self.new }
+        ensures loan { model.loan self.new ≡ model.loan self.old };
 }
 
 /// Returns whether a list has room for more items.
@@ -72,6 +75,7 @@ impl<T: Copy, A: Allocator> Sink<T> for Vec<T, A> {
     fn add(&mut self, items: &[T]) -> Result<(), WriteError>
         ensures written { Written (λ xs. xs ≡ items.now) (LacksRoom (length items.now)) vec_model self.old self.new result }
         ensures room { vec_capacity self.old ≤ vec_capacity self.new }
+        ensures loan { no_loan self.new ≡ no_loan self.old }
         ensures unchanged { OnErr result (vec_capacity self.new ≡ vec_capacity self.old) }
     {
         if !has_room(self, items.len()) {

@@ -93,6 +93,7 @@ pub fn count_chars(text: &str) -> usize
 pub fn add_text<S: Sink<char>>(text: &str, out: &mut S) -> Result<(), WriteError>
     ensures written { Written (λ xs. xs ≡ chars text.now) (LacksRoom (length (chars text.now))) S.model out.old out.new result }
     ensures room { S.model.room out.old ≤ S.model.room out.new }
+    ensures loan { S.model.loan out.new ≡ S.model.loan out.old }
 {
     let start = out.len();
     for c in text.chars() {
@@ -136,9 +137,10 @@ impl<A: Allocator> TextSink<A> {
 /// It takes a character for each four bytes of its capacity. Its error is `OutOfMemory`.
 impl<A: Allocator> Sink<char> for TextSink<A> {
     ghost use Rattle.nom_sink.specs.Texts.{space_of, spelled};
+    ghost use Rattle.nom_sink.specs.Written.{no_loan};
     ghost use Rattle.nom_sink.specs.Written.Lack.{OfMemory};
 
-    ghost model = { record { items = spelled; room = space_of; lack = OfMemory } };
+    ghost model = { record { items = spelled; room = space_of; lack = OfMemory; loan = no_loan } };
 
     #[inline(always)]
     fn len(&self) -> usize {

@@ -1,5 +1,5 @@
 -- What written bytes are to a grammar: on every input that begins with them and goes on as it may, it accepts exactly them.
-use Rattle.std.specs.Prelude.{◌≡◌, ℕ, Bool, ◌⊎◌, List, ◌++◌}
+use Rattle.std.specs.Prelude.{◌≡◌, ℕ, Bool, false, ◌⊎◌, List, [], ◌++◌}
 use Rattle.nom_internal.specs.Prelude.{IResult, Model, items_len, IsSuffixOf, View, Grammar, Meaning, Outcome, Accept, Refuse, ParsesMeaning}
 use Rattle.nom_error.specs.declared.answer.Err.TheVariants.{OutOfMemory}
 use Rattle.std.specs.Prelude.{Ok, Err}
@@ -24,14 +24,25 @@ module _ {I A V : Type 0} (w : Model I A) where
     pub read : (i : I) (rest : List A) (o : Outcome V) → w.IsKnown i → w.elements i ≡ xs ++ rest → Follow rest → P i o →
         IsTaken Fact (items_len w.item_len xs) o
 
--- an input of these items is refused, in both modes
+-- an input of these items is refused, in one mode or in both
+abbrev pub NoItemIn : {I A V E : Type 0} → Model I A → Meaning I V E → (streaming : Bool) → List A → Type 0
+NoItemIn {I} {V = V} w m s rest = (i : I) (o : Outcome V) → w.IsKnown i → w.elements i ≡ rest → m.answers s i o → o ≡ Refuse
+
 abbrev pub NoItem : {I A V E : Type 0} → Model I A → Meaning I V E → List A → Type 0
-NoItem {I} {V = V} w m rest = (s : Bool) (i : I) (o : Outcome V) → w.IsKnown i → w.elements i ≡ rest → m.answers s i o → o ≡ Refuse
+NoItem w m rest = (s : Bool) → NoItemIn w m s rest
+
+-- nothing follows
+abbrev pub IsEnd : {A : Type 0} → List A → Type 0
+IsEnd rest = rest ≡ []
 
 module _ {I A V O E : Type 0} (w : Model I A) (g : Grammar I V O E) where
   -- A form of a value, before what may follow, is read in both modes, and the value is an output of each tree.
   pub record Reads (Form : O → List A → Type 0) (Follow : List A → Type 0) : Type 0 where
     pub reads : (v : O) (xs : List A) → Form v xs → (streaming : Bool) → ReadsBefore w (g.meaning.answers streaming) (λ t. g.IsOutput t v) Follow xs
+
+  -- A form of a value that ends a complete input is read, and the value is an output of each tree.
+  pub record ReadsAtEnd (Form : O → List A → Type 0) : Type 0 where
+    pub reads : (v : O) (xs : List A) → Form v xs → ReadsBefore w (g.meaning.answers false) (λ t. g.IsOutput t v) IsEnd xs
 
   -- items are read, as whatever tree, whatever follows
   pub record ReadsSome (xs : List A) : Type 0 where

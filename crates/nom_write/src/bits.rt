@@ -42,6 +42,7 @@ fn add_field<S: Sink<bool>>(
     requires { width ≤ 128 }
     ensures written { Written (AreBitsOf count number) (FieldFails width count number) S.model out.old out.new result }
     ensures room { S.model.room out.old ≤ S.model.room out.new }
+    ensures loan { S.model.loan out.new ≡ S.model.loan out.old }
 {
     if count > width {
         return Err(WriteError::Mismatch(out.len()));
@@ -148,6 +149,7 @@ fn padded_byte(bits: &[bool]) -> u8
 fn add_group<S: Sink<u8>>(bits: &[bool], out: &mut S) -> Result<(), WriteError>
     ensures written { Written (IsPadded bits.now) (GroupFails (length bits.now)) S.model out.old out.new result }
     ensures room { S.model.room out.old ≤ S.model.room out.new }
+    ensures loan { S.model.loan out.new ≡ S.model.loan out.old }
 {
     if bits.len() > 256 {
         return Err(WriteError::TooLong(out.len()));

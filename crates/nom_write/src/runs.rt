@@ -1,5 +1,5 @@
 //! Runs of items that pass a test. An item that doesn't pass it must follow.
-ghost use Rattle.std.specs.Prelude.{◌≤◌, ◌<◌, None, Some, MatchBool};
+ghost use Rattle.std.specs.Prelude.{◌≡◌, ◌≤◌, ◌<◌, None, Some, MatchBool};
 ghost use Rattle.nom_error.specs.declared.kind.ErrorKind.TheVariants as Kind;
 ghost use Rattle.nom_traits.specs.declared.character.AsciiClass.TheVariants as Class;
 ghost use Rattle.nom_bytes.specs.laws.RunLaws.{run_lawful};
@@ -62,6 +62,7 @@ fn write_run<I: Unmarked, P: Predicate<I::Item>, S: Sink<I::Item>>(
     ensures written { Written (IsRunForm I.model (P.answers (P.state predicate.now)) least most value)
         (RunFails I.model (P.answers (P.state predicate.now)) least most value) S.model out.old out.new result }
     ensures room { S.model.room out.old ≤ S.model.room out.new }
+    ensures loan { S.model.loan out.new ≡ S.model.loan out.old }
 {
     if is_run::<I, P>(predicate, least, most, value) {
         value.add_to(out)

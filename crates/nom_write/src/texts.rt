@@ -22,6 +22,7 @@ use nom_traits::input::Items;
 fn write_tag<S: Sink<char>>(tag: &str, out: &mut S) -> Result<(), WriteError>
     ensures written { Written (λ xs. xs ≡ text_items tag.now) (LacksRoom (length (text_items tag.now))) S.model out.old out.new result }
     ensures room { S.model.room out.old ≤ S.model.room out.new }
+    ensures loan { S.model.loan out.new ≡ S.model.loan out.old }
 {
     add_text(tag, out)
 }

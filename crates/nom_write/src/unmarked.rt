@@ -17,7 +17,8 @@ pub trait Unmarked: Input {
     fn add_to<S: Sink<Self::Item>>(&self, out: &mut S) -> Result<(), WriteError>
         ensures written { Written (λ xs. xs ≡ Self.model.elements self.now) (LacksRoom (length (Self.model.elements self.now))) S.model
             out.old out.new result }
-        ensures room { S.model.room out.old ≤ S.model.room out.new };
+        ensures room { S.model.room out.old ≤ S.model.room out.new }
+        ensures loan { S.model.loan out.new ≡ S.model.loan out.old };
 
     /// There is one mark.
     ghost one_mark: { (m n : Self.model.Mark) → m ≡ n };

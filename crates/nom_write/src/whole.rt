@@ -4,6 +4,7 @@ ghost use Rattle.nom_internal.specs.Prelude.{Parses};
 ghost use Rattle.nom_combinator.specs.Ends.{all_consuming_of};
 ghost use Rattle.nom_write.specs.Reads.{IsReadBack};
 
+use crate::ending::Ending;
 use crate::writer::Writer;
 use nom_combinator::AllConsuming;
 use nom_error::answer::IResult;
@@ -23,6 +24,25 @@ pub fn parse_whole_back<I: Input, P: Writer<I> + Drop>(
     ensures shown { Parses I.model (all_consuming_of I.model P.Error.errors (P.grammar (P.state parser.old.parser))) false input result }
     ensures kept { P.state parser.new.parser ≡ P.state parser.old.parser }
     ensures back { (v : P.Output) (xs : List I.Item) → P.Form parser.old.parser v xs → I.model.elements input ≡ xs → P.MayFollow parser.old.parser [] →
+        IsReadBack I.model P.Output.view (P.Pins parser.old.parser) (all_consuming_of I.model P.Error.errors
+        (P.grammar (P.state parser.old.parser))) v xs [] input result }
+{
+    input.prove_known();
+    parser.parse_complete(input)
+}
+
+/// Parses like `parse_whole_back`. A form that ends in a list, an option, a number in digits or a run is read back, too.
+pub fn parse_end_back<I: Input, P: Ending<I> + Drop>(
+    parser: &mut AllConsuming<P>,
+    input: I,
+) -> IResult<I, P::Output, P::Error>
+    requires runs { (all_consuming_of I.model P.Error.errors (P.grammar (P.state parser.old.parser))).meaning.Runs }
+    requires sound { (P.grammar (P.state parser.old.parser)).meaning.IsSound }
+    requires can { P.CanWrite parser.old.parser }
+    requires may { P.MayEnd parser.old.parser }
+    ensures shown { Parses I.model (all_consuming_of I.model P.Error.errors (P.grammar (P.state parser.old.parser))) false input result }
+    ensures kept { P.state parser.new.parser ≡ P.state parser.old.parser }
+    ensures back { (v : P.Output) (xs : List I.Item) → P.Form parser.old.parser v xs → I.model.elements input ≡ xs →
         IsReadBack I.model P.Output.view (P.Pins parser.old.parser) (all_consuming_of I.model P.Error.errors
         (P.grammar (P.state parser.old.parser))) v xs [] input result }
 {

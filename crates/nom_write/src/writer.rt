@@ -36,7 +36,8 @@ pub trait Writer<I: Items>: StreamParser<I> {
     fn write<S: Sink<I::Item>>(&self, value: &Self::Output, out: &mut S) -> Result<(), WriteError>
         requires { CanWrite self.now }
         ensures written { Written (Form self.now value.now) (Fails self.now value.now) S.model out.old out.new result }
-        ensures room { S.model.room out.old ≤ S.model.room out.new };
+        ensures room { S.model.room out.old ≤ S.model.room out.new }
+        ensures loan { S.model.loan out.new ≡ S.model.loan out.old };
 
     /// Each form of a value is read back as that value.
     ghost reads: { (p : Self) → (Self.grammar (Self.state p)).meaning.IsSound → CanWrite p → Reads I.model (Self.grammar (Self.state p))
@@ -61,7 +62,8 @@ pub trait Constant<I: Items>: StreamParser<I> {
     fn write_constant<S: Sink<I::Item>>(&self, out: &mut S) -> Result<(), WriteError>
         requires { Fits self.now }
         ensures written { Written (λ xs. xs ≡ items self.now) (LacksRoom (length (items self.now))) S.model out.old out.new result }
-        ensures room { S.model.room out.old ≤ S.model.room out.new };
+        ensures room { S.model.room out.old ≤ S.model.room out.new }
+        ensures loan { S.model.loan out.new ≡ S.model.loan out.old };
 
     /// The items are accepted, whatever follows.
     ghost accepts: { (p : Self) → (Self.grammar (Self.state p)).meaning.IsSound → Fits p → ReadsSome I.model (Self.grammar (Self.state p)) (items p) };

@@ -46,6 +46,7 @@ pub fn write_back<I: Items<Item = u8>, P: Canonical<I>, S: ByteSink>(
     requires read { Parses I.model (P.grammar (P.state parser.now)) true input (Ok (rest, value.now)) }
     ensures written { Written (λ xs. I.model.elements input ≡ xs ++ I.model.elements rest) (P.Fails parser.now value.now) S.model out.old out.new result }
     ensures room { S.model.room out.old ≤ S.model.room out.new }
+    ensures loan { S.model.loan out.new ≡ S.model.loan out.old }
 {
     input.prove_known();
     match parser.write(value, out) {

@@ -41,15 +41,16 @@ impl<I: Input<Item = u8>, E: ParseError<(I, usize)>> Canonical<(I, usize)> for B
     ghost one_form = { λ p c v. items_one (v ∷ []) };
 }
 
-/// Each form must fill whole bytes, because the parser ignores the rest of a byte.
+/// Each form must fill whole bytes, because the parser ignores the rest of a byte. It must have 256 bits or fewer, because more are `TooLong`.
 impl<I: Input<Item = u8>, P: Canonical<(I, usize)> + Drop, E: ParseError<I>> Canonical<I>
     for Bits<P, E>
 where
     P::Error: ErrorConvert<E>,
 {
-    ghost IsCanonical = { λ p. P.IsCanonical p.parser × ((v : P.Output) (bs : List Bool) → P.Form p.parser v bs → length bs % 8 ≡ 0) };
+    ghost IsCanonical = { λ p. P.IsCanonical p.parser × ((v : P.Output) (bs : List Bool) → P.Form p.parser v bs → (length bs % 8 ≡ 0) ×
+        (length bs ≤ 256)) };
 
-    ghost accepts_forms = { λ p c. bits_accepts I.model P.Error.converts c.1 (P.accepts_forms p.parser c.0) };
+    ghost accepts_forms = { λ p c. bits_accepts I.model P.Error.converts (λ v bs f. (c.1 v bs f).0) (P.accepts_forms p.parser c.0) };
 
     ghost one_form = { λ p c v. group_one (P.one_form p.parser c.0 v) };
 }

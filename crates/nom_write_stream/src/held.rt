@@ -1,5 +1,6 @@
 //! Bytes that wait to be written.
 ghost use Rattle.std.specs.Prelude.{◌≡◌, ◌<◌, ◌≤◌, [], OnErr, OnOk, drop, length, vec_capacity};
+ghost use Rattle.nom_sink.specs.Written.{no_loan};
 ghost use Rattle.nom_sink.specs.Written.Lack.{OfSpace};
 
 use nom_error::answer::OutOfMemory;
@@ -52,7 +53,7 @@ impl<A: Allocator> Held<A> {
 
 /// Without room for the bytes, the answer is `Full`.
 impl<A: Allocator> Sink<u8> for Held<A> {
-    ghost model = { record { items = λ h. h.bytes.items; room = λ h. vec_capacity h.bytes; lack = OfSpace } };
+    ghost model = { record { items = λ h. h.bytes.items; room = λ h. vec_capacity h.bytes; lack = OfSpace; loan = no_loan } };
 
     #[inline(always)]
     fn len(&self) -> usize {

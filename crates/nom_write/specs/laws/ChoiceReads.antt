@@ -1,5 +1,5 @@
 -- What is read of choices, and of a part whose outcome becomes another.
-use Rattle.std.specs.Prelude.{◌≡◌, ℕ, Bool, List, ◌++◌, ◌⊎◌, Option, Some, None, refl}
+use Rattle.std.specs.Prelude.{◌≡◌, ℕ, Bool, false, List, [], ◌++◌, ◌⊎◌, Option, Some, None, refl}
 use Rattle.std.proofs.Common.{sym, ◌∙◌, ap, subst, inl, inr}
 use Rattle.nom_internal.specs.Prelude.{Errors, Model, items_len, Grammar, Outcome, Accept, Refuse, GoesOnRefused, EitherOutput, Meaning}
 use Rattle.nom_internal.specs.Prelude.{OnPart, labelled, either_meaning, either_of, map_by}
@@ -12,7 +12,7 @@ use Rattle.nom_sink.specs.declared.error.WriteError.{WriteError}
 use Rattle.nom_sink.specs.Choices.{Either, EitherFails}
 use Rattle.nom_write.specs.Choices.{Apart, Refuses}
 use Rattle.nom_write.specs.Options.{CondForm, OfPart, OptForm}
-use Rattle.nom_write.specs.Reads.{Anything, NoItem, Reads, ReadsBefore}
+use Rattle.nom_write.specs.Reads.{Anything, IsEnd, NoItem, NoItemIn, Reads, ReadsAtEnd, ReadsBefore}
 use Rattle.nom_write.specs.laws.LeafReads.{success_reads}
 use Rattle.nom_write.specs.laws.SequenceReads.{as_whole}
 use Rattle.nom_sink.specs.Written.{Space}
@@ -151,6 +151,33 @@ module _ {I A V O E : Type 0} {w : Model I A} {g : Grammar I V O E} {Form : O �
     reads = λ v xs f s. become_reads w (λ a. a) (λ u. u) (λ n u. refl) (g.meaning.answers s) (λ u. g.IsOutput u f.0) (λ t.
         (map_by IsTaken Gives g).IsOutput t v)
         Follow Follow xs (λ rest k. k) (λ u k. record { output = f.0; is_output = k; given = again v f.0 f.1 }) (p.reads f.0 xs f.2 s);
+  }
+
+-- the same at the end of a complete input
+module _ {I A V O E : Type 0} {w : Model I A} {g : Grammar I V O E} {Form : O → List A → Type 0} where
+  pub opt_ends : ReadsAtEnd w g Form → NoItemIn w g.meaning false [] → ReadsAtEnd w (opt_of g) (OptForm Form)
+  opt_ends p none = record { reads = reads }
+    where
+      reads : (v : Option O) (xs : List A) → OptForm Form v xs → ReadsBefore w ((opt_of g).meaning.answers false) (λ t. OptOutput g.IsOutput t v) IsEnd xs
+      reads (Some v) xs f = become_reads w opt_outcome Some (λ n u. refl) (g.meaning.answers false) (λ u. g.IsOutput u v)
+          (λ t. OptOutput g.IsOutput t (Some v)) IsEnd IsEnd xs (λ rest k. k) (λ u k. (v, refl, k)) (p.reads v xs f)
+      reads None xs f = record {
+        read = λ i rest o known e k a.
+            let whole : w.elements i ≡ [] = e ∙ (ap (λ z. z ++ rest) f ∙ k) in (
+              None,
+              become_refused w opt_outcome (g.meaning.answers false) [] i o known whole none a ∙ ap (λ z. Accept (items_len w.item_len z) None)
+                  (sym f),
+              refl,
+            );
+      }
+
+  pub map_back_ends : {R : Type 0} (IsTaken : O → Type 0) (Gives : O → R → Type 0) (Back : R → O → Type 0) →
+      ((v : R) (x : O) → Back v x → Gives x v) → ReadsAtEnd w g Form →
+      ReadsAtEnd w (map_by IsTaken Gives g) (λ v xs. (x : O) × Back v x × Form x xs)
+  map_back_ends {R} IsTaken Gives Back again p = record {
+    reads = λ v xs f. become_reads w (λ a. a) (λ u. u) (λ n u. refl) (g.meaning.answers false) (λ u. g.IsOutput u f.0) (λ t.
+        (map_by IsTaken Gives g).IsOutput t v)
+        IsEnd IsEnd xs (λ rest k. k) (λ u k. record { output = f.0; is_output = k; given = again v f.0 f.1 }) (p.reads f.0 xs f.2);
   }
 
 -- a part on a condition

@@ -1,7 +1,7 @@
 -- What is read of decimal digits.
-use Rattle.std.specs.Prelude.{◌≡◌, ℕ, ◌-◌, ◌<◌, ◌==◌, ◌&&◌, ◌||◌, Bool, true, false, cond, List, [], ◌∷◌, ◌++◌, length, map, ℤ, refl}
+use Rattle.std.specs.Prelude.{◌≡◌, ℕ, ◌-◌, ◌<◌, ◌==◌, ◌&&◌, ◌||◌, ◌⊎◌, Bool, true, false, cond, List, [], ◌∷◌, ◌++◌, length, map, ℤ, refl}
 use Rattle.std.specs.List.{All}
-use Rattle.std.proofs.Common.{arith, sym, ◌∙◌, ap, subst}
+use Rattle.std.proofs.Common.{arith, sym, ◌∙◌, ap, subst, inl, inr}
 use Rattle.std.proofs.lemmas.List.{length-map}
 use Rattle.std.proofs.lemmas.List.Elements.{All-cons, All-head, All-nil, All-tail}
 use Rattle.nom_internal.specs.Prelude.{Accept, Errors, IsLawful, Model, is_dec_digit_code, items_len, same_self, value_of}
@@ -9,7 +9,7 @@ use Rattle.nom_character_integer.specs.Integers.{after_digits, after_integer, af
 use Rattle.nom_character_integer.specs.Integers.{integer_of, is_negative, is_sign, sign_of, with_sign}
 use Rattle.nom_sink.specs.Numerals.{AreDigitsOf, IsSigned, digit_code}
 use Rattle.nom_write.specs.Decimals.{IsDecimal, IsDigit}
-use Rattle.nom_write.specs.Reads.{Reads}
+use Rattle.nom_write.specs.Reads.{Reads, ReadsAtEnd}
 use Rattle.nom_write.specs.Runs.{BeginsOther}
 
 digit : (d : ℕ) → d < 10 → is_dec_digit_code (digit_code d) ≡ true
@@ -18,11 +18,16 @@ digit d h = grind (arith, h)
 digit_value : (d : ℕ) → d < 10 → digit_code d - 48 ≡ d
 digit_value d h = grind (arith, h)
 
+-- what begins with no digit, or is nothing
+abbrev EndsDigits : {A : Type 0} → (A → ℕ) → List A → Type 0
+EndsDigits code rest = BeginsOther (IsDigit code) rest ⊎ (rest ≡ [])
+
 module _ {A : Type 0} (code : A → ℕ) where
   -- digits before what begins with none are the first digits
-  run_of : (xs rest : List A) → All (λ x. IsDigit code x true) xs → BeginsOther (IsDigit code) rest → (digits_of code (xs ++ rest) ≡ xs) ×
+  run_of : (xs rest : List A) → All (λ x. IsDigit code x true) xs → EndsDigits code rest → (digits_of code (xs ++ rest) ≡ xs) ×
       (after_digits code (xs ++ rest) ≡ rest)
-  run_of [] rest h b = subst (λ z. (digits_of code z ≡ []) × (after_digits code z ≡ z)) {x = b.item ∷ b.more} {y = rest} (sym b.whole)
+  run_of [] rest h (inr e) = subst (λ z. (digits_of code z ≡ []) × (after_digits code z ≡ z)) {x = []} {y = rest} (sym e) (refl, refl)
+  run_of [] rest h (inl b) = subst (λ z. (digits_of code z ≡ []) × (after_digits code z ≡ z)) {x = b.item ∷ b.more} {y = rest} (sym b.whole)
       (ends (is_dec_digit_code (code b.item)) b.fails)
     where
       ends : (d : Bool) → d ≡ false → (cond d (b.item ∷ digits_of code b.more) [] ≡ []) ×
@@ -44,7 +49,7 @@ module _ {A : Type 0} (code : A → ℕ) where
     after : after_integer code signed ys ≡ rest
     negative_is : is_negative code signed ys ≡ negative
 
-  digits_alone : (signed : Bool) (ds rest : List A) → 0 < length ds → All (λ x. IsDigit code x true) ds → BeginsOther (IsDigit code) rest →
+  digits_alone : (signed : Bool) (ds rest : List A) → 0 < length ds → All (λ x. IsDigit code x true) ds → EndsDigits code rest →
       Parts signed false (ds ++ rest) ds ds rest
   digits_alone signed [] rest some h b = absurd (omega (arith, some))
   digits_alone signed (x ∷ xs) rest some h b =
@@ -69,7 +74,7 @@ module _ {A : Type 0} (code : A → ℕ) where
       not_minus false c h = refl
       not_minus true c h = grind (arith, h)
 
-  after_minus : (signed : Bool) (m : A) (ds rest : List A) → code m ≡ 45 → signed ≡ true → All (λ x. IsDigit code x true) ds → BeginsOther (IsDigit code) rest →
+  after_minus : (signed : Bool) (m : A) (ds rest : List A) → code m ≡ 45 → signed ≡ true → All (λ x. IsDigit code x true) ds → EndsDigits code rest →
       Parts signed true (m ∷ (ds ++ rest)) (m ∷ ds) ds rest
   after_minus false m ds rest c e h b = absurd (cc (e))
   after_minus true m ds rest c e h b =
@@ -127,7 +132,7 @@ module _ {A : Type 0} (code : A → ℕ) where
         }
 
     reads_as : (signed negative : Bool) (n : ℕ) (xs rest : List A) → (negative ≡ true → signed ≡ true) → IsSigned item_of negative n xs →
-        BeginsOther (IsDigit code) rest → IsReadAs signed negative n (xs ++ rest) xs rest
+        EndsDigits code rest → IsReadAs signed negative n (xs ++ rest) xs rest
     reads_as signed false n xs rest allowed a b =
         read_as signed false n (xs ++ rest) xs xs rest a (digits_alone signed xs rest (some_items n xs a) (are_digits n xs a) b)
     reads_as signed true n xs rest allowed f b =
@@ -147,12 +152,33 @@ module _ {A : Type 0} (code : A → ℕ) where
             let n = items_len w.item_len xs in
             let z : ℤ = with_sign f.negative f.whole in
             let r : IsReadAs signed f.negative f.whole (w.elements i) xs rest = subst (λ y. IsReadAs signed f.negative f.whole y xs rest) (sym e)
-            (reads_as signed f.negative f.whole xs rest (λ h. (f.minus h).0) f.written next) in
+            (reads_as signed f.negative f.whole xs rest (λ h. (f.minus h).0) f.written (inl next)) in
             let after : 0 < length (after_integer code signed (w.elements i)) = subst (λ y. 0 < length y) {x = next.item ∷ next.more} (sym (r.after ∙
             next.whole)) (omega arith) in (
               z,
               l.one_outcome s i i o (Accept n z) known known (same_self w i) a tt
                   (ap (λ y. items_len w.item_len y) (sym r.front), sym r.number, f.fitting, r.some, λ _. after),
+              f.value_is,
+            );
+      };
+    }
+
+    -- and at the end of a complete input
+    pub decimal_ends : {I T E : Type 0} (w : Model I A) (signed : Bool) (value : T → ℤ) (fits : ℤ → Type 0) (errs : Errors I E) →
+        IsLawful w (integer_meaning w code signed fits errs) → ReadsAtEnd {O = T} w (record {
+          meaning = integer_meaning w code signed fits errs;
+          IsOutput = λ z x. value x ≡ z;
+        }) (IsDecimal item_of signed value fits)
+    decimal_ends w signed value fits errs l = record {
+      reads = λ v xs f. record {
+        read = λ i rest o known e next a.
+            let n = items_len w.item_len xs in
+            let z : ℤ = with_sign f.negative f.whole in
+            let r : IsReadAs signed f.negative f.whole (w.elements i) xs rest = subst (λ y. IsReadAs signed f.negative f.whole y xs rest) (sym e)
+            (reads_as signed f.negative f.whole xs rest (λ h. (f.minus h).0) f.written (inr next)) in (
+              z,
+              l.one_outcome false i i o (Accept n z) known known (same_self w i) a tt
+                  (ap (λ y. items_len w.item_len y) (sym r.front), sym r.number, f.fitting, r.some, λ h. absurd (cc (h))),
               f.value_is,
             );
       };

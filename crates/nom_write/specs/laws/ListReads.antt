@@ -14,8 +14,8 @@ use Rattle.nom_repeat.specs.declared.items.Limits.{Limits}
 use Rattle.nom_repeat.specs.Items.{item_turn, items_meaning, refused_turn}
 use Rattle.nom_repeat.specs.Bounds.{any_limits, exact_limits}
 use Rattle.nom_sink.specs.Lists.{Each, ItemForm}
-use Rattle.nom_write.specs.Reads.{Anything, NoItem, Reads, ReadsBefore}
-use Rattle.nom_write.specs.laws.SequenceReads.{follows}
+use Rattle.nom_write.specs.Reads.{Anything, NoItem, NoItemIn, Reads, ReadsAtEnd, ReadsBefore}
+use Rattle.nom_write.specs.laws.SequenceReads.{before_others, follows}
 
 -- Items of a grammar within limits. Of as many values as `total` says each form is an item that is taken, and after them the items end,
 -- where what follows is of a kind.
@@ -127,19 +127,19 @@ module _ {I A V O E : Type 0} (w : Model I A) (l : InputLaws w) (errs : Errors I
 
   -- any number of items that aren't empty, before what begins with none
   any_items_reads : (kind : ErrorKind) (vs : List O) (xs : List A) → Each (ItemForm true Form) vs xs →
-      ReadsBefore w ((items_meaning w errs (any_limits kind) (Unit {0}) g.meaning).answers s) (λ ts. AllZip g.IsOutput ts vs) (NoItem w g.meaning) xs
-  any_items_reads kind vs xs h = list_read w l g (any_limits kind) (ItemForm true Form) Follow (NoItem w g.meaning) (length vs)
+      ReadsBefore w ((items_meaning w errs (any_limits kind) (Unit {0}) g.meaning).answers s) (λ ts. AllZip g.IsOutput ts vs) (NoItemIn w g.meaning s) xs
+  any_items_reads kind vs xs h = list_read w l g (any_limits kind) (ItemForm true Form) Follow (NoItemIn w g.meaning s) (length vs)
       (λ us xs rest b h k. all (xs ++ rest)) (item_reads w g true Form Follow p) s
       (λ k i below none. none tt) (λ k v xs t f. some_taken kind k (items_len w.item_len xs) t (some_len w l xs (f.1 refl))) ends errs vs xs refl h
     where
-      ends : (i : I) (rest : List A) (turn : Turn V (Unit {0})) → w.IsKnown i → w.elements i ≡ rest → NoItem w g.meaning rest →
+      ends : (i : I) (rest : List A) (turn : Turn V (Unit {0})) → w.IsKnown i → w.elements i ≡ rest → NoItemIn w g.meaning s rest →
           TurnsBy None (item_turn (any_limits kind)) (λ k. g.meaning.answers s) (length vs) i turn → turn ≡ Ends (Accept 0 tt)
       ends i rest turn known e none r = of_reply r.reply r.replied r.fact
         where
           of_reply : (a : Option (Outcome V)) → Replies None (λ k. g.meaning.answers s) (length vs) i a → turn ≡ item_turn (any_limits kind) (length vs) a →
               turn ≡ Ends (Accept 0 tt)
           of_reply None h f = absurd (h tt)
-          of_reply (Some o) h f = f ∙ (ap (λ z. item_turn (any_limits kind) (length vs) (Some z)) (none s i o known e h.1) ∙
+          of_reply (Some o) h f = f ∙ (ap (λ z. item_turn (any_limits kind) (length vs) (Some z)) (none i o known e h.1) ∙
               ap (λ b. refused_turn {V = V} b) (le-ltb (length vs) 0 (omega arith)))
 
 module _ {I A V O E : Type 0} {w : Model I A} (l : InputLaws w) (errs : Errors I E) {g : Grammar I V O E} {Form : O → List A → Type 0}
@@ -154,4 +154,13 @@ module _ {I A V O E : Type 0} {w : Model I A} (l : InputLaws w) (errs : Errors I
 
   -- any number of items
   pub many0_reads : {M : Type 0} → Reads w (many0_of {M = M} w errs g) (λ v. Each (ItemForm true Form) v.items) (NoItem w g.meaning)
-  many0_reads = record { reads = λ v xs h s. any_items_reads w l errs g Form Follow all p s Kind.Many0 v.items xs h }
+  many0_reads = record {
+    reads = λ v xs h s. before_others (λ rest k. k s) (any_items_reads w l errs g Form Follow all p s Kind.Many0 v.items xs h);
+  }
+
+  -- and at the end of a complete input
+  pub many0_ends : {M : Type 0} → NoItemIn w g.meaning false [] → ReadsAtEnd w (many0_of {M = M} w errs g) (λ v. Each (ItemForm true Form) v.items)
+  many0_ends none = record {
+    reads = λ v xs h. before_others (λ rest k. subst (NoItemIn w g.meaning false) (sym k) none)
+        (any_items_reads w l errs g Form Follow all p false Kind.Many0 v.items xs h);
+  }

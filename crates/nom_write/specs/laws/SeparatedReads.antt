@@ -17,11 +17,11 @@ use Rattle.nom_repeat.specs.Items.{item_turn, items_meaning, refused_turn}
 use Rattle.nom_repeat.specs.Bounds.{any_limits}
 use Rattle.nom_sequence.specs.Sequences.{preceded_of}
 use Rattle.nom_sink.specs.Lists.{Each, ItemForm}
-use Rattle.nom_write.specs.Reads.{NoItem, Reads, ReadsBefore, ReadsSome}
+use Rattle.nom_write.specs.Reads.{NoItem, NoItemIn, Reads, ReadsAtEnd, ReadsBefore, ReadsSome}
 use Rattle.nom_write.specs.Separated.{AfterSeparator, AnyForm, SomeForm}
 use Rattle.nom_write.specs.laws.LeafReads.{success_reads}
 use Rattle.nom_write.specs.laws.ListReads.{item_reads, list_read, some_len, some_taken}
-use Rattle.nom_write.specs.laws.SequenceReads.{as_whole, preceded_reads, then_reads}
+use Rattle.nom_write.specs.laws.SequenceReads.{as_whole, before_others, preceded_reads, then_reads}
 
 -- at most one item, which may be empty
 abbrev single_limits : (least : ℕ) → TooFew → Bool → Limits
@@ -33,8 +33,8 @@ single_taken least few at_start k zero t = refl
 single_taken least few at_start k (suc a) t = refl
 
 -- what ends an item, and begins with no further one
-abbrev After : {I A V E : Type 0} → Model I A → Meaning I V E → (List A → Type 0) → List A → Type 0
-After w m Follow rest = Follow rest × NoItem w m rest
+abbrev After : {I A V E : Type 0} → Model I A → Meaning I V E → (streaming : Bool) → (List A → Type 0) → List A → Type 0
+After w m s Follow rest = Follow rest × NoItemIn w m s rest
 
 -- two lists of outputs
 zip_more : {V O : Type 0} (P : V → O → Type 0) (ts us : List V) (v : O) (vs : List O) → AllZip P ts (v ∷ []) → AllZip P us vs → AllZip P (ts ++ us) (v ∷ vs)
@@ -72,42 +72,42 @@ module _ {I A V O E : Type 0} (w : Model I A) (l : InputLaws w) (errs : Errors I
 
   -- no first item, before what begins with none
   none_reads : (few : TooFew) (at_start : Bool) →
-      ReadsBefore w ((items_meaning w errs (single_limits 0 few at_start) (Unit {0}) g.meaning).answers s) (λ ts. AllZip g.IsOutput ts []) (NoItem w
-      g.meaning) []
-  none_reads few at_start = list_read w l g (single_limits 0 few at_start) Form Follow (NoItem w g.meaning) 0
+      ReadsBefore w ((items_meaning w errs (single_limits 0 few at_start) (Unit {0}) g.meaning).answers s) (λ ts. AllZip g.IsOutput ts [])
+      (NoItemIn w g.meaning s) []
+  none_reads few at_start = list_read w l g (single_limits 0 few at_start) Form Follow (NoItemIn w g.meaning s) 0
       (λ vs xs rest b e h. absurd (omega (arith, b))) p s
       (λ k i below none. absurd (omega (arith, below))) (λ k u ys t h. single_taken 0 few at_start k (items_len w.item_len ys) t) ends errs [] [] refl refl
     where
-      ends : (i : I) (rest : List A) (turn : Turn V (Unit {0})) → w.IsKnown i → w.elements i ≡ rest → NoItem w g.meaning rest →
+      ends : (i : I) (rest : List A) (turn : Turn V (Unit {0})) → w.IsKnown i → w.elements i ≡ rest → NoItemIn w g.meaning s rest →
           TurnsBy (Some 1) (item_turn (single_limits 0 few at_start)) (λ k. g.meaning.answers s) 0 i turn → turn ≡ Ends (Accept 0 tt)
       ends i rest turn known e none r = of_reply r.reply r.replied r.fact
         where
           of_reply : (a : Option (Outcome V)) → Replies (Some 1) (λ k. g.meaning.answers s) 0 i a →
               turn ≡ item_turn (single_limits 0 few at_start) 0 a → turn ≡ Ends (Accept 0 tt)
           of_reply None h f = f
-          of_reply (Some o) h f = f ∙ ap (λ z. item_turn (single_limits 0 few at_start) 0 (Some z)) (none s i o known e h.1)
+          of_reply (Some o) h f = f ∙ ap (λ z. item_turn (single_limits 0 few at_start) 0 (Some z)) (none i o known e h.1)
 
   -- any number of items that aren't empty, where one may follow another, before what begins with none
   more_reads : (kind : ErrorKind) → ((v : O) (xs rest : List A) → Form v xs → Follow (xs ++ rest)) → (vs : List O) (xs : List A) →
       Each (ItemForm true Form) vs xs → ReadsBefore w ((items_meaning w errs (any_limits kind) (Unit {0}) g.meaning).answers s)
-      (λ ts. AllZip g.IsOutput ts vs) (After w g.meaning Follow) xs
-  more_reads kind one_after vs xs h = list_read w l g (any_limits kind) (ItemForm true Form) Follow (After w g.meaning Follow) (length vs) meets
+      (λ ts. AllZip g.IsOutput ts vs) (After w g.meaning s Follow) xs
+  more_reads kind one_after vs xs h = list_read w l g (any_limits kind) (ItemForm true Form) Follow (After w g.meaning s Follow) (length vs) meets
       (item_reads w g true Form Follow p) s
       (λ k i below none. none tt) (λ k v xs t f. some_taken kind k (items_len w.item_len xs) t (some_len w l xs (f.1 refl))) ends errs vs xs refl h
     where
-      meets : (us : List O) (xs rest : List A) → length us < length vs → Each (ItemForm true Form) us xs → After w g.meaning Follow rest → Follow (xs ++ rest)
+      meets : (us : List O) (xs rest : List A) → length us < length vs → Each (ItemForm true Form) us xs → After w g.meaning s Follow rest → Follow (xs ++ rest)
       meets [] xs rest b e h = subst (λ z. Follow (z ++ rest)) (sym e) h.0
       meets (u ∷ us) xs rest b e h = subst Follow (sym (ap (λ z. z ++ rest) e.whole ∙ append_assoc e.front e.back rest))
           (one_after u e.front (e.back ++ rest) e.first.0)
 
-      ends : (i : I) (rest : List A) (turn : Turn V (Unit {0})) → w.IsKnown i → w.elements i ≡ rest → After w g.meaning Follow rest →
+      ends : (i : I) (rest : List A) (turn : Turn V (Unit {0})) → w.IsKnown i → w.elements i ≡ rest → After w g.meaning s Follow rest →
           TurnsBy None (item_turn (any_limits kind)) (λ k. g.meaning.answers s) (length vs) i turn → turn ≡ Ends (Accept 0 tt)
       ends i rest turn known e none r = of_reply r.reply r.replied r.fact
         where
           of_reply : (a : Option (Outcome V)) → Replies None (λ k. g.meaning.answers s) (length vs) i a → turn ≡ item_turn (any_limits kind) (length vs) a →
               turn ≡ Ends (Accept 0 tt)
           of_reply None h f = absurd (h tt)
-          of_reply (Some o) h f = f ∙ (ap (λ z. item_turn (any_limits kind) (length vs) (Some z)) (none.1 s i o known e h.1) ∙
+          of_reply (Some o) h f = f ∙ (ap (λ z. item_turn (any_limits kind) (length vs) (Some z)) (none.1 i o known e h.1) ∙
               ap (λ b. refused_turn {V = V} b) (le-ltb (length vs) 0 (omega arith)))
 
 -- A first item of a grammar, and then further ones of another meaning, with the same outputs.
@@ -115,37 +115,37 @@ module _ {I A V O E : Type 0} {w : Model I A} (l : InputLaws w) (errs : Errors I
     {First Further : O → List A → Type 0} {Follow : List A → Type 0} (p : Reads w g First Follow)
     (q : Reads w (record { meaning = m; IsOutput = g.IsOutput }) Further Follow) (one_after : (v : O) (xs rest : List A) → Further v xs → Follow (xs ++ rest))
     (kind : ErrorKind) (s : Bool) where
-  next : (vs : List O) (ys rest : List A) → Each (ItemForm true Further) vs ys → After w m Follow rest → Follow (ys ++ rest)
+  next : (vs : List O) (ys rest : List A) → Each (ItemForm true Further) vs ys → After w m s Follow rest → Follow (ys ++ rest)
   next [] ys rest e k = subst (λ z. Follow (z ++ rest)) (sym e) k.0
   next (v ∷ vs) ys rest e k = subst Follow (sym (ap (λ z. z ++ rest) e.whole ∙ append_assoc e.front e.back rest))
       (one_after v e.front (e.back ++ rest) e.first.0)
 
   -- by what follows a first item, whose tree is alone in its list
   first_then : (least : ℕ) (few : TooFew) (at_start : Bool) (N : List V → I → Outcome (List V) → Type 0) →
-      ((t : V) (us : List O) (ys : List A) → Each (ItemForm true Further) us ys → ReadsBefore w (N (t ∷ [])) (λ ts. AllZip g.IsOutput ts us) (After w m
+      ((t : V) (us : List O) (ys : List A) → Each (ItemForm true Further) us ys → ReadsBefore w (N (t ∷ [])) (λ ts. AllZip g.IsOutput ts us) (After w m s
       Follow) ys) →
       (v : O) (vs : List O) (xs : List A) → SomeForm First Further (v ∷ vs) xs →
       ReadsBefore w (Then w (λ ts us. ts ++ us) ((items_meaning w errs (single_limits least few at_start) (Unit {0}) g.meaning).answers s) N)
-      (λ ts. AllZip g.IsOutput ts (v ∷ vs)) (After w m Follow) xs
+      (λ ts. AllZip g.IsOutput ts (v ∷ vs)) (After w m s Follow) xs
   first_then least few at_start N more v vs xs f = as_whole w f.whole (then_reads w l (λ ts us. ts ++ us)
       ((items_meaning w errs (single_limits least few at_start) (Unit {0}) g.meaning).answers s) N (λ ts. AllZip g.IsOutput ts (v ∷ []))
-      (λ us. AllZip g.IsOutput us vs) (λ ts. AllZip g.IsOutput ts (v ∷ vs)) (λ ts us a b. zip_more g.IsOutput ts us v vs a b) Follow (After w m Follow)
+      (λ us. AllZip g.IsOutput us vs) (λ ts. AllZip g.IsOutput ts (v ∷ vs)) (λ ts us a b. zip_more g.IsOutput ts us v vs a b) Follow (After w m s Follow)
       f.front f.back
       (λ rest k. next vs f.back rest f.second k) (single_reads w l errs g First Follow p s least few at_start v f.front f.first) alone)
     where
-      alone : (ts : List V) → AllZip g.IsOutput ts (v ∷ []) → ReadsBefore w (N ts) (λ us. AllZip g.IsOutput us vs) (After w m Follow) f.back
+      alone : (ts : List V) → AllZip g.IsOutput ts (v ∷ []) → ReadsBefore w (N ts) (λ us. AllZip g.IsOutput us vs) (After w m s Follow) f.back
       alone [] a = absurd a
       alone (t ∷ []) a = more t vs f.back f.second
       alone (t ∷ u ∷ ts) a = absurd a.1
 
   further : (t : V) (us : List O) (ys : List A) → Each (ItemForm true Further) us ys →
-      ReadsBefore w ((items_meaning w errs (any_limits kind) (Unit {0}) m).answers s) (λ ts. AllZip g.IsOutput ts us) (After w m Follow) ys
+      ReadsBefore w ((items_meaning w errs (any_limits kind) (Unit {0}) m).answers s) (λ ts. AllZip g.IsOutput ts us) (After w m s Follow) ys
   further t us ys e = more_reads w l errs (record { meaning = m; IsOutput = g.IsOutput }) Further Follow q s kind one_after us ys e
 
   -- one item at least
   some_reads : (few : TooFew) (at_start : Bool) (vs : List O) (xs : List A) → SomeForm First Further vs xs →
       ReadsBefore w ((sequence_meaning w (λ ts us. ts ++ us) (λ o. o) (λ o. o) (items_meaning w errs (single_limits 1 few at_start) (Unit {0}) g.meaning)
-      (items_meaning w errs (any_limits kind) (Unit {0}) m)).answers s) (λ ts. AllZip g.IsOutput ts vs) (After w m Follow) xs
+      (items_meaning w errs (any_limits kind) (Unit {0}) m)).answers s) (λ ts. AllZip g.IsOutput ts vs) (After w m s Follow) xs
   some_reads few at_start [] xs f = absurd f
   some_reads few at_start (v ∷ vs) xs f =
       first_then 1 few at_start (λ ts. (items_meaning w errs (any_limits kind) (Unit {0}) m).answers s) further v vs xs f
@@ -163,7 +163,8 @@ module _ {I A P Q V O E : Type 0} {w : Model I A} (l : InputLaws w) (errs : Erro
   pub separated_list1_reads : {M : Type 0} → Reads w (separated_list1_of {M = M} w errs sep g) (λ v. SomeForm Form (AfterSeparator items Form) v.items)
       (λ rest. Follow rest × NoItem w (preceded_of w sep g).meaning rest)
   separated_list1_reads = record {
-    reads = λ v xs f s. some_reads l errs (preceded_of w sep g).meaning p (preceded_reads l q p) starts Kind.SeparatedList s Passed false v.items xs f;
+    reads = λ v xs f s. before_others (λ rest k. (k.0, k.1 s))
+        (some_reads l errs (preceded_of w sep g).meaning p (preceded_reads l q p) starts Kind.SeparatedList s Passed false v.items xs f);
   }
 
   -- any number of items, before what begins with no first one either
@@ -178,7 +179,7 @@ module _ {I A P Q V O E : Type 0} {w : Model I A} (l : InputLaws w) (errs : Erro
           ReadsBefore w ((separated_list0_of {M = M} w errs sep g).meaning.answers s) (λ ts. AllZip g.IsOutput ts vs) Ends xs
       reads [] xs f s = as_whole w (f ∙ refl) (then_reads w l (λ ts us. ts ++ us) ((optional_meaning w errs (Unit {0}) g.meaning).answers s)
           (λ ts. (follows w errs sep.meaning g.meaning ts).answers s) (λ ts. AllZip g.IsOutput ts []) (λ us. AllZip g.IsOutput us [])
-          (λ ts. AllZip g.IsOutput ts []) none_more (NoItem w g.meaning) Ends [] [] (λ rest k. k.2) (none_reads w l errs g Form Follow p s Never false)
+          (λ ts. AllZip g.IsOutput ts []) none_more (NoItemIn w g.meaning s) Ends [] [] (λ rest k. k.2 s) (none_reads w l errs g Form Follow p s Never false)
           none_follow)
         where
           none_more : (ts us : List V) → AllZip g.IsOutput ts [] → AllZip g.IsOutput us [] → AllZip g.IsOutput (ts ++ us) []
@@ -192,8 +193,16 @@ module _ {I A P Q V O E : Type 0} {w : Model I A} (l : InputLaws w) (errs : Erro
       reads (v ∷ vs) xs f s = record {
         read = λ i rest o known e k a. (first_then l errs (preceded_of w sep g).meaning p (preceded_reads l q p) starts Kind.SeparatedList s 0 Never false
             (λ ts. (follows w errs sep.meaning g.meaning ts).answers s) (further l errs (preceded_of w sep g).meaning p (preceded_reads l q p) starts
-            Kind.SeparatedList s) v vs xs f).read i rest o known e (k.0, k.1) a;
+            Kind.SeparatedList s) v vs xs f).read i rest o known e (k.0, k.1 s) a;
       }
+
+  -- one item at least, at the end of a complete input
+  pub separated_list1_ends : {M : Type 0} → Follow [] → NoItemIn w (preceded_of w sep g).meaning false [] →
+      ReadsAtEnd w (separated_list1_of {M = M} w errs sep g) (λ v. SomeForm Form (AfterSeparator items Form) v.items)
+  separated_list1_ends may none = record {
+    reads = λ v xs f. before_others (λ rest k. (subst Follow (sym k) may, subst (NoItemIn w (preceded_of w sep g).meaning false) (sym k) none))
+        (some_reads l errs (preceded_of w sep g).meaning p (preceded_reads l q p) starts Kind.SeparatedList false Passed false v.items xs f);
+  }
 
 -- one item at least, where anything may follow an item
 pub many1_reads : {I A V O E M : Type 0} {w : Model I A} (l : InputLaws w) (errs : Errors I E) {g : Grammar I V O E} {Form : O → List A → Type 0}
@@ -202,6 +211,15 @@ pub many1_reads : {I A V O E M : Type 0} {w : Model I A} (l : InputLaws w) (errs
 many1_reads l errs {g} all p = record {
   reads = λ v xs f s. record {
     read = λ i rest o known e k a. (some_reads l errs g.meaning p p (λ v xs rest f. all (xs ++ rest)) Kind.Many0 s (Added Kind.Many1) true v.items xs f).read
-        i rest o known e (all rest, k) a;
+        i rest o known e (all rest, k s) a;
   };
+}
+
+-- and at the end of a complete input
+pub many1_ends : {I A V O E M : Type 0} {w : Model I A} (l : InputLaws w) (errs : Errors I E) {g : Grammar I V O E} {Form : O → List A → Type 0}
+    {Follow : List A → Type 0} → ((rest : List A) → Follow rest) → Reads w g Form Follow → NoItemIn w g.meaning false [] →
+    ReadsAtEnd w (many1_of {M = M} w errs g) (λ v. SomeForm Form Form v.items)
+many1_ends {w = w} l errs {g} all p none = record {
+  reads = λ v xs f. before_others (λ rest k. (all rest, subst (NoItemIn w g.meaning false) (sym k) none))
+      (some_reads l errs g.meaning p p (λ v xs rest f. all (xs ++ rest)) Kind.Many0 false (Added Kind.Many1) true v.items xs f);
 }

@@ -1,13 +1,13 @@
 -- What is read of parts in sequence: what is written of the second, with all that may follow it, may follow the first.
-use Rattle.std.specs.Prelude.{◌≡◌, ◌+◌, List, ◌++◌, refl}
-use Rattle.std.proofs.Common.{sym, ◌∙◌, ap, subst, append_assoc}
+use Rattle.std.specs.Prelude.{◌≡◌, ◌+◌, List, [], ◌++◌, false, refl}
+use Rattle.std.proofs.Common.{sym, ◌∙◌, ap, subst, append_assoc, append-nil}
 use Rattle.nom_internal.specs.Prelude.{Model, InputLaws, items_len, items_len-append, IsSuffixOf, Grammar, Outcome, Accept, GoesOn, Then, after}
 use Rattle.nom_internal.specs.Prelude.{PairOutput, pair_of}
 use Rattle.nom_internal.specs.Tuples.{tuple_of}
 use Rattle.nom_traits.specs.Rests.{same_cut}
 use Rattle.nom_sequence.specs.Sequences.{preceded_of, terminated_of}
 use Rattle.nom_sink.specs.Parts.{Both, Meets}
-use Rattle.nom_write.specs.Reads.{Anything, IsTaken, Reads, ReadsBefore, ReadsSome}
+use Rattle.nom_write.specs.Reads.{Anything, IsEnd, IsTaken, Reads, ReadsAtEnd, ReadsBefore, ReadsSome}
 
 -- what follows items of a front, by the front's length
 pub follows : {I A : Type 0} (w : Model I A) → InputLaws w → (i j : I) (xs rest : List A) → w.elements i ≡ xs ++ rest →
@@ -18,6 +18,16 @@ follows w l i j xs rest e s = (same_cut w.item_len l.positive s.front (w.element
 pub as_whole : {I A V : Type 0} (w : Model I A) {P : I → Outcome V → Type 0} {Fact : V → Type 0} {Follow : List A → Type 0} {xs ys : List A} → xs ≡ ys →
     ReadsBefore w P Fact Follow ys → ReadsBefore w P Fact Follow xs
 as_whole w {P} {Fact} {Follow} e r = subst (ReadsBefore w P Fact Follow) (sym e) r
+
+-- before what is of another kind
+pub before_others : {I A V : Type 0} {w : Model I A} {P : I → Outcome V → Type 0} {Fact : V → Type 0} {Follow Other : List A → Type 0} {xs : List A} →
+    ((rest : List A) → Other rest → Follow rest) → ReadsBefore w P Fact Follow xs → ReadsBefore w P Fact Other xs
+before_others f p = record { read = λ i rest o known e k a. p.read i rest o known e (f rest k) a }
+
+-- where nothing may follow
+pub followed_ends : {I A V O E : Type 0} {w : Model I A} {g : Grammar I V O E} {Form : O → List A → Type 0} {Follow : List A → Type 0} → Follow [] →
+    Reads w g Form Follow → ReadsAtEnd w g Form
+followed_ends {Follow = Follow} may p = record { reads = λ v xs f. before_others (λ rest k. subst Follow (sym k) may) (p.reads v xs f false) }
 
 module _ {I A P Q T : Type 0} (w : Model I A) (l : InputLaws w) (tree : P → Q → T) (F : I → Outcome P → Type 0) (N : P → I → Outcome Q → Type 0)
     (IsFirst : P → Type 0) (IsNext : Q → Type 0) (IsTree : T → Type 0) (joins : (u : P) (v : Q) → IsFirst u → IsNext v → IsTree (tree u v))
@@ -68,6 +78,26 @@ module _ {I A V W O P E : Type 0} {w : Model I A} (l : InputLaws w) {g : Grammar
         (λ u x. as_whole w f.second (q.reads s)));
   }
 
+-- the same at the end of a complete input
+module _ {I A V W O P E : Type 0} {w : Model I A} (l : InputLaws w) {g : Grammar I V O E} {h : Grammar I W P E} where
+  pub pair_ends : {FirstForm : O → List A → Type 0} {NextForm : P → List A → Type 0} {First : List A → Type 0} →
+      ((v : P) (ys : List A) → NextForm v ys → First ys) → Reads w g FirstForm First → ReadsAtEnd w h NextForm →
+      ReadsAtEnd w (pair_of w g h) (λ v. Both (FirstForm v.0) (NextForm v.1))
+  pair_ends {First = First} meets p q = record {
+    reads = λ v xs f. as_whole w f.whole (then_reads w l (λ u v. (u, v)) (g.meaning.answers false) (λ u. h.meaning.answers false)
+        (λ t. g.IsOutput t v.0) (λ t. h.IsOutput t v.1) (λ t. PairOutput g.IsOutput h.IsOutput t v) (λ u v x y. (x, y)) First IsEnd f.front f.back
+        (λ rest k. subst First (sym (ap (λ z. f.back ++ z) k ∙ append-nil f.back)) (meets v.1 f.back f.second))
+        (p.reads v.0 f.front f.first false) (λ u x. q.reads v.1 f.back f.second));
+  }
+
+  pub preceded_ends : {items : List A} {NextForm : P → List A → Type 0} → ReadsSome w g items → ReadsAtEnd w h NextForm →
+      ReadsAtEnd w (preceded_of w g h) (λ v. Both (λ ys. ys ≡ items) (NextForm v))
+  preceded_ends {items} p q = record {
+    reads = λ b xs f. as_whole w f.whole (then_reads w l (λ u v. v) (g.meaning.answers false) (λ u. h.meaning.answers false)
+        (λ u. Unit {0}) (λ t. h.IsOutput t b) (λ t. h.IsOutput t b) (λ u v x y. y) Anything IsEnd f.front f.back (λ rest n. tt)
+        (as_whole w f.first (p.reads false)) (λ u x. q.reads b f.back f.second));
+  }
+
 -- two parts and a third are a first and two others
 both_regrouped : {T : Type 0} {A B C : List T → Type 0} {xs : List T} → Both A (Both B C) xs → Both (Both A B) C xs
 both_regrouped f = record {
@@ -86,3 +116,11 @@ regrouped p = record { reads = λ v xs f. p.reads v xs (both_regrouped f) }
 pub tuple_reads : {I A V O F E : Type 0} {w : Model I A} {g : Grammar I V O E} {Form : O → List A → Type 0} {Follow : List A → Type 0} (pairs : F → O) →
     Reads w g Form Follow → Reads w (tuple_of pairs g) (λ v. Form (pairs v)) Follow
 tuple_reads pairs p = record { reads = λ v. p.reads (pairs v) }
+
+pub regrouped_ends : {I T V O E : Type 0} {w : Model I T} {g : Grammar I V O E} {A B C : O → List T → Type 0} →
+    ReadsAtEnd w g (λ v. Both (Both (A v) (B v)) (C v)) → ReadsAtEnd w g (λ v. Both (A v) (Both (B v) (C v)))
+regrouped_ends p = record { reads = λ v xs f. p.reads v xs (both_regrouped f) }
+
+pub tuple_ends : {I A V O F E : Type 0} {w : Model I A} {g : Grammar I V O E} {Form : O → List A → Type 0} (pairs : F → O) →
+    ReadsAtEnd w g Form → ReadsAtEnd w (tuple_of pairs g) (λ v. Form (pairs v))
+tuple_ends pairs p = record { reads = λ v. p.reads (pairs v) }

@@ -1,4 +1,4 @@
-use Rattle.std.proofs.Common.{arith}
+use Rattle.std.proofs.Common.{arith, refl, ◌∙◌}
 use Rattle.nom_sink.proofs.Lists.{all_added, none_added, one_added, one_fails, undone}
 use Rattle.nom_sink.proofs.items.with_each.Goals as goal
 
@@ -6,6 +6,7 @@ pub loop-item-init : goal.loop-item-init
 loop-item-init g c = record {
   so_far = none_added _ _ g.S.Sink.model.lack c.args.args.1.now (g.S.Sink.model.items c.args.out);
   room = omega arith;
+  loan = refl;
 }
 
 pub loop-item-preserved : goal.loop-item-preserved
@@ -16,6 +17,7 @@ loop-item-preserved g c =
           c.loop-item-test.true c.item-item.is (m.items c.args.out) (m.items c.loop-item.out) (m.items c.put_one.new.out)
           c.loop-item.invariant.so_far c.in-Ok.ensures.written;
       room = omega (arith, c.loop-item.invariant.room, c.in-Ok.ensures.room);
+      loan = c.in-Ok.ensures.loan ∙ c.loop-item.invariant.loan;
     }
 
 pub returns-in-Err-clause-written : goal.returns-in-Err-clause-written

@@ -1,4 +1,4 @@
-use Rattle.std.proofs.Common.{rules, arith, ap, ◌∙◌}
+use Rattle.std.proofs.Common.{rules, arith, ap, refl, ◌∙◌}
 use Rattle.nom_sink.proofs.Lists.{undone}
 use Rattle.nom_sink.proofs.Texts.{text_begun, text_done, text_goes_on, text_room}
 use Rattle.nom_sink.proofs.text.add_text.Goals as goal
@@ -10,6 +10,7 @@ loop-c-init g c = record {
   on_way = text_begun c.args.text.now _ (g.S.Sink.model.items c.args.out.now) c.utf8.text
       (ap (λ i. i.rest.now) c.into_iter-c-iterator.ensures.into_iter_gives ∙ c.chars-c-items.ensures.rest);
   room = omega arith;
+  loan = refl;
 }
 
 pub loop-c-preserved : goal.loop-c-preserved
@@ -20,6 +21,7 @@ loop-c-preserved g c = record {
       (g.S.Sink.model.items c.loop-c.out) (g.S.Sink.model.items c.add.new.self) c.in-Some.c c.loop-c.invariant.on_way c.in-Some.ensures.steps.0
       c.in-Ok.ensures.written;
   room = omega (arith, c.loop-c.invariant.room, c.in-Ok.ensures.room);
+  loan = c.in-Ok.ensures.loan ∙ c.loop-c.invariant.loan;
 }
 
 pub returns-in-Err-clause-written : goal.returns-in-Err-clause-written

@@ -1,4 +1,4 @@
-use Rattle.std.proofs.Common.{◌≤◌}
+use Rattle.std.proofs.Common.{◌≡◌, ◌≤◌}
 use Rattle.nom_sink.proofs.Texts.{IsOnText}
 use Rattle.nom_sink.proofs.text.add_text.Given as goal
 
@@ -8,4 +8,5 @@ invariant-loop-c g l = record {
   finite : (goal.iterator-loop-c g).is_finite l.c-iterator;
   on_way : IsOnText l.text l.c-iterator.rest.now (g.S.Sink.model.items l.fn.out) (g.S.Sink.model.items l.out);
   room : g.S.Sink.model.room l.fn.out ≤ g.S.Sink.model.room l.out;
+  loan : g.S.Sink.model.loan l.out ≡ g.S.Sink.model.loan l.fn.out;
 }
