@@ -1,10 +1,12 @@
 -- JSON Lines: what is told of lines that come one after another.
-use Rattle.std.specs.Prelude.{◌≡◌, ℕ, ◌+◌, ◌⊎◌, Bool, true, false, if◌then◌else◌, List, [], ◌∷◌, ◌++◌, length, Option, None, Some, Ok, Err, codes}
+use Rattle.std.specs.Prelude.{◌≡◌, ℕ, ◌+◌, ◌-◌, ◌^◌, ◌⊎◌, Bool, true, false, if◌then◌else◌, List, [], ◌∷◌, ◌++◌, length, Option, None, Some, Ok, Err, codes}
 use Rattle.std.specs.Borrow.{Bor}
 use Rattle.std.specs.Fmt.{decimal}
 use Rattle.std.specs.Io.KnownBytes.{Appends}
 use Rattle.nom_internal.specs.Prelude.{bytes_model, Slice}
 use Rattle.nom.specs.Bytes.{BytesGrammar, is_not_of, map_of, opt_of, tag_of, terminated_of}
+use Rattle.nom_run.specs.Stream.{WroteFront}
+use Rattle.nom_stream.specs.declared.stream.Stop as Stops
 use Rattle.nom_stream.specs.declared.stream.Stop.TheVariants as Stop
 use Rattle.nom_stream.specs.declared.stream.Stream.{Stream}
 use Rattle.nom_stream.specs.Held.{last_of}
@@ -39,6 +41,24 @@ ListsLine held held' number bytes before then_ = (text : List ℕ) × IsLine num
 abbrev pub TellsLine : (held held' : Option (List ℕ)) (number : ℕ) → Type 0
 TellsLine held held' number = (text : List ℕ) × IsLineText number text × Appends held held' text
 
+-- a beginning of it was, and not all
+abbrev pub BeginsLine : (held held' : Option (List ℕ)) (number : ℕ) (bytes : List ℕ) (before : Bool) → Type 0
+BeginsLine held held' number bytes before =
+    (text : List ℕ) × (then_ : Bool) × IsLine number bytes text before then_ × WroteFront held held' text
+
+abbrev pub BeginsText : (held held' : Option (List ℕ)) (number : ℕ) → Type 0
+BeginsText held held' number = (text : List ℕ) × IsLineText number text × WroteFront held held' text
+
+-- no line comes, other than for a limit or for want of memory: so it is where a read failed
+abbrev pub IsUnread : Stops.Stop → Type 0
+IsUnread (Stop.Refused kind len) = Unit {0}
+IsUnread (Stop.Failed kind len) = Unit {0}
+IsUnread Stop.Nothing = Unit {0}
+IsUnread (Stop.Incomplete needed) = Unit {0}
+IsUnread Stop.TooLong = ⊥
+IsUnread (Stop.Fault error) = Unit {0}
+IsUnread Stop.OutOfMemory = ⊥
+
 -- So many lines came, from one state of a stream to another: the text is that of those which are no JSON text, in order, and whether
 -- there are any. (The end of a line is white space, so that a line may be taken with it.)
 pub data CheckedLines {R A : Type 0} (left : R → Option (List ℕ)) (s : Stream R A) : (count : ℕ) (t : Stream R A) (text : List ℕ) (wrong : Bool) → Type 0 where
@@ -67,3 +87,22 @@ pub record ToldLines {R A : Type 0} (left : R → Option (List ℕ)) (s t : Stre
   pub ends : (Decides left json_line_of before t (Ok None) × (status ≡ (if wrong then 1 else 0)) × Appends held held' text) ⊎
       (Decides left json_line_of before t (Err Stop.TooLong) × (status ≡ 3) ×
       ((more : List ℕ) × IsLineText (count + 1) more × Appends held held' (text ++ more)))
+
+-- What was written where there is no status: what is told of the lines before one.
+module _ {R A : Type 0} (left : R → Option (List ℕ)) (s t : Stream R A) (held held' : Option (List ℕ)) where
+  -- the stream gave no line after them, and says why; or they are as many as can be counted
+  abbrev pub ReadsNoLine : Type 0
+  ReadsNoLine = (count : ℕ) × (before : Stream R A) × (wrong : Bool) × Going left s before held held' count wrong ×
+      (((why : Stops.Stop) × Decides left json_line_of before t (Err why) × IsUnread why) ⊎ ((count ≡ 2 ^ 64 - 1) × (t ≡ before)))
+
+  -- and a beginning of what is told of that one
+  abbrev pub BeginsNext : Type 0
+  BeginsNext = (count : ℕ) × (before : Stream R A) × (wrong : Bool) × (between : Option (List ℕ)) × Going left s before held between count wrong ×
+      (((n x : ℕ) × Decides left json_line_of before t (Ok (Some (n, x))) × BeginsLine between held' (count + 1) (last_of n t.held) wrong) ⊎
+      (Decides left json_line_of before t (Err Stop.TooLong) × BeginsText between held' (count + 1)))
+
+  -- memory was wanted by the stream, or for what is told of that one
+  abbrev pub LacksNext : Type 0
+  LacksNext = (count : ℕ) × (before : Stream R A) × (wrong : Bool) × Going left s before held held' count wrong ×
+      (Decides left json_line_of before t (Err Stop.OutOfMemory) ⊎ Decides left json_line_of before t (Err Stop.TooLong) ⊎
+      ((n x : ℕ) × Decides left json_line_of before t (Ok (Some (n, x)))))

@@ -1,7 +1,7 @@
 //! The check whether bytes are a JSON text.
 //!
 //! The open brackets are kept in a list. No nesting is too deep.
-ghost use Rattle.std.specs.Prelude.{◌≡◌, ◌≤◌, ◌∷◌, [], ◌⊎◌, IfOk, IfErr, MatchOption, false, true, length, drop, reverse};
+ghost use Rattle.std.specs.Prelude.{◌≡◌, ◌≤◌, ◌∷◌, [], ◌⊎◌, IfOk, IfErr, MatchOption, OnErr, false, true, length, drop, reverse, vec_capacity, vec_len};
 ghost use Rattle.nom_json_run.specs.Json.{JsonItem, JsonString, JsonValue, begins, closing, opening};
 ghost use Rattle.nom_json_run.specs.Scans.{EndsAtStop, EndsNowhere};
 ghost use Rattle.nom_json_run.specs.Walk.{ClosesAll, ClosesAfter, FinishesText, IsKey, IsWordAt, IsVerdict, Stepped};
@@ -24,7 +24,8 @@ fn closing_byte(bracket: Bracket) -> u8
 // The brackets that lie open are a list, the outermost first: `reverse` has the innermost first.
 #[inline(always)]
 fn push<A: Allocator>(open: &mut Vec<Bracket, A>, bracket: Bracket) -> Result<(), OutOfMemory>
-    ensures { IfOk result (λ _. reverse open.new.items ≡ bracket ∷ reverse open.old.items) }
+    ensures pushed { IfOk result (λ _. reverse open.new.items ≡ bracket ∷ reverse open.old.items) }
+    ensures full { OnErr result (vec_capacity open.old ≤ vec_len open.old) }
 {
     match open.push(bracket) {
         Ok(()) => Ok(()),

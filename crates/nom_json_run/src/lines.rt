@@ -1,10 +1,11 @@
 //! JSON Lines: a JSON text in each line, from a reader of any length.
-ghost use Rattle.std.specs.Prelude.{◌≡◌, ◌++◌, ◌≤◌, ◌<◌, ◌^◌, ⊤, Option, if◌then◌else◌, IfErr, IfOk, length, string_bytes};
+ghost use Rattle.std.specs.Prelude.{◌≡◌, ◌++◌, ◌≤◌, ◌<◌, ◌^◌, ◌⊎◌, ⊤, Option, if◌then◌else◌, IfErr, IfOk, length, string_bytes};
 ghost use Rattle.std.specs.Io.KnownBytes.{Appends};
 ghost use Rattle.nom_internal.specs.Prelude.{bytes_model, Slice};
 ghost use Rattle.nom_run.specs.Stream.{MatchRunError, NoWriteFailed, WriteFailed};
 ghost use Rattle.nom_stream.specs.Streams.{IsOpen};
-ghost use Rattle.nom_json_run.specs.Lines.{IsLine, IsLineText, ListsLine, TellsLine, ToldLines, fault_line, line_len, json_line_of};
+ghost use Rattle.nom_json_run.specs.Lines.{BeginsLine, BeginsNext, BeginsText, IsLine, IsLineText, IsUnread, LacksNext};
+ghost use Rattle.nom_json_run.specs.Lines.{ListsLine, ReadsNoLine, TellsLine, ToldLines, fault_line, json_line_of, line_len};
 
 use crate::bracket::Fault;
 use crate::check::verdict;
@@ -196,7 +197,8 @@ fn list<A: Allocator + Copy, W: Sink>(
     ensures wrote { IfOk result (λ then_. ListsLine (W.held sink.old) (W.held sink.new) number line.now wrong then_
         × NoWriteFailed (W.failures sink.old) (W.failures sink.new) (W.stalls sink.old) (W.stalls sink.new)) }
     ensures error { IfErr result (λ e. MatchRunError e ⊥
-        (WriteFailed (W.failures sink.old) (W.failures sink.new) (W.stalls sink.old) (W.stalls sink.new)) (sink.new ≡ sink.old) ⊥) }
+        (BeginsLine (W.held sink.old) (W.held sink.new) number line.now wrong
+        × WriteFailed (W.failures sink.old) (W.failures sink.new) (W.stalls sink.old) (W.stalls sink.new)) (sink.new ≡ sink.old) ⊥) }
 {
     let found = match told(alloc, number, line, wrong) {
         Ok(found) => found,
@@ -218,7 +220,8 @@ fn tell_too_long<A: Allocator + Copy, W: Sink>(
     ensures wrote { IfOk result (λ status. (status ≡ 3) × TellsLine (W.held sink.old) (W.held sink.new) number
         × NoWriteFailed (W.failures sink.old) (W.failures sink.new) (W.stalls sink.old) (W.stalls sink.new)) }
     ensures error { IfErr result (λ e. MatchRunError e ⊥
-        (WriteFailed (W.failures sink.old) (W.failures sink.new) (W.stalls sink.old) (W.stalls sink.new)) (sink.new ≡ sink.old) ⊥) }
+        (BeginsText (W.held sink.old) (W.held sink.new) number
+        × WriteFailed (W.failures sink.old) (W.failures sink.new) (W.stalls sink.old) (W.stalls sink.new)) (sink.new ≡ sink.old) ⊥) }
 {
     let text = match line_text(
         alloc,
@@ -235,6 +238,32 @@ fn tell_too_long<A: Allocator + Copy, W: Sink>(
     }
 }
 
+// What is told where no line comes, and the status.
+fn stopped<A: Allocator + Copy, W: Sink>(
+    alloc: A,
+    sink: &mut W,
+    number: u64,
+    why: Stop,
+) -> Result<u8, RunError>
+    ensures wrote { IfOk result (λ status. (why ≡ Stop.TooLong) × (status ≡ 3) × TellsLine (W.held sink.old) (W.held sink.new) number
+        × NoWriteFailed (W.failures sink.old) (W.failures sink.new) (W.stalls sink.old) (W.stalls sink.new)) }
+    ensures error { IfErr result (λ e. MatchRunError e
+        ((sink.new ≡ sink.old) × IsUnread why)
+        ((why ≡ Stop.TooLong) × BeginsText (W.held sink.old) (W.held sink.new) number
+        × WriteFailed (W.failures sink.old) (W.failures sink.new) (W.stalls sink.old) (W.stalls sink.new))
+        ((sink.new ≡ sink.old) × ((why ≡ Stop.OutOfMemory) ⊎ (why ≡ Stop.TooLong))) ⊥) }
+{
+    match why {
+        Stop::TooLong => tell_too_long(alloc, sink, number),
+        Stop::OutOfMemory => Err(RunError::OutOfMemory),
+        Stop::Refused(_, _) => Err(RunError::Read),
+        Stop::Failed(_, _) => Err(RunError::Read),
+        Stop::Nothing => Err(RunError::Read),
+        Stop::Incomplete(_) => Err(RunError::Read),
+        Stop::Fault(_) => Err(RunError::Read),
+    }
+}
+
 fn status_of(wrong: bool) -> u8
     ensures { result ≡ (if wrong then 1 else 0) }
 {
@@ -247,9 +276,12 @@ fn status_of(wrong: bool) -> u8
 /// The status is 1 if there is such a line, and 0 otherwise. A line longer than the stream may hold is
 /// reported and ends the run, with status 3.
 ///
-/// The data may end with the end of a line or without it. An empty line is no JSON text. The answer is
-/// `Write` if a write failed, which isn't tried again. It is `Read` if a read failed, and after 2^64 - 1
-/// lines.
+/// The data may end with the end of a line or without it. An empty line is no JSON text.
+///
+/// Without a status, what was written is a beginning of what is told of the lines so far. The answer is
+/// `Write` if a write failed, which isn't tried again, and `OutOfMemory` if memory ran out for the next line.
+/// It is `Read` if a read failed, if the data of a stream that isn't `complete` end within a line, and after
+/// 2^64 - 1 lines.
 pub fn tell_lines<R: Read, A: Allocator + Copy, W: Sink>(
     alloc: A,
     stream: &mut Stream<R, A>,
@@ -260,9 +292,12 @@ pub fn tell_lines<R: Read, A: Allocator + Copy, W: Sink>(
     ensures status { IfOk result (λ status. ToldLines R.remaining stream.old stream.new (W.held sink.old) (W.held sink.new) status
         × NoWriteFailed (W.failures sink.old) (W.failures sink.new) (W.stalls sink.old) (W.stalls sink.new)) }
     ensures error { IfErr result (λ e. MatchRunError e
-        (NoWriteFailed (W.failures sink.old) (W.failures sink.new) (W.stalls sink.old) (W.stalls sink.new))
-        (WriteFailed (W.failures sink.old) (W.failures sink.new) (W.stalls sink.old) (W.stalls sink.new))
-        (NoWriteFailed (W.failures sink.old) (W.failures sink.new) (W.stalls sink.old) (W.stalls sink.new)) ⊥) }
+        (ReadsNoLine R.remaining stream.old stream.new (W.held sink.old) (W.held sink.new)
+        × NoWriteFailed (W.failures sink.old) (W.failures sink.new) (W.stalls sink.old) (W.stalls sink.new))
+        (BeginsNext R.remaining stream.old stream.new (W.held sink.old) (W.held sink.new)
+        × WriteFailed (W.failures sink.old) (W.failures sink.new) (W.stalls sink.old) (W.stalls sink.new))
+        (LacksNext R.remaining stream.old stream.new (W.held sink.old) (W.held sink.new)
+        × NoWriteFailed (W.failures sink.old) (W.failures sink.new) (W.stalls sink.old) (W.stalls sink.new)) ⊥) }
 {
     let mut grammar = Lines;
     let mut wrong = false;
@@ -275,12 +310,7 @@ pub fn tell_lines<R: Read, A: Allocator + Copy, W: Sink>(
                 }
             }
             Ok(None) => return Ok(status_of(wrong)),
-            Err(Stop::TooLong) => match tell_too_long(alloc, sink, turn + 1) {
-                Ok(status) => return Ok(status),
-                Err(error) => return Err(error),
-            },
-            Err(Stop::OutOfMemory) => return Err(RunError::OutOfMemory),
-            Err(_why) => return Err(RunError::Read),
+            Err(why) => return stopped(alloc, sink, turn + 1, why),
         }
     }
     Err(RunError::Read)

@@ -33,7 +33,7 @@ returns-in-Ok-key g c =
     let comma = comma_on o inner at item e (c.spaces-item.ensures.follows ∙ ap after_spaces (sym (rest_at (λ b. b == 44) bs c.args.at e))) in (
       omega (arith, c.spaces-item.ensures.begins, found.begins),
       found.within,
-      subst (λ xs. ClosesAll (o ∷ inner) at ↔ ClosesAfter (JsonValue stop) xs) (sym c.in-Ok.ensures)
+      subst (λ xs. ClosesAll (o ∷ inner) at ↔ ClosesAfter (JsonValue stop) xs) (sym c.in-Ok.ensures.pushed)
           (both comma (key_on o (o ∷ inner) item stop found.same)),
     )
 

@@ -39,7 +39,7 @@ returns-in-Ok-key g c =
     (c.spaces-inside.ensures.follows ∙ ap after_spaces (sym (rest_at (λ b. b == opening o) bs c.args.at c.requires))) in (
       omega (arith, c.spaces-inside.ensures.begins, found.begins),
       found.within,
-      subst (λ xs. ClosesAfter (JsonValue at) inner ↔ ClosesAfter (JsonValue stop) xs) (sym c.in-Ok.ensures)
+      subst (λ xs. ClosesAfter (JsonValue at) inner ↔ ClosesAfter (JsonValue stop) xs) (sym c.in-Ok.ensures.pushed)
           (both start (both (items_on o inner inside no) (key_on o (o ∷ inner) inside stop found.same))),
     )
 

@@ -1,7 +1,8 @@
-use Rattle.std.proofs.Common.{◌+◌, Err, Ok, refl, subst}
+use Rattle.std.proofs.Common.{arith, ◌≡◌, ◌+◌, Ok, refl, subst}
 use Rattle.nom_stream.specs.Streams.{Decides}
-use Rattle.nom_json_run.specs.Lines.{ListsLine, json_line_of}
-use Rattle.nom_json_run.proofs.Listed.{ended, going_none, going_on, none_then, too_long}
+use Rattle.nom_run.specs.Stream.{MatchRunError, WriteFailed}
+use Rattle.nom_json_run.specs.Lines.{BeginsLine, ListsLine, json_line_of}
+use Rattle.nom_json_run.proofs.Listed.{ended, going_none, going_on, no_more, none_then, on_list, on_stop_error, on_stop_status}
 use Rattle.nom_json_run.proofs.lines.tell_lines.Goals as goal
 
 pub loop-turn-init : goal.loop-turn-init
@@ -21,17 +22,31 @@ returns-in-Ok-None-clause-status g c =
       i.writes,
     )
 
-pub returns-in-Ok-tell_too_long-clause-status : goal.returns-in-Ok-tell_too_long-clause-status
-returns-in-Ok-tell_too_long-clause-status g c =
+pub returns-in-Err-list-clause-error : goal.returns-in-Err-list-clause-error
+returns-in-Err-list-clause-error g c =
     let i = c.loop-turn.invariant in
-    let wrote = c.in-Ok-tell_too_long.ensures.wrote in
-    let d = subst (λ f. Decides g.R.Read.remaining json_line_of c.loop-turn.stream c.next_item.new.self (Err f)) c.in-Err-TooLong.field-0-is
-    c.in-Err-TooLong.ensures.decides in (
-      too_long g.R.Read.remaining c.args.stream.now c.loop-turn.stream c.next_item.new.self (g.W.Sink.held c.args.sink.now)
-          (g.W.Sink.held c.loop-turn.sink) (g.W.Sink.held c.tell_too_long.new.sink) c.loop-turn.turn c.in-Ok-tell_too_long.status c.loop-turn.wrong
-          i.going d wrote.0 wrote.1,
-      none_then _ _ _ _ _ _ i.writes wrote.2,
-    )
+    let d = subst (λ f. Decides g.R.Read.remaining json_line_of c.loop-turn.stream c.next_item.new.self (Ok f)) c.in-Ok-Some.field-0-is
+    c.in-Ok-Some.ensures.decides in
+    on_list g.R.Read.remaining c.args.stream.now c.loop-turn.stream c.next_item.new.self g.W.Sink.held g.W.Sink.failures g.W.Sink.stalls
+    c.args.sink.now c.loop-turn.sink c.list.new.sink c.loop-turn.turn c.loop-turn.wrong i.going i.writes c.in-Ok-Some.used c.in-Ok-Some._length d
+    c.in-Err-list.error (
+    subst (λ z. MatchRunError c.in-Err-list.error ⊥ (BeginsLine (g.W.Sink.held c.loop-turn.sink) (g.W.Sink.held c.list.new.sink) (c.loop-turn.turn + 1)
+    z c.loop-turn.wrong × WriteFailed (g.W.Sink.failures c.loop-turn.sink) (g.W.Sink.failures c.list.new.sink) (g.W.Sink.stalls c.loop-turn.sink)
+    (g.W.Sink.stalls c.list.new.sink)) (c.list.new.sink ≡ c.loop-turn.sink) ⊥) c.last.ensures c.in-Err-list.ensures.error)
+
+pub returns-in-Err-clause-status : goal.returns-in-Err-clause-status
+returns-in-Err-clause-status g c =
+    let i = c.loop-turn.invariant in
+    on_stop_status g.R.Read.remaining c.args.stream.now c.loop-turn.stream c.next_item.new.self g.W.Sink.held g.W.Sink.failures g.W.Sink.stalls
+    c.args.sink.now c.loop-turn.sink c.stopped.new.sink c.loop-turn.turn c.loop-turn.wrong i.going i.writes c.in-Err.why c.in-Err.ensures.decides
+    c.stopped.result c.stopped.ensures.wrote
+
+pub returns-in-Err-clause-error : goal.returns-in-Err-clause-error
+returns-in-Err-clause-error g c =
+    let i = c.loop-turn.invariant in
+    on_stop_error g.R.Read.remaining c.args.stream.now c.loop-turn.stream c.next_item.new.self g.W.Sink.held g.W.Sink.failures g.W.Sink.stalls
+    c.args.sink.now c.loop-turn.sink c.stopped.new.sink c.loop-turn.turn c.loop-turn.wrong i.going i.writes c.in-Err.why c.in-Err.ensures.decides
+    c.stopped.result c.stopped.ensures.error
 
 pub loop-turn-preserved : goal.loop-turn-preserved
 loop-turn-preserved g c =
@@ -48,3 +63,11 @@ loop-turn-preserved g c =
           c.in-Ok.next i.going d listed;
       writes = none_then _ _ _ _ _ _ i.writes wrote.1;
     }
+
+pub returns-clause-error : goal.returns-clause-error
+returns-clause-error g c =
+    let i = c.loop-turn.invariant in (
+      no_more g.R.Read.remaining c.args.stream.now c.loop-turn.stream (g.W.Sink.held c.args.sink.now) (g.W.Sink.held c.loop-turn.sink) c.loop-turn.turn
+          c.loop-turn.wrong i.going (omega (arith, c.loop-turn-test.false)),
+      i.writes,
+    )
