@@ -4,3 +4,4 @@ pub mod Listed
 pub mod Strings
 pub mod Values
 pub mod Walks
+pub mod Wanted

@@ -1,6 +1,8 @@
 //! The report on a file.
-ghost use Rattle.std.specs.Prelude.{◌≡◌, ◌≤◌, IfOk, length, string_bytes};
-ghost use Rattle.nom_json_run.specs.Report.{IsOctetsReport, IsReport, IsTextReport, IsTold};
+ghost use Rattle.std.specs.Prelude.{◌≡◌, ◌≤◌, ◌∷◌, [], IfOk, length, string_bytes};
+ghost use Rattle.nom_report.specs.Wanted.{WantedChar, WantedLabel};
+ghost use Rattle.nom_json_run.specs.Json as Json;
+ghost use Rattle.nom_json_run.specs.Report.{IsOctetsReport, IsReport, IsTextReport, IsTold, JoinsOf, TellsFault, Wanting};
 
 use crate::bracket::{Bracket, Fault, Missing};
 use crate::check::verdict;
@@ -18,7 +20,9 @@ use std::str;
 type Error<'a> = nom_report::Report<&'a [u8]>;
 
 // What is wanted goes by a name.
-pub(crate) fn named<'a>(place: &'a [u8], name: &'static str) -> Result<Error<'a>, OutOfMemory> {
+pub(crate) fn named<'a>(place: &'a [u8], name: &'static str) -> Result<Error<'a>, OutOfMemory>
+    ensures { IfOk result (Wanting place.entry (WantedLabel name.now ∷ [])) }
+{
     match nom_report::Report::from_error_kind(place, ErrorKind::Fail) {
         Ok(error) => nom_report::Report::add_context(place, name, error),
         Err(error) => Err(error),
@@ -28,7 +32,9 @@ pub(crate) fn named<'a>(place: &'a [u8], name: &'static str) -> Result<Error<'a>
 fn either<'a>(
     first: Result<Error<'a>, OutOfMemory>,
     second: Result<Error<'a>, OutOfMemory>,
-) -> Result<Error<'a>, OutOfMemory> {
+) -> Result<Error<'a>, OutOfMemory>
+    ensures { IfOk result (JoinsOf first.entry second.entry) }
+{
     match first {
         Ok(first) => match second {
             Ok(second) => first.or(second),
@@ -38,7 +44,9 @@ fn either<'a>(
     }
 }
 
-fn character<'a>(place: &'a [u8], wanted: char) -> Result<Error<'a>, OutOfMemory> {
+fn character<'a>(place: &'a [u8], wanted: char) -> Result<Error<'a>, OutOfMemory>
+    ensures { IfOk result (Wanting place.entry (WantedChar wanted ∷ [])) }
+{
     nom_report::Report::from_char(place, wanted)
 }
 
@@ -57,7 +65,9 @@ fn stands_before(bytes: &[u8], at: usize, byte: u8) -> bool
     false
 }
 
-fn closing(bracket: Bracket) -> char {
+fn closing(bracket: Bracket) -> char
+    ensures { result ≡ Json.closing bracket }
+{
     match bracket {
         Bracket::Array => ']',
         Bracket::Object => '}',
@@ -67,6 +77,7 @@ fn closing(bracket: Bracket) -> char {
 // What a fault tells: the place, and what would have been accepted there.
 pub(crate) fn error_of<'a>(bytes: &'a [u8], fault: Fault) -> Result<Error<'a>, OutOfMemory>
     requires { fault.at ≤ length bytes.now }
+    ensures { IfOk result (TellsFault bytes.now fault) }
 {
     let place = &bytes[fault.at..];
     match fault.missing {
@@ -107,7 +118,7 @@ fn tell_fault<A: Allocator + Copy>(
     fault: Fault,
 ) -> Result<(String<A>, u8), OutOfMemory>
     requires { fault.at ≤ length text.now }
-    ensures { IfOk result (λ r. (r.1 ≡ 1) × IsTextReport text.now (string_bytes r.0)) }
+    ensures { IfOk result (λ r. (r.1 ≡ 1) × IsTextReport name.now text.now fault (string_bytes r.0)) }
 {
     let bytes = text.as_bytes();
     let error = match error_of(bytes, fault) {
@@ -129,7 +140,7 @@ fn tell_bytes<A: Allocator + Copy>(
     at: usize,
 ) -> Result<(String<A>, u8), OutOfMemory>
     requires { at ≤ length bytes.now }
-    ensures { IfOk result (λ r. (r.1 ≡ 1) × IsOctetsReport bytes.now (string_bytes r.0)) }
+    ensures { IfOk result (λ r. (r.1 ≡ 1) × IsOctetsReport name.now bytes.now at (string_bytes r.0)) }
 {
     let error = match named(&bytes[at..], "a character in UTF-8") {
         Ok(error) => error,
@@ -151,7 +162,7 @@ pub fn text_of<A: Allocator + Copy>(
     name: &str,
     bytes: &[u8],
 ) -> Result<(String<A>, u8), OutOfMemory>
-    ensures { IfOk result (λ r. IsTold bytes.now (string_bytes r.0) r.1) }
+    ensures { IfOk result (λ r. IsTold name.now bytes.now (string_bytes r.0) r.1) }
 {
     match str::from_utf8(bytes) {
         Ok(text) => match verdict(alloc, text.as_bytes()) {
