@@ -1,5 +1,6 @@
 -- What is wanted where a part is missing.
-use Rattle.std.proofs.Common.{arith, ◌≡◌, ℕ, zero, suc, ◌-◌, ◌<◌, Bool, false, List, [], ◌∷◌, length, take, drop, Result, Ok, Err, IfOk, ◌∙◌, ap, subst, sym, inl, inr}
+use Rattle.std.proofs.Common.{arith, ◌≡◌, ℕ, zero, suc, ◌-◌, ◌<◌, Bool, false, List, [], ◌∷◌, length, take, drop, Result, Ok, Err, IfOk}
+use Rattle.std.proofs.Common.{◌∙◌, ap, subst, sym, inl, inr}
 use Rattle.std.proofs.lemmas.List.{length-drop}
 use Rattle.std.proofs.Math.Seq.{take-length}
 use Rattle.std.specs.Prelude.{◌⊎◌, ◌||◌, MatchResult, slice_index_or}
