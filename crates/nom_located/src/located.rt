@@ -194,6 +194,9 @@ fn line_after(bytes: &[u8], offset: usize, line: usize, column: usize) -> (usize
     requires { Fits (place offset line column) (length bytes.now) }
     ensures { place (offset + length bytes.now) result.0 result.1 ≡ past_bytes (place offset line column) bytes.now }
 {
+    if bytes.len() <= 8 {
+        return line_after_few(bytes, offset, line, column);
+    }
     let mut at = 0;
     let mut line = line;
     let mut column = column;
@@ -203,6 +206,25 @@ fn line_after(bytes: &[u8], offset: usize, line: usize, column: usize) -> (usize
         column = 1;
     }
     (line, column + (bytes.len() - at))
+}
+
+/// Does as `line_after`, byte by byte. For a few bytes a search costs more.
+#[inline(always)]
+fn line_after_few(bytes: &[u8], offset: usize, line: usize, column: usize) -> (usize, usize)
+    requires { Fits (place offset line column) (length bytes.now) }
+    ensures { place (offset + length bytes.now) result.0 result.1 ≡ past_bytes (place offset line column) bytes.now }
+{
+    let mut lines = line;
+    let mut columns = column;
+    for byte in bytes {
+        if *byte == b'\n' {
+            lines += 1;
+            columns = 1;
+        } else {
+            columns += 1;
+        }
+    }
+    (lines, columns)
 }
 
 /// Returns the first place from `start` on at which a line ends.
