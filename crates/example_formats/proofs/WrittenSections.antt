@@ -4,8 +4,9 @@ use Rattle.std.specs.Prelude.{not, Contains, IsTrue}
 use Rattle.nom_internal.specs.Prelude.{ErrorKind, Slice, text_model}
 use Rattle.nom_error.specs.declared.kind.ErrorKind.TheVariants.{IsNot}
 use Rattle.nom_bytes.specs.ParsedRuns.{run1_meaning}
-use Rattle.nom.specs.Grammar.{sliced}
-use Rattle.nom.specs.Texts.{Text, TextGrammar, char_of, delimited_of, many0_of, map_of, opt_of, pair_of, plain_errors, separated_pair_of, terminated_of}
+use Rattle.nom.specs.grammars.Grammar.{sliced}
+use Rattle.nom.specs.grammars.Texts.{Text, TextGrammar, char_of, delimited_of, many0_of}
+use Rattle.nom.specs.grammars.Texts.{map_of, opt_of, pair_of, plain_errors, separated_pair_of, terminated_of}
 use Rattle.example_formats.specs.declared.ini.Section.{Section}
 use Rattle.example_formats.specs.Sections.{Parts, sections_of, value_of}
 

@@ -6,8 +6,8 @@ use Rattle.std.specs.List.{All}
 use Rattle.nom_error.specs.Errors.{Contexts}
 use Rattle.nom_internal.specs.Prelude.{Errors, Stops, Slice, text_model}
 use Rattle.nom_combinator.specs.Contexts.{context_of}
-use Rattle.nom.specs.Grammar.{Grammar, separated_pair_of}
-use Rattle.nom.specs.Leaves.{char_of, take_while1_of}
+use Rattle.nom.specs.grammars.Grammar.{Grammar, separated_pair_of}
+use Rattle.nom.specs.grammars.Leaves.{char_of, take_while1_of}
 
 -- a letter, a digit, or `_`
 abbrev pub in_name : ℕ → Bool

@@ -2,8 +2,8 @@
 use Rattle.std.specs.Prelude.{◌≡◌, ℕ, List, Option, Vec, codes}
 use Rattle.nom_internal.specs.Prelude.{Slice, text_model}
 use Rattle.nom_bytes.specs.ParsedRuns.{run_meaning}
-use Rattle.nom.specs.Grammar.{sliced}
-use Rattle.nom.specs.Texts.{Text, TextGrammar, char_of, delimited_of, is_not_of, many0_of, map_of, opt_of, pair_of, separated_pair_of, terminated_of}
+use Rattle.nom.specs.grammars.Grammar.{sliced}
+use Rattle.nom.specs.grammars.Texts.{Text, TextGrammar, char_of, delimited_of, is_not_of, many0_of, map_of, opt_of, pair_of, separated_pair_of, terminated_of}
 use Rattle.example_formats.specs.Named.{in_value}
 use Rattle.example_formats.specs.declared.ini.Section.{Section}
 

@@ -1,6 +1,6 @@
 //! Sections of settings, as INI files have them.
 ghost use Rattle.std.specs.Prelude.{◌≡◌, false};
-ghost use Rattle.nom.specs.Texts.{Parses};
+ghost use Rattle.nom.specs.grammars.Texts.{Parses};
 ghost use Rattle.example_formats.specs.Named.{in_value};
 ghost use Rattle.example_formats.specs.Sections.{sections_of};
 

@@ -1,7 +1,7 @@
 //! A name and its value, as `color=dark red`.
 ghost use Rattle.std.specs.Prelude.{◌≡◌, false, chars, IfOk};
 ghost use Rattle.nom_internal.specs.Prelude.{text_model};
-ghost use Rattle.nom.specs.Grammar.{Parses};
+ghost use Rattle.nom.specs.grammars.Grammar.{Parses};
 ghost use Rattle.example_formats.specs.Named.{IsNamed, in_name, in_value, line_of};
 
 use nom::bytes::take_while1;

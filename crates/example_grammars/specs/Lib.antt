@@ -1,3 +1,4 @@
 pub mod Brackets
 pub mod Codes
 pub mod Colors
+pub mod Field

@@ -6,6 +6,7 @@ mod bits;
 mod brackets;
 pub mod closures;
 mod configuration;
+pub mod field;
 pub mod grammars;
 mod hex;
 pub mod lengths;

@@ -3,7 +3,7 @@ use Rattle.std.proofs.Common.{◌≡◌, false, Err, refl}
 use Rattle.nom_internal.specs.Prelude.{Modes, Needed}
 use Rattle.nom_error.specs.declared.answer.Err as Answer
 use Rattle.nom_error.specs.declared.value.Error.{Error}
-use Rattle.nom.specs.Texts.{Text, TextGrammar, Parses, delimited_of, preceded_of, separated_pair_of}
+use Rattle.nom.specs.grammars.Texts.{Text, TextGrammar, Parses, delimited_of, preceded_of, separated_pair_of}
 use Rattle.example_json.proofs.Told.{Told, Taken, both_taken, first_stops, follows, next_stops}
 
 -- it never runs out of memory

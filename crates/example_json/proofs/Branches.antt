@@ -4,7 +4,7 @@ use Rattle.std.specs.Prelude.{IfOk}
 use Rattle.nom_internal.specs.Prelude.{Needed, input_len, text_model, Accept, Refuse, Stop, ParseRanOut, Parsed, Fails, Needs}
 use Rattle.nom_error.specs.declared.answer.Err as Answer
 use Rattle.nom_error.specs.declared.value.Error.{Error}
-use Rattle.nom.specs.Texts.{Text, TextGrammar, Parses, or_of}
+use Rattle.nom.specs.grammars.Texts.{Text, TextGrammar, Parses, or_of}
 use Rattle.example_json.specs.declared.tree.Json.{Json}
 use Rattle.example_json.specs.Json.{array_of, object_of, refuses, scalar_of, value_of}
 use Rattle.example_json.specs.Scalars.{deep_of, token_of}

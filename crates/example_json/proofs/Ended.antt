@@ -3,7 +3,7 @@ use Rattle.std.proofs.Common.{◌≡◌, false, Err}
 use Rattle.nom_internal.specs.Prelude.{Needed}
 use Rattle.nom_error.specs.declared.answer.Err as Answer
 use Rattle.nom_error.specs.declared.value.Error.{Error}
-use Rattle.nom.specs.Texts.{Text, TextGrammar, Parses, terminated_of}
+use Rattle.nom.specs.grammars.Texts.{Text, TextGrammar, Parses, terminated_of}
 use Rattle.example_json.specs.Json.{eof_of}
 use Rattle.example_json.proofs.Between.{TakenBy}
 use Rattle.example_json.proofs.Told.{Told, both_taken, first_stops, next_stops}

@@ -13,7 +13,7 @@ use Rattle.nom_repeat.specs.Repeat.{Turn, Reaches, Repeats, OnReply, TurnsBy}
 use Rattle.nom_repeat.specs.Repeat.Turn.{Ends}
 use Rattle.nom_repeat.proofs.Repeated.{Collected, collected_more, pieces_end}
 use Rattle.nom_repeat.proofs.Accumulating.{zip_push}
-use Rattle.nom.specs.Texts.{Text, TextGrammar, Parses}
+use Rattle.nom.specs.grammars.Texts.{Text, TextGrammar, Parses}
 use Rattle.example_json.specs.Json.{IsTaken, after_comma, item_at, list_of, list_turn, refuses}
 use Rattle.example_json.proofs.Told.{Told, taken, refused}
 

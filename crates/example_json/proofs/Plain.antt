@@ -21,8 +21,8 @@ use Rattle.nom_bytes_escaped.specs.declared.next_piece.NextPiece.{NextPiece}
 use Rattle.nom_bytes_escaped.specs.declared.next_piece.NextPiece.TheVariants.{Found, Done}
 use Rattle.nom_bytes_escaped.specs.Escapes.{escaped_transform_meaning}
 use Rattle.nom_bytes_escaped.specs.NextPieces.{next_piece_meaning}
-use Rattle.nom.specs.Grammar.{sliced}
-use Rattle.nom.specs.Texts.{Text, TextGrammar, Parses, plain_errors}
+use Rattle.nom.specs.grammars.Grammar.{sliced}
+use Rattle.nom.specs.grammars.Texts.{Text, TextGrammar, Parses, plain_errors}
 use Rattle.example_json.specs.Scalars.{Part, in_text, plain_by}
 use Rattle.example_json.specs.Strings.{EscapeTree, Means, decoded_of, meant_by, signs, unescaped_of}
 use Rattle.example_json.proofs.Told.{Told, Taken}

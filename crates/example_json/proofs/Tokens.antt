@@ -3,7 +3,7 @@ use Rattle.std.proofs.Common.{◌≡◌, ℕ, ◌+◌, ◌<◌, false, arith, sy
 use Rattle.nom_internal.specs.Prelude.{Modes, IsSuffixOf, input_len, text_model, text_lawful, Outcome, Accept, Refuse, Stop, after, GoesOn, RunsOutFirst}
 use Rattle.nom_internal.specs.Prelude.{RunsOutNext}
 use Rattle.nom_internal.proofs.Consumed.{rest_length}
-use Rattle.nom.specs.Texts.{Text, char_of}
+use Rattle.nom.specs.grammars.Texts.{Text, char_of}
 use Rattle.example_json.specs.Scalars.{Part, spaces_of, token_of}
 use Rattle.example_json.proofs.Told.{Taken}
 

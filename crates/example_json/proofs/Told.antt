@@ -6,7 +6,7 @@ use Rattle.nom_internal.specs.Prelude.{RunsOutFirst, RunsOutNext, RunsOutInPart}
 use Rattle.nom_error.specs.declared.answer.Err as Answer
 use Rattle.nom_error.specs.declared.value.Error.{Error}
 use Rattle.nom_internal.specs.Sequence.ThenBlames.{BlamesFirst, BlamesNext}
-use Rattle.nom.specs.Texts.{Text, TextGrammar, Parses, or_of}
+use Rattle.nom.specs.grammars.Texts.{Text, TextGrammar, Parses, or_of}
 use Rattle.example_json.specs.Json.{as_of, refuses}
 
 abbrev pub Told : Type 0 → Type 0

@@ -3,7 +3,7 @@ use Rattle.std.proofs.Common.{◌≡◌, ℕ, false, true, ◌⊎◌, List, Opti
 use Rattle.nom_internal.specs.Prelude.{Modes, with_outputs, OnRefused, labelled_meaning, RunsOutInPart, RunsOutBeside, Meaning, Outcome, Accept, Refuse, Stop}
 use Rattle.nom_internal.specs.Prelude.{RunsOutFirst, RunsOutNext}
 use Rattle.nom_error.specs.declared.value.Error.{Error}
-use Rattle.nom.specs.Texts.{Parses, Text, all_consuming_of, alt_of, char_of, digit1_of, opt_of, or_of, pair_of, tag_of}
+use Rattle.nom.specs.grammars.Texts.{Parses, Text, all_consuming_of, alt_of, char_of, digit1_of, opt_of, or_of, pair_of, tag_of}
 use Rattle.example_json.specs.Numbers.{whole_by}
 use Rattle.example_json.specs.Scalars.{Part}
 use Rattle.example_json.proofs.Between.{IsFrugal}

@@ -2,7 +2,7 @@
 use Rattle.std.proofs.Common.{◌≡◌, ℕ, List, codes, subst}
 use Rattle.nom_internal.specs.Prelude.{ErrorKind}
 use Rattle.nom_error.specs.declared.kind.ErrorKind.TheVariants.{OneOf, TakeWhile1}
-use Rattle.nom.specs.Texts.{Text, TextGrammar}
+use Rattle.nom.specs.grammars.Texts.{Text, TextGrammar}
 use Rattle.example_json.specs.declared.tree.Json.{Json}
 use Rattle.example_json.specs.Strings.{Signs, signs}
 use Rattle.example_json.specs.Scalars.{Part, WordTree, characters_by, characters_of, deep_by, deep_of, number_by, number_of, word_by, word_of}

@@ -7,8 +7,8 @@ use Rattle.nom_error.specs.declared.value.Error.{Error}
 use Rattle.nom_repeat.specs.Repeat.{Turn, Rule, repeat_meaning}
 use Rattle.nom_repeat.specs.Repeat.Turn.{Takes, Ends}
 use Rattle.nom_combinator.specs.Ends.{eof_meaning}
-use Rattle.nom.specs.Grammar.{sliced}
-use Rattle.nom.specs.Texts.{Text, TextGrammar, delimited_of, plain_errors, or_of, preceded_of, separated_pair_of, terminated_of}
+use Rattle.nom.specs.grammars.Grammar.{sliced}
+use Rattle.nom.specs.grammars.Texts.{Text, TextGrammar, delimited_of, plain_errors, or_of, preceded_of, separated_pair_of, terminated_of}
 use Rattle.example_json.specs.declared.tree.Json.{Json}
 use Rattle.example_json.specs.declared.tree.Json.TheVariants as Value
 use Rattle.example_json.specs.Scalars.{Part, WordTree, deep_of, number_of, spaces_of, text_of, token_of, word_of}

@@ -4,8 +4,8 @@ use Rattle.std.specs.Int.{w64}
 use Rattle.nom_internal.specs.Prelude.{text_model}
 use Rattle.nom_combinator.specs.Verdicts.{peek_meaning}
 use Rattle.nom_character_integer.specs.Integers.{signed_meaning}
-use Rattle.nom.specs.Grammar.{valued}
-use Rattle.nom.specs.Texts.{Text, TextGrammar, all_consuming_of, alt_of, char_of, digit1_of, plain_errors, opt_of, or_of, pair_of, preceded_of, tag_of}
+use Rattle.nom.specs.grammars.Grammar.{valued}
+use Rattle.nom.specs.grammars.Texts.{Text, TextGrammar, all_consuming_of, alt_of, char_of, digit1_of, plain_errors, opt_of, or_of, pair_of, preceded_of, tag_of}
 use Rattle.example_json.specs.Scalars.{Part}
 
 abbrev pub WholeTree : Type 0

@@ -11,9 +11,10 @@ use Rattle.nom_character_first.specs.FirstItem.{satisfy_meaning}
 use Rattle.nom_combinator.specs.Verdicts.{cut_meaning, opt_meaning, peek_meaning}
 use Rattle.nom_combinator.specs.Ends.{fail_meaning}
 use Rattle.nom_bytes_escaped.specs.Escapes.{escaped_meaning}
-use Rattle.nom.specs.Grammar.{sliced, valued}
-use Rattle.nom.specs.Texts.{Text, TextGrammar, alt_of, char_of, delimited_of, digit1_of, plain_errors, map_of, opt_of, or_of, pair_of, preceded_of, tag_of}
-use Rattle.nom.specs.Texts.{terminated_of}
+use Rattle.nom.specs.grammars.Grammar.{sliced, valued}
+use Rattle.nom.specs.grammars.Texts.{Text, TextGrammar, alt_of, char_of, delimited_of, digit1_of}
+use Rattle.nom.specs.grammars.Texts.{plain_errors, map_of, opt_of, or_of, pair_of, preceded_of, tag_of}
+use Rattle.nom.specs.grammars.Texts.{terminated_of}
 use Rattle.example_json.specs.declared.tree.Json.{Json}
 use Rattle.example_json.specs.declared.tree.Json.TheVariants as Value
 

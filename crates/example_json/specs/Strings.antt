@@ -13,7 +13,7 @@ use Rattle.nom_error.specs.declared.kind.ErrorKind.TheVariants as Kind
 use Rattle.nom_bytes_escaped.specs.declared.next_piece.Piece.{Piece}
 use Rattle.nom_bytes_escaped.specs.Escapes.{escaped_transform_meaning}
 use Rattle.nom_bytes_escaped.specs.Texts.{AddAll}
-use Rattle.nom.specs.Texts.{Text, TextGrammar, all_consuming_of, alt_of, char_of, plain_errors, map_of, or_of, pair_of, preceded_of, tag_of}
+use Rattle.nom.specs.grammars.Texts.{Text, TextGrammar, all_consuming_of, alt_of, char_of, plain_errors, map_of, or_of, pair_of, preceded_of, tag_of}
 use Rattle.example_json.specs.Scalars.{Part, hexes_by, in_text, one_by, plain_by}
 
 -- the character that a letter after a backslash stands for: `b`, `f`, `n`, `r`, `t`, and others for themselves

@@ -1,6 +1,6 @@
 //! Numbers as they are meant.
 ghost use Rattle.std.specs.Prelude.{false};
-ghost use Rattle.nom.specs.Texts.{Parses};
+ghost use Rattle.nom.specs.grammars.Texts.{Parses};
 ghost use Rattle.example_json.specs.Numbers.{integer_of};
 
 use crate::scalars::Answer;

@@ -2,7 +2,7 @@
 //! each is taken with it.
 ghost use Rattle.std.specs.Prelude.{◌≡◌, false};
 ghost use Rattle.std.specs.Char.{is_digit};
-ghost use Rattle.nom.specs.Texts.{Parses};
+ghost use Rattle.nom.specs.grammars.Texts.{Parses};
 ghost use Rattle.example_json.specs.Scalars.{characters_of, deep_of, in_text, number_of, spaces_of, text_of, token_of, word_of};
 
 use crate::tree::{Json, as_number, no, null, yes};

@@ -1,7 +1,7 @@
 //! Values, which hold values: functions that call each other, down to a depth.
 ghost use Rattle.std.specs.Prelude.{◌≡◌, ◌+◌, ◌<◌, false, IfOk};
 ghost use Rattle.nom_internal.specs.Prelude.{input_len, text_model};
-ghost use Rattle.nom.specs.Texts.{Parses};
+ghost use Rattle.nom.specs.grammars.Texts.{Parses};
 ghost use Rattle.example_json.specs.Json.{array_of, after_comma, json_of, json_text_of, list_of, member_of, object_of, refuses, scalar_of, value_of};
 
 use crate::scalars::{Answer, number, spaces, text, token, too_deep, word};

@@ -1,8 +1,8 @@
 -- Settings of a file.
 use Rattle.std.specs.Prelude.{codes, chars}
 use Rattle.nom_internal.specs.Prelude.{Errors, ComparesText, Slice}
-use Rattle.nom.specs.Grammar.{Grammar, separated_pair_of}
-use Rattle.nom.specs.Leaves.{is_not_of, tag_of}
+use Rattle.nom.specs.grammars.Grammar.{Grammar, separated_pair_of}
+use Rattle.nom.specs.grammars.Leaves.{is_not_of, tag_of}
 use Rattle.example_parts.specs.declared.source.Source.{Source}
 use Rattle.example_parts.specs.Sources.{source_model}
 

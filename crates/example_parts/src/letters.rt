@@ -4,6 +4,8 @@
 ghost use Rattle.std.specs.Prelude.{◌≡◌, ℕ, [], MatchOption};
 ghost use Rattle.nom_internal.specs.Prelude.{value_pinned, valued};
 ghost use Rattle.example_parts.specs.Letters.{BeginsWith, letter_lawful, letter_meaning, letter_steady};
+ghost use Rattle.std.proofs.Common.{refl};
+ghost use Rattle.nom_internal.specs.Word.{word};
 
 use nom::error::{ErrorKind, ParseError};
 use nom::{
@@ -45,6 +47,10 @@ impl<I: Input<Item = u8>, E: ParseError<I>> Parser<I> for Letter<I, E> {
     ghost Tree = { ℕ };
 
     ghost grammar = { λ _. valued (letter_meaning I.model E.errors) };
+
+    ghost word = { λ _. word (valued (letter_meaning I.model E.errors)) };
+
+    ghost worded = { λ _. refl };
 
     // A letter is its own tree.
 

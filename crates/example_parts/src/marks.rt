@@ -3,6 +3,7 @@
 ghost use Rattle.std.specs.Prelude.{◌≡◌};
 ghost use Rattle.nom_sequence.specs.Sequences.{preceded_of, terminated_of};
 ghost use Rattle.nom_sequence.specs.laws.SequenceLaws.{preceded_lawful, preceded_steady, terminated_lawful, terminated_steady};
+ghost use Rattle.nom_sequence.specs.Words as Words;
 
 use nom::{Check, Items, OutputM, OutputMode, PResult, Parser, StreamParser};
 
@@ -34,6 +35,10 @@ impl<I: Items, F: Parser<I> + Drop, G: Parser<I, Error = F::Error> + Drop> Parse
     ghost Tree = { G.Tree };
 
     ghost grammar = { λ s. preceded_of I.model (F.grammar s.0) (terminated_of I.model (G.grammar s.1) (F.grammar s.0)) };
+
+    ghost word = { λ s. Words.preceded_of I.model (F.word s.0) (Words.terminated_of I.model (G.word s.1) (F.word s.0)) };
+
+    ghost worded = { λ s. Words.preceded_worded I.model (F.worded s.0) (Words.terminated_worded I.model (G.worded s.1) (F.worded s.0)) };
 
     fn process<OM: OutputMode>(&mut self, input: I) -> PResult<I, Self::Output, Self::Error> {
         let (rest, _) = self

@@ -1,6 +1,6 @@
 //! A parser of it, with errors of any type.
 ghost use Rattle.std.specs.Prelude.{false};
-ghost use Rattle.nom.specs.Grammar.{Parses};
+ghost use Rattle.nom.specs.grammars.Grammar.{Parses};
 ghost use Rattle.example_parts.specs.Settings.{setting_of};
 ghost use Rattle.example_parts.specs.Sources.{source_model};
 

@@ -1,7 +1,8 @@
 -- What holds of the grammar of messages by its parts holds of the grammar.
 use Rattle.std.proofs.Common.{◌≡◌, ℕ, List, [], ◌∷◌, length, subst}
-use Rattle.nom.specs.Bytes.{BytesGrammar, Endianness, Big, all_consuming_of, alt_of, length_data_of, length_value_of, map_of, number_of, or_of, pair_of}
-use Rattle.nom.specs.Bytes.{preceded_of, tag_of}
+use Rattle.nom.specs.grammars.Bytes.{BytesGrammar, Endianness, Big, all_consuming_of, alt_of}
+use Rattle.nom.specs.grammars.Bytes.{length_data_of, length_value_of, map_of, number_of, or_of, pair_of}
+use Rattle.nom.specs.grammars.Bytes.{preceded_of, tag_of}
 use Rattle.example_streams.specs.Protocol.{Body}
 use Rattle.example_streams.specs.declared.messages.Received.{Received}
 use Rattle.example_streams.specs.declared.messages.Received.TheVariants.{Ping, Text, Close}

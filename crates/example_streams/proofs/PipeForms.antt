@@ -1,7 +1,7 @@
 -- A frame is what is written of it.
 use Rattle.std.specs.Prelude.{◌≡◌, ℕ, false, List, [], ◌∷◌, length, Vec, Option, refl}
 use Rattle.std.proofs.Common.{arith, subst}
-use Rattle.nom.specs.Bytes.{length_count_of, number_of}
+use Rattle.nom.specs.grammars.Bytes.{length_count_of, number_of}
 use Rattle.nom_internal.specs.Prelude.{itself, vec_view}
 use Rattle.nom_number.specs.Numbers.{binary_number}
 use Rattle.nom_number.specs.declared.order.Endianness.{Endianness}

@@ -6,8 +6,9 @@ use Rattle.nom_growing.specs.Growing.{AnswersOn, IsBeginning, IsGrown}
 use Rattle.nom_growing.specs.Growing.AnswersOn.{RanOutOn, ShownOn}
 use Rattle.nom_growing.specs.Growing.IsBeginning.{AtCut, AtEnd}
 use Rattle.nom_internal.specs.Promises.{HasNoFailure}
-use Rattle.nom.specs.Bytes.{Bytes, BytesGrammar, Endianness, Big, all_consuming_of, alt_of, length_data_of, length_value_of, many0_of, map_of, number_of}
-use Rattle.nom.specs.Bytes.{or_of, pair_of, preceded_of, tag_of, terminated_of}
+use Rattle.nom.specs.grammars.Bytes.{Bytes, BytesGrammar, Endianness, Big, all_consuming_of}
+use Rattle.nom.specs.grammars.Bytes.{alt_of, length_data_of, length_value_of, many0_of, map_of, number_of}
+use Rattle.nom.specs.grammars.Bytes.{or_of, pair_of, preceded_of, tag_of, terminated_of}
 use Rattle.example_streams.specs.declared.protocol.Message.{Message}
 use Rattle.example_streams.specs.declared.protocol.Message.TheVariants.{Ping, Text, Close}
 use Rattle.example_streams.specs.Protocol.{Body, messages_of}

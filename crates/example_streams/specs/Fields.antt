@@ -1,7 +1,7 @@
 -- A field.
 use Rattle.std.specs.Prelude.{ℕ, [], ◌∷◌, length}
 use Rattle.nom_internal.specs.Prelude.{bytes_model, Slice}
-use Rattle.nom.specs.Bytes.{BytesGrammar, is_not_of, map_of, preceded_of, tag_of}
+use Rattle.nom.specs.grammars.Bytes.{BytesGrammar, is_not_of, map_of, preceded_of, tag_of}
 
 -- a `;` and the bytes up to the next one, of which the length is told
 abbrev pub field_of : BytesGrammar (Slice bytes_model) ℕ

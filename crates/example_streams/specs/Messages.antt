@@ -1,7 +1,7 @@
 -- The messages of `protocol`, as they are received.
 use Rattle.std.specs.Prelude.{[], ◌∷◌, length}
-use Rattle.nom.specs.Bytes.{BytesGrammar, Big, all_consuming_of, alt_of, length_data_of, length_value_of, map_of, number_of, or_of}
-use Rattle.nom.specs.Bytes.{pair_of, preceded_of, tag_of}
+use Rattle.nom.specs.grammars.Bytes.{BytesGrammar, Big, all_consuming_of, alt_of, length_data_of, length_value_of, map_of, number_of, or_of}
+use Rattle.nom.specs.grammars.Bytes.{pair_of, preceded_of, tag_of}
 use Rattle.example_streams.specs.Protocol.{Body}
 use Rattle.example_streams.specs.declared.messages.Received.{Received}
 use Rattle.example_streams.specs.declared.messages.Received.TheVariants.{Ping, Text, Close}

@@ -1,7 +1,7 @@
 -- Frames.
 use Rattle.std.specs.Prelude.{◌≡◌, ℕ, ◌+◌, ◌*◌, List, ◌∷◌, length, Vec, Option}
 use Rattle.nom_internal.specs.Prelude.{itself, vec_view}
-use Rattle.nom.specs.Bytes.{BytesGrammar, Big, length_count_of, number_of}
+use Rattle.nom.specs.grammars.Bytes.{BytesGrammar, Big, length_count_of, number_of}
 use Rattle.nom_write_stream.specs.Pipes.{ItemsOfPipe}
 
 -- a length of two bytes, the highest first, and as many bytes

@@ -2,8 +2,8 @@
 use Rattle.std.specs.Prelude.{◌≡◌, ℕ, ◌⊎◌, true, List, [], ◌∷◌, Err, Vec}
 use Rattle.nom_internal.specs.Prelude.{IResult, OutOfMemory, bytes_model, Slice, Outcome, ParsesOutcome}
 use Rattle.nom_error.specs.declared.value.Error.{Error}
-use Rattle.nom.specs.Bytes.{Bytes, BytesGrammar, all_consuming_of, alt_of, length_data_of, length_value_of, many0_of, map_of, number_of, or_of}
-use Rattle.nom.specs.Bytes.{pair_of, preceded_of, tag_of, terminated_of, Big}
+use Rattle.nom.specs.grammars.Bytes.{Bytes, BytesGrammar, all_consuming_of, alt_of, length_data_of, length_value_of, many0_of, map_of, number_of, or_of}
+use Rattle.nom.specs.grammars.Bytes.{pair_of, preceded_of, tag_of, terminated_of, Big}
 use Rattle.example_streams.specs.declared.protocol.Message.{Message}
 use Rattle.example_streams.specs.declared.protocol.Message.TheVariants.{Ping, Text, Close}
 

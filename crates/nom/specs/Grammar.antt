@@ -1,54 +1,88 @@
--- Grammars, for the contracts of functions that parse. Each word is the grammar of the parser of its name, and the very one that its
--- implementation is proved to parse; those of leaves stand in `Leaves`, and all of them, at one input type, in `Bytes` and `Texts`.
-use Rattle.std.specs.Prelude.{◌≡◌, ℕ, Bool, List, Option, Vec}
-use Rattle.nom_internal.specs.Prelude.{IResult, Errors, Model, Slice, View, Grammar, map_by}
-use Rattle.nom_internal.specs.Judged.{map_opt_by}
-use Rattle.nom_combinator.specs.Outputs.{value_by, verify_by}
-use Rattle.nom_func.specs.Func.{AnswersBy}
-use Rattle.nom_multi_length.specs.Lengths as Lengths
-use Rattle.nom_multi_length.specs.Values as Values
-pub use Rattle.nom_internal.specs.Grammar.{Grammar, Parses, Shows, sliced, valued}
-pub use Rattle.nom_internal.specs.Sequence.{pair_of}
-pub use Rattle.nom_sequence.specs.Sequences.{delimited_of, preceded_of, separated_pair_of, terminated_of}
-pub use Rattle.nom_branch.specs.Alternatives.{alt_of, or_of}
-pub use Rattle.nom_combinator.specs.Verdicts.{complete_of, consumed_of, cut_of, not_of, opt_of, peek_of, recognize_of}
-pub use Rattle.nom_combinator.specs.Ends.{all_consuming_of}
-pub use Rattle.nom_multi.specs.Many.{many0_of, many1_of}
-pub use Rattle.nom_multi.specs.Bounded.{count_of, many_m_n_of}
-pub use Rattle.nom_multi.specs.Till.{many_till_of}
-pub use Rattle.nom_multi.specs.Separated.{separated_list0_of, separated_list1_of}
-pub use Rattle.nom_multi_fold.specs.Counts.{many0_count_of, many1_count_of, many_m_n_count_of}
+-- The words of grammars, for the contracts of functions that parse. Each is named as its parser, and is the grammar that its
+-- implementation is proved to parse. A contract `Parses word streaming input result` needs no proof of its own. Those of leaves stand in
+-- `Leaves`, and all, at one type of input, in `Bytes` and `Texts`. What a word means is in the module `grammars`.
+use Rattle.std.specs.Prelude.{◌≡◌, ℕ, Bool, false, List, Option, Vec}
+use Rattle.nom_internal.specs.Prelude.{Errors, Model, View}
+use Rattle.nom_internal.specs.Words as Internal
+use Rattle.nom_combinator.specs.Words as Combinator
+use Rattle.nom_multi_length.specs.Words as Length
+pub use Rattle.nom_internal.specs.Word.{Answers, Word, Words, answers_by, answers_same, keyed, parses_by, word}
+pub use Rattle.nom_internal.specs.Words.{and_then_of, either_of, fixed_of, flat_map_of, into_of, map_res_of, pair_of, tuple_of}
+pub use Rattle.nom_func.specs.Words.{called, called_with, given_of, stream_called, stream_called_with, stream_given_of}
+pub use Rattle.nom_sequence.specs.Words.{delimited_of, preceded_of, separated_pair_of, terminated_of}
+pub use Rattle.nom_branch.specs.Words.{alt_of, list_of, or_of}
+pub use Rattle.nom_permutation.specs.Words.{permutation_of_eight, permutation_of_five, permutation_of_four, permutation_of_seven, permutation_of_six}
+pub use Rattle.nom_permutation.specs.Words.{permutation_of_three, permutation_of_two}
+pub use Rattle.nom_combinator.specs.Words.{all_consuming_of, complete_of, cond_of, consumed_of, context_of, cut_of, fail_of, not_of, opt_of, peek_of}
+pub use Rattle.nom_combinator.specs.Words.{recognize_of}
+pub use Rattle.nom_bytes_escaped.specs.Words.{escaped_of}
+pub use Rattle.nom_multi.specs.Words.{count_of, fill_of, many0_of, many1_of, many_m_n_of, many_till_of, separated_list0_of, separated_list1_of}
+pub use Rattle.nom_multi_fold.specs.Words.{fold_many0_of, fold_many1_of, fold_many_m_n_of, fold_of, many0_count_of, many1_count_of, many_m_n_count_of, many_of}
+pub use Rattle.nom_alloc.specs.Words.{fold_many0_alloc_of, fold_many1_alloc_of, map_alloc_of, value_alloc_of}
 
--- what a function that others take as a part by `func` answers by the grammar, with what its outputs are compared by
-abbrev pub AnswersAsPart : {I A V O E : Type 0} → Model I A → View O → Grammar I V O E → Bool → I → IResult I O E → Type 0
-AnswersAsPart w view g streaming i r = AnswersBy w view g.IsOutput g.meaning streaming i r
+-- a part that is a function which answers by a word as `parse_complete` does
+abbrev pub called_complete : {I A O E : Type 0} → Model I A → Errors I E → View O → Word I O E → Word I O E
+called_complete w errs view h = given_of w errs view (λ _. Unit {0}) (Answers w h false)
 
--- what a function gives for each output
-abbrev pub map_of : {I V O P E : Type 0} → (O → P) → Grammar I V O E → Grammar I V P E
-map_of f = map_by (λ _. Unit {0}) (λ o p. p ≡ f o)
+-- what a function returns for each output
+abbrev pub map_of : {I O P E : Type 0} → (O → P) → Word I O E → Word I P E
+map_of f = Internal.map_of (λ _. Unit {0}) (λ o p. p ≡ f o)
+
+-- what a function of this contract returns for each output
+abbrev pub map_by : {I O P E : Type 0} → (O → Type 0) → (O → P → Type 0) → Word I O E → Word I P E
+map_by = Internal.map_of
 
 module _ {I E : Type 0} (errs : Errors I E) where
-  -- those of the outputs that pass a test
-  abbrev pub verify_of : {V O : Type 0} → (O → Bool) → Grammar I V O E → Grammar I V O E
-  verify_of test = verify_by errs (λ _. Unit {0}) (λ o b. b ≡ test o)
+  -- what a function returns for each output, and a refusal where it returns `None`
+  abbrev pub map_opt_of : {O P : Type 0} → (O → Option P) → Word I O E → Word I P E
+  map_opt_of f = Internal.map_opt_of errs (λ _. Unit {0}) (λ o p. p ≡ f o)
 
-  -- what a function gives for each output, and a refusal where it gives none
-  abbrev pub map_opt_of : {V O P : Type 0} → (O → Option P) → Grammar I V O E → Grammar I V P E
-  map_opt_of f = map_opt_by errs (λ _. Unit {0}) (λ o p. p ≡ f o)
+  -- those of the outputs that pass a test
+  abbrev pub verify_of : {O : Type 0} → (O → Bool) → Word I O E → Word I O E
+  verify_of test = Combinator.verify_of errs (λ _. Unit {0}) (λ o b. b ≡ test o)
 
 -- a value that is copied, as a number, in the place of each output
-abbrev pub value_of : {I V O P E : Type 0} → P → Grammar I V O E → Grammar I P P E
-value_of v = value_by v (Unit {0}) (λ o. o ≡ v)
+abbrev pub value_of : {I O P E : Type 0} → P → Word I O E → Word I P E
+value_of v = Combinator.value_of (λ a b. b ≡ a) v (Unit {0})
 
 module _ {I A E : Type 0} (w : Model I A) (errs : Errors I E) where
   -- a length, and that many items; `lack` is what is needed where there are fewer
-  abbrev pub length_data_of : {V : Type 0} → (lack : ℕ → List A → Option ℕ) → Grammar I V ℕ E → Grammar I (V × Slice w) I E
-  length_data_of lack = Lengths.length_data_of w errs lack (λ n. n)
+  abbrev pub length_data_of : (lack : ℕ → List A → Option ℕ) → Word I ℕ E → Word I I E
+  length_data_of lack = Length.length_data_of w errs lack (λ n. n)
 
-  -- a length, and a grammar on exactly that much
-  abbrev pub length_value_of : {V U O : Type 0} → Grammar I V ℕ E → Grammar I U O E → Grammar I U O E
-  length_value_of = Values.length_value_of w errs (λ n. n)
+  -- a length, and a word on exactly that much
+  abbrev pub length_value_of : {O : Type 0} → Word I ℕ E → Word I O E → Word I O E
+  length_value_of = Length.length_value_of w errs (λ n. n)
 
-  -- a length, and that many outputs of another grammar
-  abbrev pub length_count_of : {V U P M : Type 0} → Grammar I V ℕ E → Grammar I U P E → Grammar I (List U) (Vec P M) E
-  length_count_of = Lengths.length_count_of w errs (λ n. n)
+  -- a length, and that many outputs of another word
+  abbrev pub length_count_of : {P M : Type 0} → Word I ℕ E → Word I P E → Word I (Vec P M) E
+  length_count_of = Length.length_count_of w errs (λ n. n)
+
+-- several parsers in turn, as a tuple of them
+module _ {I T E : Type 0} (w : Model I T) where
+  abbrev pub tuple_of_two : {A B : Type 0} → Word I A E → Word I B E → Word I (A × B) E
+  tuple_of_two a b = tuple_of (λ o. (o.0, o.1)) (pair_of w a b)
+
+  abbrev pub tuple_of_three : {A B C : Type 0} → Word I A E → Word I B E → Word I C E → Word I (A × B × C) E
+  tuple_of_three a b c = tuple_of (λ o. ((o.0, o.1), o.2)) (pair_of w (pair_of w a b) c)
+
+  abbrev pub tuple_of_four : {A B C D : Type 0} → Word I A E → Word I B E → Word I C E → Word I D E → Word I (A × B × C × D) E
+  tuple_of_four a b c d = tuple_of (λ o. (((o.0, o.1), o.2), o.3)) (pair_of w (pair_of w (pair_of w a b) c) d)
+
+  abbrev pub tuple_of_five : {A B C D F : Type 0} → Word I A E → Word I B E → Word I C E → Word I D E → Word I F E → Word I (A × B × C × D × F) E
+  tuple_of_five a b c d f = tuple_of (λ o. ((((o.0, o.1), o.2), o.3), o.4)) (pair_of w (pair_of w (pair_of w (pair_of w a b) c) d) f)
+
+  abbrev pub tuple_of_six : {A B C D F G : Type 0} → Word I A E → Word I B E → Word I C E → Word I D E → Word I F E → Word I G E →
+      Word I (A × B × C × D × F × G) E
+  tuple_of_six a b c d f g = tuple_of (λ o. (((((o.0, o.1), o.2), o.3), o.4), o.5))
+      (pair_of w (pair_of w (pair_of w (pair_of w (pair_of w a b) c) d) f) g)
+
+  abbrev pub tuple_of_seven : {A B C D F G H : Type 0} → Word I A E → Word I B E → Word I C E → Word I D E → Word I F E → Word I G E → Word I H E →
+      Word I (A × B × C × D × F × G × H) E
+  tuple_of_seven a b c d f g h = tuple_of (λ o. ((((((o.0, o.1), o.2), o.3), o.4), o.5), o.6))
+      (pair_of w (pair_of w (pair_of w (pair_of w (pair_of w (pair_of w a b) c) d) f) g) h)
+
+  abbrev pub tuple_of_eight : {A B C D F G H J : Type 0} → Word I A E → Word I B E → Word I C E → Word I D E → Word I F E → Word I G E → Word I H E →
+      Word I J E → Word I (A × B × C × D × F × G × H × J) E
+  tuple_of_eight a b c d f g h j = tuple_of (λ o. (((((((o.0, o.1), o.2), o.3), o.4), o.5), o.6), o.7))
+      (pair_of w (pair_of w (pair_of w (pair_of w (pair_of w (pair_of w (pair_of w a b) c) d) f) g) h) j)

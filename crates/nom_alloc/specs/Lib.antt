@@ -2,3 +2,4 @@ pub mod FoldAlloc
 pub mod MapAlloc
 pub mod ValueAlloc
 pub mod laws
+pub mod Words

@@ -6,6 +6,7 @@ ghost use Rattle.nom_repeat.specs.Bounds.{any_limits, one_limits};
 ghost use Rattle.nom_repeat.specs.declared.items.TooFew.TheVariants.{Fresh};
 ghost use Rattle.nom_multi_fold.specs.Folds.{Folds, AreCallable, FoldsAlike};
 ghost use Rattle.nom_alloc.specs.FoldAlloc.{FoldsItem, IsValue, Starts, folded_meaning, fold_many0_alloc_by, fold_many1_alloc_by};
+ghost use Rattle.nom_alloc.specs.Words as Words;
 
 use nom_error::answer::{Err, OutOfMemory, PResult};
 use nom_error::kind::ErrorKind;
@@ -158,6 +159,10 @@ impl<
 
     ghost grammar = { λ s. fold_many0_alloc_by I.model F.Error.errors (AreCallable (H.pre s.1) (G.pre s.2)) (H.post s.1) (G.post s.2) (F.grammar s.0) };
 
+    ghost word = { λ s. Words.fold_many0_alloc_of I.model F.Error.errors (H.pre s.1) (G.pre s.2) (H.post s.1) (G.post s.2) (F.word s.0) };
+
+    ghost worded = { λ s. Words.fold_many0_alloc_worded I.model F.Error.errors (H.pre s.1) (G.pre s.2) (H.post s.1) (G.post s.2) (F.worded s.0) };
+
     #[inline]
     fn process<OM: OutputMode>(&mut self, input: I) -> PResult<I, R, F::Error> {
         let first = start::<OM::Output, R, F::Error, H>(&self.init)?;
@@ -212,6 +217,10 @@ impl<
     ghost Tree = { List F.Tree };
 
     ghost grammar = { λ s. fold_many1_alloc_by I.model F.Error.errors (AreCallable (H.pre s.1) (G.pre s.2)) (H.post s.1) (G.post s.2) (F.grammar s.0) };
+
+    ghost word = { λ s. Words.fold_many1_alloc_of I.model F.Error.errors (H.pre s.1) (G.pre s.2) (H.post s.1) (G.post s.2) (F.word s.0) };
+
+    ghost worded = { λ s. Words.fold_many1_alloc_worded I.model F.Error.errors (H.pre s.1) (G.pre s.2) (H.post s.1) (G.post s.2) (F.worded s.0) };
 
     #[inline]
     fn process<OM: OutputMode>(&mut self, input: I) -> PResult<I, R, F::Error> {

@@ -4,6 +4,7 @@ ghost use Rattle.nom_internal.specs.Prelude.{JudgedBesides};
 ghost use Rattle.nom_alloc.specs.ValueAlloc.{MakesAlike, value_alloc_by};
 ghost use Rattle.nom_alloc.specs.laws.MapAllocLaws.{map_alloc_lawful, map_alloc_steady};
 ghost use Rattle.nom_alloc.specs.laws.ValueAllocLaws.{made_pinned};
+ghost use Rattle.nom_alloc.specs.Words as Words;
 
 use nom_error::answer::{Err, OutOfMemory, PResult};
 use nom_error::mode::OutputMode;
@@ -33,6 +34,10 @@ impl<I: Items, O: Drop, G: Fn() -> Result<O, OutOfMemory>, F: Parser<I> + Drop> 
     ghost Tree = { F.Tree };
 
     ghost grammar = { λ s. value_alloc_by (G.pre s.0) (G.post s.0) (F.grammar s.1) };
+
+    ghost word = { λ s. Words.value_alloc_of (G.pre s.0) (G.post s.0) (F.word s.1) };
+
+    ghost worded = { λ s. Words.value_alloc_worded (G.pre s.0) (G.post s.0) (F.worded s.1) };
 
     ghost Besides = { λ mode old new i. JudgedBesides (F.Besides mode old.parser new.parser i) };
 

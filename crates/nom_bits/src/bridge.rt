@@ -4,6 +4,7 @@ ghost use Rattle.nom_internal.specs.Prelude.{size_of, bits_model, with_streaming
 ghost use Rattle.nom_bits.specs.BitRests.{bits_ahead};
 ghost use Rattle.nom_bits.specs.Bridges.{bytes_needed, InBytes, InBits, IsNeed, IsTooLargeAt, BitsBesides, BytesBesides, bits_of, bytes_of};
 ghost use Rattle.nom_bits.specs.laws.BridgeLaws.{bits_of_lawful, bits_of_steady, bytes_of_lawful, bytes_of_steady};
+ghost use Rattle.nom_bits.specs.Words as Words;
 
 use crate::convert::ErrorConvert;
 use crate::field::skipped;
@@ -130,6 +131,10 @@ where
 
     ghost grammar = { λ s. bits_of I.model P.Error.converts (P.grammar s) };
 
+    ghost word = { λ s. Words.bits_of I.model P.Error.converts (P.word s) };
+
+    ghost worded = { λ s. Words.bits_worded I.model P.Error.converts (P.worded s) };
+
     ghost Besides = { λ mode old new i. BitsBesides I.model (P.Besides (with_streaming true mode) old.parser new.parser (i, 0)) };
 
     #[inline(always)]
@@ -188,6 +193,10 @@ where
     ghost Besides = { λ mode old new. BytesBesides I.model (P.Besides (with_streaming true mode) old.parser new.parser) };
 
     ghost grammar = { λ s. bytes_of I.model E.errors P.Error.converts (P.grammar s) };
+
+    ghost word = { λ s. Words.bytes_of I.model E.errors P.Error.converts (P.word s) };
+
+    ghost worded = { λ s. Words.bytes_worded I.model E.errors P.Error.converts (P.worded s) };
 
     #[inline(always)]
     fn process<OM: OutputMode>(&mut self, input: (I, usize)) -> PResult<(I, usize), P::Output, E> {

@@ -6,6 +6,7 @@ ghost use Rattle.nom_internal.specs.Prelude.{modes, bits_model, ShowsMeaning, va
 ghost use Rattle.nom_bits.specs.BitRests.{StandsAfter};
 ghost use Rattle.nom_bits.specs.Fields.{take_meaning, tag_meaning, bool_meaning};
 ghost use Rattle.nom_bits.specs.laws.FieldLaws.{take_lawful, take_steady, tag_lawful, tag_steady, bool_lawful, bool_steady};
+ghost use Rattle.nom_bits.specs.Words as Words;
 
 use crate::field::{next_field, spelling};
 use crate::number::{BitUint, number_built};
@@ -44,6 +45,10 @@ impl<I: Input<Item = u8>, O: BitUint, E: ParseError<(I, usize)>> Parser<(I, usiz
       meaning = take_meaning I.model E.errors O.WIDTH count;
       IsOutput = λ t v. v ≡ O.of_bits t;
     } };
+
+    ghost word = { λ count. Words.take_of I.model E.errors O.WIDTH O.of_bits count };
+
+    ghost worded = { λ count. Words.take_worded I.model E.errors O.WIDTH O.of_bits count };
 
     #[inline(always)]
     fn process<OM: OutputMode>(&mut self, input: (I, usize)) -> PResult<(I, usize), O, E>
@@ -105,6 +110,10 @@ impl<I: Input<Item = u8>, O: BitUint, E: ParseError<(I, usize)>> Parser<(I, usiz
       IsOutput = λ t v. v ≡ O.of_bits t;
     } };
 
+    ghost word = { λ s. Words.tag_of I.model E.errors O.WIDTH O.of_bits s.0 s.1 };
+
+    ghost worded = { λ s. Words.tag_worded I.model E.errors O.WIDTH O.of_bits s.0 s.1 };
+
     #[inline(always)]
     fn process<OM: OutputMode>(&mut self, input: (I, usize)) -> PResult<(I, usize), O, E>
         requires runs { (tag_meaning I.model E.errors O.WIDTH self.old.pattern self.old.count).Runs }
@@ -161,6 +170,10 @@ impl<I: Input<Item = u8>, E: ParseError<(I, usize)>> Parser<(I, usize)> for Bool
     ghost Besides = { λ _ _ _ i. OfRest (StandsAfter I.model i 1) };
 
     ghost grammar = { λ _. valued (bool_meaning I.model E.errors) };
+
+    ghost word = { λ _. Words.bool_of I.model E.errors };
+
+    ghost worded = { λ _. Words.bool_worded I.model E.errors };
 
     #[inline(always)]
     fn process<OM: OutputMode>(&mut self, input: (I, usize)) -> PResult<(I, usize), bool, E>

@@ -27,6 +27,10 @@ impl<I: Items, A: Parser<I>> Parser<I> for Choice<(A,)> {
 
     ghost grammar = { A.grammar };
 
+    ghost word = { A.word };
+
+    ghost worded = { A.worded };
+
     ghost Besides = { λ mode old new. A.Besides mode old.parsers.0 new.parsers.0 };
 
     #[inline(always)]

@@ -1,6 +1,8 @@
 //! Choices among parsers of one type, in an array or a slice.
 ghost use Rattle.std.specs.Prelude.{ℕ, List, map};
 ghost use Rattle.nom_branch.specs.Lists.{Each, list_of};
+ghost use Rattle.nom_internal.specs.Word.{keyed};
+ghost use Rattle.nom_branch.specs.Words as Words;
 
 use crate::choice::Choice;
 use crate::choose::choose;
@@ -24,6 +26,10 @@ impl<I: Items, A: Parser<I>> Parser<I> for Choice<&mut [A]> {
     ghost Tree = { ℕ × A.Tree };
 
     ghost grammar = { list_of A.Error.errors A.grammar };
+
+    ghost word = { λ s. Words.list_of A.Error.errors (keyed A.grammar) s };
+
+    ghost worded = { λ s. Words.list_worded A.Error.errors (keyed A.grammar) s };
 
     #[inline(always)]
     fn process<OM: OutputMode>(&mut self, input: I) -> PResult<I, Self::Output, Self::Error> {
@@ -58,6 +64,10 @@ impl<I: Items, A: Parser<I>, const N: usize> Parser<I> for Choice<[A; N]> {
     ghost Tree = { ℕ × A.Tree };
 
     ghost grammar = { list_of A.Error.errors A.grammar };
+
+    ghost word = { λ s. Words.list_of A.Error.errors (keyed A.grammar) s };
+
+    ghost worded = { λ s. Words.list_worded A.Error.errors (keyed A.grammar) s };
 
     #[inline(always)]
     fn process<OM: OutputMode>(&mut self, input: I) -> PResult<I, Self::Output, Self::Error> {

@@ -5,6 +5,7 @@
 ghost use Rattle.std.specs.Prelude.{◌⊎◌};
 ghost use Rattle.nom_branch.specs.Alternatives.{alt_of, or_of};
 ghost use Rattle.nom_internal.specs.Prelude.{OrBesides};
+ghost use Rattle.nom_branch.specs.Words as Words;
 
 use crate::choice::Choice;
 use nom_error::answer::PResult;
@@ -30,6 +31,10 @@ impl<I: Items, A: Parser<I>, B: Parser<I, Error = A::Error, Output = A::Output>>
     ghost Tree = { A.Tree ⊎ B.Tree };
 
     ghost grammar = { λ s. alt_of A.Error.errors (or_of A.Error.errors (A.grammar s.0) (B.grammar s.1)) };
+
+    ghost word = { λ s. Words.alt_of A.Error.errors (Words.or_of A.Error.errors (A.word s.0) (B.word s.1)) };
+
+    ghost worded = { λ s. Words.alt_worded A.Error.errors (Words.or_worded A.Error.errors (A.worded s.0) (B.worded s.1)) };
 
     ghost Besides = { λ mode old new i. OrBesides (A.Besides mode old.parsers.0 new.parsers.0 i) (B.Besides mode old.parsers.1 new.parsers.1 i) };
 
@@ -78,6 +83,11 @@ impl<
     ghost Tree = { (A.Tree ⊎ B.Tree) ⊎ C.Tree };
 
     ghost grammar = { λ s. alt_of A.Error.errors (or_of A.Error.errors (or_of A.Error.errors (A.grammar s.0) (B.grammar s.1)) (C.grammar s.2)) };
+
+    ghost word = { λ s. Words.alt_of A.Error.errors (Words.or_of A.Error.errors (Words.or_of A.Error.errors (A.word s.0) (B.word s.1)) (C.word s.2)) };
+
+    ghost worded = { λ s. Words.alt_worded A.Error.errors (Words.or_worded A.Error.errors (Words.or_worded A.Error.errors (A.worded s.0)
+        (B.worded s.1)) (C.worded s.2)) };
 
     ghost Besides = { λ mode old new i. OrBesides (OrBesides (A.Besides mode old.parsers.0 new.parsers.0 i)
         (B.Besides mode old.parsers.1 new.parsers.1 i)) (C.Besides mode old.parsers.2 new.parsers.2 i) };
@@ -134,6 +144,12 @@ impl<
 
     ghost grammar = { λ s. alt_of A.Error.errors (or_of A.Error.errors (or_of A.Error.errors (or_of A.Error.errors (A.grammar s.0) (B.grammar s.1))
         (C.grammar s.2)) (D.grammar s.3)) };
+
+    ghost word = { λ s. Words.alt_of A.Error.errors (Words.or_of A.Error.errors (Words.or_of A.Error.errors (Words.or_of A.Error.errors (A.word s.0)
+        (B.word s.1)) (C.word s.2)) (D.word s.3)) };
+
+    ghost worded = { λ s. Words.alt_worded A.Error.errors (Words.or_worded A.Error.errors (Words.or_worded A.Error.errors
+        (Words.or_worded A.Error.errors (A.worded s.0) (B.worded s.1)) (C.worded s.2)) (D.worded s.3)) };
 
     ghost Besides = { λ mode old new i. OrBesides (OrBesides (OrBesides (A.Besides mode old.parsers.0 new.parsers.0 i)
         (B.Besides mode old.parsers.1 new.parsers.1 i)) (C.Besides mode old.parsers.2 new.parsers.2 i)) (D.Besides mode old.parsers.3 new.parsers.3 i) };
@@ -193,6 +209,12 @@ impl<
 
     ghost grammar = { λ s. alt_of A.Error.errors (or_of A.Error.errors (or_of A.Error.errors (or_of A.Error.errors (or_of A.Error.errors
         (A.grammar s.0) (B.grammar s.1)) (C.grammar s.2)) (D.grammar s.3)) (E.grammar s.4)) };
+
+    ghost word = { λ s. Words.alt_of A.Error.errors (Words.or_of A.Error.errors (Words.or_of A.Error.errors (Words.or_of A.Error.errors
+        (Words.or_of A.Error.errors (A.word s.0) (B.word s.1)) (C.word s.2)) (D.word s.3)) (E.word s.4)) };
+
+    ghost worded = { λ s. Words.alt_worded A.Error.errors (Words.or_worded A.Error.errors (Words.or_worded A.Error.errors
+        (Words.or_worded A.Error.errors (Words.or_worded A.Error.errors (A.worded s.0) (B.worded s.1)) (C.worded s.2)) (D.worded s.3)) (E.worded s.4)) };
 
     ghost Besides = { λ mode old new i. OrBesides (OrBesides (OrBesides (OrBesides (A.Besides mode old.parsers.0 new.parsers.0 i)
         (B.Besides mode old.parsers.1 new.parsers.1 i)) (C.Besides mode old.parsers.2 new.parsers.2 i))

@@ -3,5 +3,7 @@ pub mod Predicates
 pub mod Stays
 pub mod Tags
 pub mod Takes
+pub mod Tests
 pub mod Untils
+pub mod Words
 pub mod laws

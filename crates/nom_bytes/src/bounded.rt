@@ -4,6 +4,7 @@ ghost use Rattle.nom_error.specs.declared.kind.ErrorKind.TheVariants as Kind;
 ghost use Rattle.nom_internal.specs.Prelude.{Slice, slice_pinned, sliced, premised, premised_lawful, premised_steady};
 ghost use Rattle.nom_bytes.specs.ParsedRuns.{Reaches, bounded_meaning};
 ghost use Rattle.nom_bytes.specs.laws.RunLaws.{run_lawful, run_steady};
+ghost use Rattle.nom_bytes.specs.Words as Words;
 
 use crate::predicate::{Predicate, Where};
 use nom_error::answer::{Err, Needed, PResult};
@@ -68,6 +69,10 @@ impl<I: Input, P: Predicate<I::Item>, E: ParseError<I>> Parser<I> for TakeWhileM
     ghost Tree = { Slice I.model };
 
     ghost grammar = { λ s. sliced I.model (premised (P.Runs s.0) (P.IsSound s.0) (bounded_meaning I.model (P.answers s.0) E.errors s.1 s.2)) };
+
+    ghost word = { λ s. Words.bounded_of I.model E.errors s.1 s.2 (P.word s.0) };
+
+    ghost worded = { λ s. Words.bounded_worded I.model E.errors s.1 s.2 (P.worded s.0) };
 
     #[inline(always)]
     fn process<OM: OutputMode>(&mut self, input: I) -> PResult<I, I, E> {

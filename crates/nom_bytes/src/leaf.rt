@@ -5,6 +5,7 @@ ghost use Rattle.nom_bytes.specs.Takes.{take_meaning};
 ghost use Rattle.nom_bytes.specs.laws.TakeLaws.{take_lawful, take_steady};
 ghost use Rattle.nom_bytes.specs.Tags.{tag_meaning};
 ghost use Rattle.nom_bytes.specs.laws.TagLaws.{tag_lawful, tag_steady};
+ghost use Rattle.nom_bytes.specs.Words as Words;
 
 use nom_error::answer::{Err, Needed, PResult};
 use nom_error::kind::ErrorKind;
@@ -35,6 +36,10 @@ impl<I: Input, E: ParseError<I>> Parser<I> for Take<I, E> {
     ghost Tree = { Slice I.model };
 
     ghost grammar = { λ count. sliced I.model (take_meaning I.model E.errors I.lack count) };
+
+    ghost word = { λ count. Words.take_of I.model E.errors I.lack count };
+
+    ghost worded = { λ count. Words.take_worded I.model E.errors I.lack count };
 
     #[inline(always)]
     fn process<OM: OutputMode>(&mut self, input: I) -> PResult<I, I, E> {
@@ -76,6 +81,10 @@ impl<T: Copy, I: Input + Compare<T>, E: ParseError<I>> Parser<I> for Tag<T, I, E
     ghost Tree = { Slice I.model };
 
     ghost grammar = { λ tag. sliced I.model (tag_meaning I.model E.errors I.tag_size I.compares tag) };
+
+    ghost word = { λ tag. Words.tag_of I.model E.errors I.tag_size I.compares tag };
+
+    ghost worded = { λ tag. Words.tag_worded I.model E.errors I.tag_size I.compares tag };
 
     #[inline(always)]
     fn process<OM: OutputMode>(&mut self, input: I) -> PResult<I, I, E> {

@@ -2,6 +2,7 @@
 ghost use Rattle.nom_internal.specs.Prelude.{Slice, slice_pinned, sliced};
 ghost use Rattle.nom_bytes.specs.Tags.{tag_meaning};
 ghost use Rattle.nom_bytes.specs.laws.TagLaws.{tag_lawful, tag_steady};
+ghost use Rattle.nom_bytes.specs.Words as Words;
 
 use nom_error::answer::{Err, Needed, PResult};
 use nom_error::kind::ErrorKind;
@@ -33,6 +34,10 @@ impl<T: Copy, I: Input + Compare<T>, E: ParseError<I>> Parser<I> for TagNoCase<T
     ghost Tree = { Slice I.model };
 
     ghost grammar = { λ tag. sliced I.model (tag_meaning I.model E.errors I.tag_size I.compares_no_case tag) };
+
+    ghost word = { λ tag. Words.tag_of I.model E.errors I.tag_size I.compares_no_case tag };
+
+    ghost worded = { λ tag. Words.tag_worded I.model E.errors I.tag_size I.compares_no_case tag };
 
     #[inline(always)]
     fn process<OM: OutputMode>(&mut self, input: I) -> PResult<I, I, E> {

@@ -1,7 +1,9 @@
 //! Tests for the items of a run.
-ghost use Rattle.std.specs.Prelude.{◌↔◌, IsTrue, Bool, true, false, not};
+ghost use Rattle.std.specs.Prelude.{◌≡◌, ◌↔◌, IsTrue, Bool, true, false, not};
 ghost use Rattle.nom_traits.specs.Runs.{IsPosition};
 ghost use Rattle.nom_bytes.specs.Predicates.{IsFixed, one_answer};
+ghost use Rattle.nom_bytes.specs.Tests as Tests;
+ghost use Rattle.nom_bytes.specs.Tests.{Test};
 
 use nom_search::token::FindToken;
 use nom_traits::character::CodeSet;
@@ -22,6 +24,11 @@ pub trait Predicate<T: Value> {
 
     /// The premise of the test's laws: it answers no item both true and false.
     ghost IsSound: { State → Type 0 };
+
+    /// The test by a closed name, for the word of a parser that asks it.
+    ghost word: { State → Test T };
+
+    ghost worded: { (s : State) → word s ≡ record { answers = answers s; Runs = Runs s; IsSound = IsSound s } };
 
     /// Returns whether the item meets the test.
     fn meets(&self, item: T) -> bool
@@ -62,6 +69,10 @@ impl<T: Value, F: Fn(T) -> bool> Predicate<T> for Where<F> {
 
     ghost IsSound = { λ f. IsFixed T.IsValue (F.post f) };
 
+    ghost word = { λ f. Tests.passing T.IsValue (F.pre f) (F.post f) };
+
+    ghost worded = { λ f. Tests.passing_worded T.IsValue (F.pre f) (F.post f) };
+
     #[inline(always)]
     fn meets(&self, item: T) -> bool {
         (self.test)(item)
@@ -87,6 +98,10 @@ impl<T: Value, F: Fn(T) -> bool> Predicate<T> for Unless<F> {
 
     ghost IsSound = { λ f. IsFixed T.IsValue (F.post f) };
 
+    ghost word = { λ f. Tests.failing T.IsValue (F.pre f) (F.post f) };
+
+    ghost worded = { λ f. Tests.failing_worded T.IsValue (F.pre f) (F.post f) };
+
     #[inline(always)]
     fn meets(&self, item: T) -> bool {
         !(self.test)(item)
@@ -111,6 +126,10 @@ impl<T: Value, L: FindToken<T>> Predicate<T> for Within<L> {
     ghost Runs = { λ _. Unit {0} };
 
     ghost IsSound = { λ _. Unit {0} };
+
+    ghost word = { λ list. Tests.within (L.finds list) };
+
+    ghost worded = { λ list. Tests.within_worded (L.finds list) };
 
     #[inline(always)]
     fn meets(&self, item: T) -> bool {
@@ -149,6 +168,10 @@ impl<T: Value, L: FindToken<T>> Predicate<T> for Outside<L> {
     ghost Runs = { λ _. Unit {0} };
 
     ghost IsSound = { λ _. Unit {0} };
+
+    ghost word = { λ list. Tests.outside (L.finds list) };
+
+    ghost worded = { λ list. Tests.outside_worded (L.finds list) };
 
     #[inline(always)]
     fn meets(&self, item: T) -> bool {

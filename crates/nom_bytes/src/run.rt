@@ -3,6 +3,7 @@ ghost use Rattle.std.specs.Prelude.{◌≡◌, None};
 ghost use Rattle.nom_internal.specs.Prelude.{Slice, slice_pinned, sliced, premised, premised_lawful, premised_steady};
 ghost use Rattle.nom_bytes.specs.ParsedRuns.{run_meaning};
 ghost use Rattle.nom_bytes.specs.laws.RunLaws.{run_lawful, run_steady};
+ghost use Rattle.nom_bytes.specs.Words as Words;
 
 use crate::predicate::{Predicate, Unless, Where};
 use nom_error::answer::PResult;
@@ -31,6 +32,10 @@ impl<I: Input, P: Predicate<I::Item>, E: ParseError<I>> Parser<I> for SplitPosit
     ghost Tree = { Slice I.model };
 
     ghost grammar = { λ s. sliced I.model (premised (P.Runs s) (P.IsSound s) (run_meaning I.model (P.answers s))) };
+
+    ghost word = { λ s. Words.run_of I.model (P.word s) };
+
+    ghost worded = { λ s. Words.run_worded I.model (P.worded s) };
 
     #[inline(always)]
     fn process<OM: OutputMode>(&mut self, input: I) -> PResult<I, I, E> {

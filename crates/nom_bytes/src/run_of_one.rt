@@ -4,6 +4,7 @@ ghost use Rattle.nom_internal.specs.Prelude.{ErrorKind, Refuses, Slice, slice_pi
 ghost use Rattle.nom_traits.specs.Splits.{FrontBuilt, IsRunLength, IsRunOpen, Splits};
 ghost use Rattle.nom_bytes.specs.ParsedRuns.{run1_meaning};
 ghost use Rattle.nom_bytes.specs.laws.RunLaws.{run_lawful, run_steady};
+ghost use Rattle.nom_bytes.specs.Words as Words;
 
 use crate::predicate::{Outside, Predicate, Unless, Where, Within};
 use nom_error::answer::{Err, Needed, PResult};
@@ -73,6 +74,10 @@ impl<I: Input, P: Predicate<I::Item>, E: ParseError<I>> Parser<I> for SplitPosit
     ghost Tree = { Slice I.model };
 
     ghost grammar = { λ s. sliced I.model (premised (P.Runs s.0) (P.IsSound s.0) (run1_meaning I.model (P.answers s.0) E.errors s.1)) };
+
+    ghost word = { λ s. Words.run1_of I.model E.errors s.1 (P.word s.0) };
+
+    ghost worded = { λ s. Words.run1_worded I.model E.errors s.1 (P.worded s.0) };
 
     #[inline(always)]
     fn process<OM: OutputMode>(&mut self, input: I) -> PResult<I, I, E> {

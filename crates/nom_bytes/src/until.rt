@@ -3,6 +3,7 @@ ghost use Rattle.std.specs.Prelude.{true, false};
 ghost use Rattle.nom_internal.specs.Prelude.{Slice, slice_pinned, sliced};
 ghost use Rattle.nom_bytes.specs.Untils.{until_meaning};
 ghost use Rattle.nom_bytes.specs.laws.UntilLaws.{until_lawful, until_steady};
+ghost use Rattle.nom_bytes.specs.Words as Words;
 
 use nom_error::answer::{Err, Needed, PResult};
 use nom_error::kind::ErrorKind;
@@ -34,6 +35,10 @@ impl<T: Copy, I: Input + FindSubstring<T>, E: ParseError<I>> Parser<I> for TakeU
     ghost Tree = { Slice I.model };
 
     ghost grammar = { λ needle. sliced I.model (until_meaning I.model E.errors I.finds false needle) };
+
+    ghost word = { λ needle. Words.until_of I.model E.errors I.finds false needle };
+
+    ghost worded = { λ needle. Words.until_worded I.model E.errors I.finds false needle };
 
     #[inline(always)]
     fn process<OM: OutputMode>(&mut self, input: I) -> PResult<I, I, E> {
@@ -77,6 +82,10 @@ impl<T: Copy, I: Input + FindSubstring<T>, E: ParseError<I>> Parser<I> for TakeU
     ghost Tree = { Slice I.model };
 
     ghost grammar = { λ needle. sliced I.model (until_meaning I.model E.errors I.finds true needle) };
+
+    ghost word = { λ needle. Words.until_of I.model E.errors I.finds true needle };
+
+    ghost worded = { λ needle. Words.until_worded I.model E.errors I.finds true needle };
 
     #[inline(always)]
     fn process<OM: OutputMode>(&mut self, input: I) -> PResult<I, I, E> {

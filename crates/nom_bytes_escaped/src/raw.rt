@@ -2,6 +2,7 @@
 ghost use Rattle.std.specs.Prelude.{◌≡◌, ℕ};
 ghost use Rattle.nom_internal.specs.Prelude.{Slice, sliced};
 ghost use Rattle.nom_bytes_escaped.specs.Escapes.{escaped_meaning};
+ghost use Rattle.nom_bytes_escaped.specs.Words as Words;
 
 use crate::next_piece::{NextPiece, piece_at};
 use nom_error::answer::{Err, Needed, PResult};
@@ -40,6 +41,10 @@ where
     ghost Tree = { Slice I.model };
 
     ghost grammar = { λ s. sliced I.model (escaped_meaning I.model F.Error.errors (λ x. I.Item.code x ≡ s.1) (F.grammar s.0).meaning (G.grammar s.2).meaning) };
+
+    ghost word = { λ s. Words.escaped_of I.model F.Error.errors I.Item.code (F.word s.0) s.1 (G.word s.2) };
+
+    ghost worded = { λ s. Words.escaped_worded I.model F.Error.errors I.Item.code s.1 (F.worded s.0) (G.worded s.2) };
 
     // Inlined, so that what `normal` takes is a constant: its lists and classes are known where the parser is made.
     #[inline(always)]

@@ -4,6 +4,7 @@ ghost use Rattle.nom_internal.specs.Prelude.{Built};
 ghost use Rattle.nom_bytes_escaped.specs.declared.next_piece.Piece.{Piece};
 ghost use Rattle.nom_bytes_escaped.specs.Texts.{AddAll, IsAppended, IsExtended};
 ghost use Rattle.nom_bytes_escaped.specs.Escapes.{escaped_transform_meaning};
+ghost use Rattle.nom_bytes_escaped.specs.Words as Words;
 
 use crate::next_piece::{NextPiece, Piece, piece_at};
 use nom_error::answer::{Err, Needed, OutOfMemory, PResult};
@@ -101,6 +102,11 @@ where
       meaning = escaped_transform_meaning I.model F.Error.errors (λ x. C.code x ≡ s.1) (F.grammar s.0).meaning (G.grammar s.2).meaning;
       IsOutput = λ vs text. AddAll (F.grammar s.0).IsOutput (G.grammar s.2).IsOutput F.Output.added G.Output.added vs (X.parts text);
     } };
+
+    ghost word = { λ s. Words.escaped_transform_of I.model F.Error.errors C.code X.parts F.Output.added G.Output.added (F.word s.0) s.1 (G.word s.2) };
+
+    ghost worded = { λ s. Words.escaped_transform_worded I.model F.Error.errors C.code X.parts F.Output.added G.Output.added s.1 (F.worded s.0)
+        (G.worded s.2) };
 
     #[inline]
     fn process<OM: OutputMode>(&mut self, input: I) -> PResult<I, X, F::Error> {

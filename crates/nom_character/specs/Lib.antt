@@ -1,3 +1,5 @@
 pub mod ClassRuns
 pub mod LineMatches
+pub mod Tests
+pub mod Words
 pub mod laws

@@ -6,6 +6,7 @@ ghost use Rattle.nom_traits.specs.declared.character.AsciiClass.{AsciiClass};
 ghost use Rattle.nom_traits.specs.declared.character.AsciiClass.TheVariants as Class;
 ghost use Rattle.nom_traits.specs.Splits.{Splits, Never, FrontBuilt, IsRunLength, IsRunOpen};
 ghost use Rattle.nom_character.specs.ClassRuns.{class_meaning, class_lawful, class_steady};
+ghost use Rattle.nom_character.specs.Words as Words;
 
 use nom_error::answer::{Err, Needed, PResult};
 use nom_error::kind::ErrorKind;
@@ -113,6 +114,10 @@ where
 
     ghost grammar = { λ s. sliced I.model (class_meaning I.model I.Item.code E.errors s.0 s.1) };
 
+    ghost word = { λ s. Words.class_of I.model E.errors I.Item.code s.0 s.1 };
+
+    ghost worded = { λ s. Words.class_worded I.model E.errors I.Item.code s.0 s.1 };
+
     #[inline(always)]
     fn process<OM: OutputMode>(&mut self, input: I) -> PResult<I, I, E> {
         class_run::<OM, I, E>(input, self.class, self.wanted)
@@ -154,6 +159,10 @@ where
 
     ghost grammar = { λ _. sliced I.model (class_meaning I.model I.Item.code E.errors Class.Digit (Some Kind.Digit)) };
 
+    ghost word = { λ _. Words.class_of I.model E.errors I.Item.code Class.Digit (Some Kind.Digit) };
+
+    ghost worded = { λ _. Words.class_worded I.model E.errors I.Item.code Class.Digit (Some Kind.Digit) };
+
     #[inline(always)]
     fn process<OM: OutputMode>(&mut self, input: I) -> PResult<I, I, E> {
         class_run::<OM, I, E>(input, AsciiClass::Digit, Some(ErrorKind::Digit))
@@ -194,6 +203,10 @@ where
     ghost Tree = { Slice I.model };
 
     ghost grammar = { λ _. sliced I.model (class_meaning I.model I.Item.code E.errors Class.MultiSpace None) };
+
+    ghost word = { λ _. Words.class_of I.model E.errors I.Item.code Class.MultiSpace None };
+
+    ghost worded = { λ _. Words.class_worded I.model E.errors I.Item.code Class.MultiSpace None };
 
     #[inline(always)]
     fn process<OM: OutputMode>(&mut self, input: I) -> PResult<I, I, E> {

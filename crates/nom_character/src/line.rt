@@ -6,6 +6,7 @@ ghost use Rattle.nom_character_first.specs.FirstItem.{IsFirstItem};
 ghost use Rattle.nom_character.specs.LineMatches.{Match, IsMatched, IsNewline, IsLineEnd, is_line_code, match_meaning, crlf_in, crlf_meaning};
 ghost use Rattle.nom_character.specs.LineMatches.{line_ending_in, line_ending_meaning, line_in, line_meaning};
 ghost use Rattle.nom_character.specs.laws.LineMatchLaws.{match_lawful, match_steady, crlf_laws, line_ending_laws, line_laws};
+ghost use Rattle.nom_character.specs.Words as Words;
 
 use nom_character_first::first::{after, first};
 use nom_error::answer::{Err, Needed, PResult};
@@ -161,6 +162,10 @@ where
 
     ghost grammar = { λ _. sliced I.model (crlf_meaning I.model I.Item.code E.errors) };
 
+    ghost word = { λ _. Words.crlf_of I.model E.errors I.Item.code };
+
+    ghost worded = { λ _. Words.crlf_worded I.model E.errors I.Item.code };
+
     #[inline(always)]
     fn process<OM: OutputMode>(&mut self, input: I) -> PResult<I, I, E> {
         let found = crlf_at::<I, OM::Incomplete>(input);
@@ -203,6 +208,10 @@ where
 
     ghost grammar = { λ _. sliced I.model (line_ending_meaning I.model I.Item.code E.errors) };
 
+    ghost word = { λ _. Words.line_ending_of I.model E.errors I.Item.code };
+
+    ghost worded = { λ _. Words.line_ending_worded I.model E.errors I.Item.code };
+
     #[inline(always)]
     fn process<OM: OutputMode>(&mut self, input: I) -> PResult<I, I, E> {
         let found = line_ending_at::<I, OM::Incomplete>(input);
@@ -244,6 +253,10 @@ where
     ghost Tree = { Slice I.model };
 
     ghost grammar = { λ _. sliced I.model (line_meaning I.model I.Item.code E.errors) };
+
+    ghost word = { λ _. Words.not_line_ending_of I.model E.errors I.Item.code };
+
+    ghost worded = { λ _. Words.not_line_ending_worded I.model E.errors I.Item.code };
 
     #[inline(always)]
     fn process<OM: OutputMode>(&mut self, input: I) -> PResult<I, I, E> {

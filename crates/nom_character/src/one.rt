@@ -6,6 +6,7 @@ ghost use Rattle.nom_error.specs.declared.kind.ErrorKind.TheVariants as Kind;
 ghost use Rattle.nom_character_first.specs.declared.first.Blame.TheVariants.{OfKind, OfChar};
 ghost use Rattle.nom_character_first.specs.FirstItem.{char_meaning, satisfy_meaning, anychar_meaning};
 ghost use Rattle.nom_character_first.specs.laws.FirstItemLaws.{test_is_fixed, first_item_lawful, first_item_steady};
+ghost use Rattle.nom_character.specs.Words as Words;
 
 use crate::predicate::{Any, Is};
 use nom_bytes::predicate::Predicate;
@@ -41,6 +42,10 @@ where
     ghost Tree = { ℕ };
 
     ghost grammar = { λ wanted. valued (char_meaning I.model I.Item.code E.errors wanted) };
+
+    ghost word = { λ wanted. Words.char_of I.model E.errors I.Item.code wanted };
+
+    ghost worded = { λ wanted. Words.char_worded I.model E.errors I.Item.code wanted };
 
     #[inline(always)]
     fn process<OM: OutputMode>(&mut self, input: I) -> PResult<I, char, E> {
@@ -90,6 +95,10 @@ where
     ghost Tree = { ℕ };
 
     ghost grammar = { λ s. valued (premised (P.Runs s.0) (P.IsSound s.0) (satisfy_meaning I.model I.Item.code (P.answers s.0) E.errors s.1)) };
+
+    ghost word = { λ s. Words.satisfy_of I.model E.errors I.Item.code s.1 (P.word s.0) };
+
+    ghost worded = { λ s. Words.satisfy_worded I.model E.errors I.Item.code s.1 (P.worded s.0) };
 
     #[inline(always)]
     fn process<OM: OutputMode>(&mut self, input: I) -> PResult<I, char, E> {
@@ -148,6 +157,10 @@ where
     ghost Tree = { ℕ };
 
     ghost grammar = { λ _. valued (anychar_meaning I.model I.Item.code E.errors) };
+
+    ghost word = { λ _. Words.anychar_of I.model E.errors I.Item.code };
+
+    ghost worded = { λ _. Words.anychar_worded I.model E.errors I.Item.code };
 
     #[inline(always)]
     fn process<OM: OutputMode>(&mut self, input: I) -> PResult<I, char, E> {

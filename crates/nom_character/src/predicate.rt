@@ -1,6 +1,7 @@
 //! Tests for the characters of items.
 ghost use Rattle.std.specs.Prelude.{ℕ, ◌≡◌, ◌==◌, ◌↔◌, IsTrue, true, not};
 ghost use Rattle.nom_bytes.specs.Predicates.{IsFixed, one_answer};
+ghost use Rattle.nom_character.specs.Tests as Tests;
 ghost use Rattle.nom_character_first.specs.laws.FirstItemLaws.{test_is_fixed};
 
 use nom_bytes::predicate::Predicate;
@@ -23,6 +24,10 @@ impl<T: AsChar, F: Fn(char) -> bool> Predicate<T> for CharWhere<F> {
     ghost Runs = { λ f. (c : _) → F.pre f c };
 
     ghost IsSound = { λ f. IsFixed T.IsValue (λ x. F.post f (T.code x)) };
+
+    ghost word = { λ f. Tests.char_passing T.code T.IsValue (F.pre f) (F.post f) };
+
+    ghost worded = { λ f. Tests.char_passing_worded T.code T.IsValue (F.pre f) (F.post f) };
 
     #[inline(always)]
     fn meets(&self, item: T) -> bool {
@@ -49,6 +54,10 @@ impl<T: AsChar, L: FindToken<char>> Predicate<T> for CharWithin<L> {
 
     ghost IsSound = { λ _. Unit {0} };
 
+    ghost word = { λ list. Tests.char_within T.code (L.finds list) };
+
+    ghost worded = { λ list. Tests.char_within_worded T.code (L.finds list) };
+
     #[inline(always)]
     fn meets(&self, item: T) -> bool {
         self.list.find_token(item.as_char())
@@ -73,6 +82,10 @@ impl<T: AsChar, L: FindToken<char>> Predicate<T> for CharOutside<L> {
     ghost Runs = { λ _. Unit {0} };
 
     ghost IsSound = { λ _. Unit {0} };
+
+    ghost word = { λ list. Tests.char_outside T.code (L.finds list) };
+
+    ghost worded = { λ list. Tests.char_outside_worded T.code (L.finds list) };
 
     #[inline(always)]
     fn meets(&self, item: T) -> bool {
@@ -99,6 +112,10 @@ impl<T: AsChar> Predicate<T> for Is {
 
     ghost IsSound = { λ _. Unit {0} };
 
+    ghost word = { λ wanted. Tests.char_is T.code wanted };
+
+    ghost worded = { λ wanted. Tests.char_is_worded T.code wanted };
+
     #[inline(always)]
     fn meets(&self, item: T) -> bool {
         item.as_char() == self.wanted
@@ -121,6 +138,10 @@ impl<T: AsChar> Predicate<T> for Any {
     ghost Runs = { λ _. Unit {0} };
 
     ghost IsSound = { λ _. Unit {0} };
+
+    ghost word = { λ _. Tests.any_item };
+
+    ghost worded = { λ _. Tests.any_item_worded };
 
     #[inline(always)]
     fn meets(&self, _item: T) -> bool {

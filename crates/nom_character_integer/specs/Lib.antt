@@ -1,3 +1,4 @@
 pub mod Integers
 pub mod Read
+pub mod Words
 pub mod laws

@@ -6,6 +6,7 @@ ghost use Rattle.num_traits.specs.Laws.{Checks};
 ghost use Rattle.nom_character_integer.specs.Integers.{with_sign, sign_of, integer_meaning};
 ghost use Rattle.nom_character_integer.specs.laws.IntegerLaws.{integer_lawful, integer_steady, range_of};
 ghost use Rattle.nom_character_integer.specs.Read.{AfterSign, IsRead, IsUnfit};
+ghost use Rattle.nom_character_integer.specs.Words as Words;
 
 use nom_character_first::first::first;
 use nom_error::answer::{Err, Needed, PResult};
@@ -206,6 +207,10 @@ where
       meaning = integer_meaning I.model I.Item.code signed T.fits E.errors;
       IsOutput = λ z x. T.value x ≡ z;
     } };
+
+    ghost word = { λ signed. Words.integer_of I.model E.errors I.Item.code T.value T.fits signed };
+
+    ghost worded = { λ signed. Words.integer_worded I.model E.errors I.Item.code T.value T.fits signed };
 
     #[inline(always)]
     fn process<OM: OutputMode>(&mut self, input: I) -> PResult<I, T, E> {

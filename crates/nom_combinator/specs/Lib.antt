@@ -5,3 +5,4 @@ pub mod Promises
 pub mod Verdicts
 pub mod laws
 pub mod Ends
+pub mod Words

@@ -1,6 +1,7 @@
 //! A part that runs on a condition.
-ghost use Rattle.std.specs.Prelude.{Option};
-ghost use Rattle.nom_combinator.specs.Conditions.{state_of, CondBesides, CondPins, cond_of};
+ghost use Rattle.std.specs.Prelude.{◌≡◌, Bool, Option, true};
+ghost use Rattle.nom_combinator.specs.Conditions.{CondBesides, cond_of};
+ghost use Rattle.nom_combinator.specs.Words as Words;
 ghost use Rattle.nom_combinator.specs.laws.ConditionLaws.{cond_lawful, cond_steady, cond_pinned};
 
 use nom_error::answer::PResult;
@@ -9,10 +10,11 @@ use nom_internal::built::built;
 use nom_internal::parser::{Parser, StreamParser};
 use nom_traits::input::Items;
 
-/// The parser that `cond` returns. It holds a parser, or none; without one it accepts at once with `None`.
+/// The parser that `cond` returns. Where the condition is false, it accepts at once with `None`.
 #[derive(Drop)]
 pub struct Cond<F> {
-    pub parser: Option<F>,
+    pub condition: bool,
+    pub parser: F,
 }
 
 impl<I: Items, F: Parser<I> + Drop> Parser<I> for Cond<F> {
@@ -20,37 +22,38 @@ impl<I: Items, F: Parser<I> + Drop> Parser<I> for Cond<F> {
 
     type Error = F::Error;
 
-    ghost State = { Option F.State };
+    ghost State = { Bool × F.State };
 
-    ghost state = { λ p. state_of F.state p.parser };
+    ghost state = { λ p. (p.condition, F.state p.parser) };
 
     ghost Tree = { Option F.Tree };
 
-    ghost grammar = { cond_of F.grammar };
+    ghost grammar = { λ s. cond_of s.0 (F.grammar s.1) };
 
-    ghost Besides = { λ mode old new. CondBesides (F.Besides mode) old.parser new.parser };
+    ghost word = { λ s. Words.cond_of s.0 (F.word s.1) };
+
+    ghost worded = { λ s. Words.cond_worded s.0 (F.worded s.1) };
+
+    ghost Besides = { λ mode old new. CondBesides old.condition (F.Besides mode old.parser new.parser) };
 
     #[inline(always)]
     fn process<OM: OutputMode>(&mut self, input: I) -> PResult<I, Self::Output, Self::Error> {
-        match &mut self.parser {
-            Some(parser) => {
-                let (rest, output) = parser.process::<OM>(input)?;
-                Ok((rest, built::<OM::Output, Option<F::Output>>(output)))
-            }
-            None => {
-                input.prove_known();
-                Ok((input, built::<OM::Output, Option<F::Output>>(None)))
-            }
+        if self.condition {
+            let (rest, output) = self.parser.process::<OM>(input)?;
+            Ok((rest, built::<OM::Output, Option<F::Output>>(output)))
+        } else {
+            input.prove_known();
+            Ok((input, built::<OM::Output, Option<F::Output>>(None)))
         }
     }
 
-    ghost lawful = { cond_lawful F.grammar F.lawful };
+    ghost lawful = { λ s k. cond_lawful s.0 (λ e. F.lawful s.1 (k e)) };
 }
 
 impl<I: Items, F: StreamParser<I> + Drop> StreamParser<I> for Cond<F> {
-    ghost Pins = { λ p. CondPins F.Pins p.parser };
+    ghost Pins = { λ p. p.condition ≡ true → F.Pins p.parser };
 
-    ghost pinned = { λ p. cond_pinned F.state F.grammar F.Pins F.pinned p.parser };
+    ghost pinned = { λ p k h. cond_pinned p.condition (λ e. F.pinned p.parser (k e) (h e)) };
 
-    ghost steady = { cond_steady F.grammar F.steady };
+    ghost steady = { λ s k. cond_steady s.0 (λ e. F.steady s.1 (k e)) };
 }

@@ -4,6 +4,7 @@ ghost use Rattle.nom_internal.specs.Prelude.{JudgedBesides, with_outputs};
 ghost use Rattle.nom_internal.specs.laws.SequenceLaws.{sequence_lawful};
 ghost use Rattle.nom_combinator.specs.laws.AllLaws.{eof_lawful};
 ghost use Rattle.nom_combinator.specs.Ends.{all_consuming_of};
+ghost use Rattle.nom_combinator.specs.Words as Words;
 
 use crate::left::Eof;
 use nom_error::answer::PResult;
@@ -29,6 +30,10 @@ impl<I: Input, F: Parser<I> + Drop> Parser<I> for AllConsuming<F> {
     ghost Tree = { F.Tree };
 
     ghost grammar = { λ s. all_consuming_of I.model F.Error.errors (F.grammar s) };
+
+    ghost word = { λ s. Words.all_consuming_of I.model F.Error.errors (F.word s) };
+
+    ghost worded = { λ s. Words.all_consuming_worded I.model F.Error.errors (F.worded s) };
 
     ghost Besides = { λ mode old new i. JudgedBesides (F.Besides mode old.parser new.parser i) };
 

@@ -4,6 +4,7 @@ ghost use Rattle.nom_internal.specs.Cloned.{ClonesAlike, clones_pinned};
 ghost use Rattle.nom_internal.specs.Prelude.{OfRest, value_pinned, valued};
 ghost use Rattle.nom_combinator.specs.Ends.{clone_meaning, fail_meaning};
 ghost use Rattle.nom_combinator.specs.laws.EndLaws.{clone_lawful, clone_steady, fail_lawful, fail_steady};
+ghost use Rattle.nom_combinator.specs.Words as Words;
 
 use nom_error::answer::{Err, PResult};
 use nom_error::kind::ErrorKind;
@@ -38,6 +39,10 @@ impl<I: Items, O: Clone, E: ParseError<I>> Parser<I> for Success<O, I, E> {
       meaning = clone_meaning value (O.is_infallible value);
       IsOutput = λ _. O.is_clone value;
     } };
+
+    ghost word = { λ value. Words.success_of O.is_clone value (O.is_infallible value) };
+
+    ghost worded = { λ value. Words.success_worded O.is_clone value (O.is_infallible value) };
 
     /// The rest is the whole input.
     ghost Besides = { λ _ _ _ i. OfRest (λ rest. rest ≡ i) };
@@ -80,6 +85,10 @@ impl<I: Items, O: Drop, E: ParseError<I>> Parser<I> for Fail<O, I, E> {
     ghost Tree = { O };
 
     ghost grammar = { λ _. valued (fail_meaning E.errors) };
+
+    ghost word = { λ _. Words.fail_of E.errors };
+
+    ghost worded = { λ _. Words.fail_worded E.errors };
 
     #[inline(always)]
     fn process<OM: OutputMode>(&mut self, input: I) -> PResult<I, O, E> {

@@ -3,6 +3,7 @@ ghost use Rattle.std.specs.Prelude.{◌≡◌, ℕ};
 ghost use Rattle.nom_internal.specs.Prelude.{OfRest, Slice, sliced, valued};
 ghost use Rattle.nom_combinator.specs.Ends.{eof_meaning, rest_meaning, rest_len_meaning};
 ghost use Rattle.nom_combinator.specs.laws.AllLaws.{eof_lawful, rest_lawful, rest_len_lawful};
+ghost use Rattle.nom_combinator.specs.Words as Words;
 
 use nom_error::answer::PResult;
 use nom_error::kind::ErrorKind;
@@ -39,6 +40,10 @@ impl<I: Input, E: ParseError<I>> Parser<I> for Eof<I, E> {
     ghost Tree = { Slice I.model };
 
     ghost grammar = { λ _. sliced I.model (eof_meaning I.model E.errors) };
+
+    ghost word = { λ _. Words.eof_of I.model E.errors };
+
+    ghost worded = { λ _. Words.eof_worded I.model E.errors };
 
     /// The rest is the whole input.
     ghost Besides = { λ _ _ _ i. OfRest (λ rest. rest ≡ i) };
@@ -83,6 +88,10 @@ impl<I: Input, E: ParseError<I>> Parser<I> for Rest<I, E> {
 
     ghost grammar = { λ _. sliced I.model (rest_meaning I.model) };
 
+    ghost word = { λ _. Words.rest_of I.model };
+
+    ghost worded = { λ _. Words.rest_worded I.model };
+
     #[inline(always)]
     fn process<OM: OutputMode>(&mut self, input: I) -> PResult<I, I, E> {
         input.prove_known();
@@ -121,6 +130,10 @@ impl<I: Input, E: ParseError<I>> Parser<I> for RestLen<I, E> {
     ghost Tree = { ℕ };
 
     ghost grammar = { λ _. valued (rest_len_meaning I.model) };
+
+    ghost word = { λ _. Words.rest_len_of I.model };
+
+    ghost worded = { λ _. Words.rest_len_worded I.model };
 
     /// The rest is the whole input.
     ghost Besides = { λ _ _ _ i. OfRest (λ rest. rest ≡ i) };

@@ -1,7 +1,7 @@
 //! Parsers that change the outcome or the output of a part.
 #![tactic(auto)]
 
-ghost use Rattle.std.specs.Prelude.{◌≡◌, Some, None, true, false};
+ghost use Rattle.std.specs.Prelude.{◌≡◌};
 
 mod condition;
 mod consuming;
@@ -104,19 +104,15 @@ pub fn consumed<F>(parser: F) -> Consumed<F>
     Consumed { parser }
 }
 
-/// Runs `f` only if `b` is true. Otherwise it returns `None` and consumes nothing.
+/// Runs `parser` only if `condition` is true. Otherwise it returns `None` and consumes nothing.
 ///
 /// `cond(false, tag("a"))` on `"ab"` returns `None` and leaves `"ab"`.
 #[inline(always)]
-pub fn cond<F: Drop>(b: bool, f: F) -> Cond<F>
-    ensures runs { b ≡ true → result.parser ≡ Some f }
-    ensures skips { b ≡ false → result.parser ≡ None }
+pub fn cond<F>(condition: bool, parser: F) -> Cond<F>
+    ensures condition { result.condition ≡ condition }
+    ensures parser { result.parser ≡ parser }
 {
-    if b {
-        Cond { parser: Some(f) }
-    } else {
-        Cond { parser: None }
-    }
+    Cond { condition, parser }
 }
 
 /// Adds a name to the errors of `parser`, by `ContextError`.
@@ -168,7 +164,10 @@ pub fn flat_map<I: Items, F: Parser<I>, H: Parser<I, Error = F::Error>, G: Fn(F:
 
 /// Runs `parser`, and applies a closure to its output. The closure is called only if outputs are built.
 #[inline(always)]
-pub fn map<I: Items, O: Drop, F: Parser<I>, G: Fn(F::Output) -> O>(parser: F, map: G) -> Map<F, G>
+pub fn map<I: Items, A: Drop, O: Drop, F: Parser<I, Output = A>, G: Fn(A) -> O>(
+    parser: F,
+    map: G,
+) -> Map<F, G>
     ensures parser { result.parser ≡ parser }
     ensures map { result.map ≡ map }
 {
@@ -179,7 +178,7 @@ pub fn map<I: Items, O: Drop, F: Parser<I>, G: Fn(F::Output) -> O>(parser: F, ma
 ///
 /// If the closure returns `None`, the input is refused at its start, with `MapOpt`.
 #[inline(always)]
-pub fn map_opt<I: Items, O: Drop, F: Parser<I>, G: Fn(F::Output) -> Option<O>>(
+pub fn map_opt<I: Items, A: Drop, O: Drop, F: Parser<I, Output = A>, G: Fn(A) -> Option<O>>(
     parser: F,
     map: G,
 ) -> MapOpt<F, G>
@@ -194,10 +193,14 @@ pub fn map_opt<I: Items, O: Drop, F: Parser<I>, G: Fn(F::Output) -> Option<O>>(
 /// If the closure returns an error, the input is refused at its start. `from_external_error` makes the
 /// refusal's error from the closure's error, with `MapRes`.
 #[inline(always)]
-pub fn map_res<I: Items, O: Drop, X: Drop, F: Parser<I>, G: Fn(F::Output) -> Result<O, X>>(
-    parser: F,
-    map: G,
-) -> MapRes<F, G>
+pub fn map_res<
+    I: Items,
+    A: Drop,
+    O: Drop,
+    X: Drop,
+    F: Parser<I, Output = A>,
+    G: Fn(A) -> Result<O, X>,
+>(parser: F, map: G) -> MapRes<F, G>
 where
     F::Error: FromExternalError<I, X>,
     ensures parser { result.parser ≡ parser }
@@ -210,7 +213,10 @@ where
 ///
 /// Otherwise the input is refused at its start, with `Verify`.
 #[inline(always)]
-pub fn verify<I: Items, F: Parser<I>, G: Fn(&F::Output) -> bool>(parser: F, test: G) -> Verify<F, G>
+pub fn verify<I: Items, A: Drop, F: Parser<I, Output = A>, G: Fn(&A) -> bool>(
+    parser: F,
+    test: G,
+) -> Verify<F, G>
     ensures parser { result.parser ≡ parser }
     ensures test { result.test ≡ test }
 {

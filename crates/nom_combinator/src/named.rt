@@ -2,6 +2,7 @@
 ghost use Rattle.std.specs.Prelude.{ℕ, List};
 ghost use Rattle.nom_internal.specs.laws.MappedLaws.{renamed_lawful, renamed_steady};
 ghost use Rattle.nom_combinator.specs.Contexts.{IsRenamed, context_of};
+ghost use Rattle.nom_combinator.specs.Words as Words;
 
 use nom_error::answer::{Err, PResult};
 use nom_error::mode::OutputMode;
@@ -55,6 +56,10 @@ where
     ghost Tree = { F.Tree };
 
     ghost grammar = { λ s. context_of F.Error.contexts s.0 (F.grammar s.1) };
+
+    ghost word = { λ s. Words.context_of F.Error.contexts s.0 (F.word s.1) };
+
+    ghost worded = { λ s. Words.context_worded F.Error.contexts s.0 (F.worded s.1) };
 
     ghost Besides = { λ mode old new. F.Besides mode old.parser new.parser };
 

@@ -7,6 +7,7 @@ ghost use Rattle.nom_internal.specs.Prelude.{JudgedBesides, with_outputs};
 ghost use Rattle.nom_internal.specs.laws.JudgedLaws.{judged_lawful, judged_steady};
 ghost use Rattle.nom_combinator.specs.Outputs.{value_by, verify_by};
 ghost use Rattle.nom_combinator.specs.laws.OutputLaws.{tested_pinned, value_lawful, value_steady};
+ghost use Rattle.nom_combinator.specs.Words as Words;
 
 use nom_error::answer::{Err, PResult};
 use nom_error::kind::ErrorKind;
@@ -35,7 +36,8 @@ pub struct Verify<F, G> {
     pub test: G,
 }
 
-impl<I: Items, F: Parser<I> + Drop, G: Fn(&F::Output) -> bool> Parser<I> for Verify<F, G> {
+impl<I: Items, A: Drop, F: Parser<I, Output = A> + Drop, G: Fn(&A) -> bool> Parser<I>
+    for Verify<F, G> {
     type Output = F::Output;
 
     type Error = F::Error;
@@ -46,7 +48,11 @@ impl<I: Items, F: Parser<I> + Drop, G: Fn(&F::Output) -> bool> Parser<I> for Ver
 
     ghost Tree = { F.Tree };
 
-    ghost grammar = { λ s. verify_by F.Error.errors (λ o. (p : Bor F.Output) → p.now ≡ o → G.pre s.1 p) (FnReturnsAt G.Fn s.1) (F.grammar s.0) };
+    ghost grammar = { λ s. verify_by F.Error.errors (λ o. (p : Bor A) → p.now ≡ o → G.pre s.1 p) (FnReturnsAt G.Fn s.1) (F.grammar s.0) };
+
+    ghost word = { λ s. Words.verify_of F.Error.errors (λ o. (p : Bor A) → p.now ≡ o → G.pre s.1 p) (FnReturnsAt G.Fn s.1) (F.word s.0) };
+
+    ghost worded = { λ s. Words.verify_worded F.Error.errors (λ o. (p : Bor A) → p.now ≡ o → G.pre s.1 p) (FnReturnsAt G.Fn s.1) (F.worded s.0) };
 
     ghost Besides = { λ mode old new i. JudgedBesides (F.Besides (with_outputs true mode) old.parser new.parser i) };
 
@@ -70,8 +76,12 @@ impl<I: Items, F: Parser<I> + Drop, G: Fn(&F::Output) -> bool> Parser<I> for Ver
     ghost lawful = { λ s k. judged_lawful k.1 (F.lawful s.0 k.0) };
 }
 
-impl<I: Items, F: StreamParser<I> + Drop, G: Fn(&F::Output) -> bool> StreamParser<I>
-    for Verify<F, G> {
+impl<
+    I: Items,
+    A: Viewed + Drop,
+    F: StreamParser<I, Output = A> + Drop,
+    G: Fn(&A) -> bool,
+> StreamParser<I> for Verify<F, G> {
     ghost Pins = { λ p. F.Pins p.parser };
 
     ghost pinned = { λ p k h. tested_pinned (F.pinned p.parser k.0 h) };
@@ -101,6 +111,10 @@ impl<I: Items, O: Clone, F: Parser<I> + Drop> Parser<I> for Value<O, F> {
 
     // a clone of the value
     ghost grammar = { λ s. value_by s.0 (O.is_infallible s.0) (O.is_clone s.0) (F.grammar s.1) };
+
+    ghost word = { λ s. Words.value_of O.is_clone s.0 (O.is_infallible s.0) (F.word s.1) };
+
+    ghost worded = { λ s. Words.value_worded O.is_clone s.0 (O.is_infallible s.0) (F.worded s.1) };
 
     ghost Besides = { λ mode old new i. JudgedBesides (F.Besides mode old.parser new.parser i) };
 

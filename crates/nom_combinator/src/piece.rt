@@ -4,6 +4,7 @@ ghost use Rattle.nom_internal.specs.Prelude.{Slice, slice_pinned, pair_pinned, w
 ghost use Rattle.nom_internal.specs.laws.RecognizedLaws.{recognized_lawful, recognized_steady};
 ghost use Rattle.nom_combinator.specs.Verdicts.{recognize_of, consumed_of};
 ghost use Rattle.nom_combinator.specs.laws.VerdictLaws.{consumed_lawful, consumed_steady};
+ghost use Rattle.nom_combinator.specs.Words as Words;
 
 use nom_error::answer::PResult;
 use nom_error::mode::{Check, OutputM, OutputMode};
@@ -30,6 +31,10 @@ impl<I: Input, F: Parser<I> + Drop> Parser<I> for Recognize<F> {
     ghost Tree = { Slice I.model };
 
     ghost grammar = { λ s. recognize_of I.model (F.grammar s) };
+
+    ghost word = { λ s. Words.recognize_of I.model (F.word s) };
+
+    ghost worded = { λ s. Words.recognize_worded I.model (F.worded s) };
 
     ghost Besides = { λ mode old new. F.Besides (with_outputs false mode) old.parser new.parser };
 
@@ -71,6 +76,10 @@ impl<I: Input, F: Parser<I> + Drop> Parser<I> for Consumed<F> {
     ghost Tree = { Slice I.model × F.Tree };
 
     ghost grammar = { λ s. consumed_of I.model (F.grammar s) };
+
+    ghost word = { λ s. Words.consumed_of I.model (F.word s) };
+
+    ghost worded = { λ s. Words.consumed_worded I.model (F.worded s) };
 
     ghost Besides = { λ mode old new. F.Besides mode old.parser new.parser };
 

@@ -5,6 +5,7 @@ ghost use Rattle.nom_combinator.specs.Verdicts.{cut_of, opt_of, peek_of};
 ghost use Rattle.nom_combinator.specs.Verdicts.{NotBesides, not_of, complete_of};
 ghost use Rattle.nom_combinator.specs.laws.VerdictLaws.{complete_lawful, cut_lawful, cut_steady, opt_pinned, opt_lawful, opt_steady, peek_lawful};
 ghost use Rattle.nom_combinator.specs.laws.VerdictLaws.{peek_steady, not_lawful, not_steady};
+ghost use Rattle.nom_combinator.specs.Words as Words;
 
 use nom_error::answer::{Err, PResult};
 use nom_error::kind::ErrorKind;
@@ -32,6 +33,10 @@ impl<I: Items, F: Parser<I> + Drop> Parser<I> for Cut<F> {
     ghost Tree = { F.Tree };
 
     ghost grammar = { λ s. cut_of (F.grammar s) };
+
+    ghost word = { λ s. Words.cut_of (F.word s) };
+
+    ghost worded = { λ s. Words.cut_worded (F.worded s) };
 
     ghost Besides = { λ mode old new. F.Besides (with_errors true mode) old.parser new.parser };
 
@@ -80,6 +85,10 @@ impl<I: Items, F: Parser<I> + Drop> Parser<I> for Opt<F> {
 
     ghost grammar = { λ s. opt_of (F.grammar s) };
 
+    ghost word = { λ s. Words.opt_of (F.word s) };
+
+    ghost worded = { λ s. Words.opt_worded (F.worded s) };
+
     ghost Besides = { λ mode old new i. OrBesides (F.Besides (with_errors false mode) old.parser new.parser i) (λ rest. rest ≡ Some i) };
 
     #[inline(always)]
@@ -127,6 +136,10 @@ impl<I: Items, F: Parser<I> + Drop> Parser<I> for Peek<F> {
 
     ghost grammar = { λ s. peek_of (F.grammar s) };
 
+    ghost word = { λ s. Words.peek_of (F.word s) };
+
+    ghost worded = { λ s. Words.peek_worded (F.worded s) };
+
     ghost Besides = { λ mode old new i. ThenBesides (F.Besides mode old.parser new.parser i) (λ _ rest. rest ≡ Some i) };
 
     #[inline(always)]
@@ -165,6 +178,10 @@ impl<I: Items, F: Parser<I> + Drop> Parser<I> for Not<F> {
     ghost Tree = { Unit {0} };
 
     ghost grammar = { λ s. not_of F.Error.errors (F.grammar s) };
+
+    ghost word = { λ s. Words.not_of F.Error.errors (F.word s) };
+
+    ghost worded = { λ s. Words.not_worded F.Error.errors (F.worded s) };
 
     ghost Besides = { λ mode old new i. NotBesides (F.Besides (with_outputs false (with_errors false mode)) old.parser new.parser i) i };
 
@@ -214,6 +231,10 @@ impl<I: Items, F: Parser<I> + Drop> Parser<I> for MakeComplete<F> {
     ghost Tree = { F.Tree };
 
     ghost grammar = { λ s. complete_of F.Error.errors (F.grammar s) };
+
+    ghost word = { λ s. Words.complete_of F.Error.errors (F.word s) };
+
+    ghost worded = { λ s. Words.complete_worded F.Error.errors (F.worded s) };
 
     ghost Besides = { λ mode old new. F.Besides (with_streaming false mode) old.parser new.parser };
 

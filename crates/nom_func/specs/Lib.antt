@@ -1,2 +1,3 @@
 pub mod Func
+pub mod Words
 pub mod laws

@@ -1,6 +1,7 @@
 //! Functions as parsers.
 ghost use Rattle.nom_func.specs.Func.{viewed_pinned, AcceptsCut, IsNoRestAt, IsParser, IsStreamParser, func_of};
 ghost use Rattle.nom_func.specs.laws.FuncLaws.{func_lawful, stream_func_lawful, stream_func_steady};
+ghost use Rattle.nom_func.specs.Words as Words;
 
 use nom_error::answer::{Err, IResult, PResult};
 use nom_error::kind::ErrorKind;
@@ -59,6 +60,10 @@ impl<I: CutRest, O: Viewed + Drop, E: ParseError<I>, F: Fn(I) -> IResult<I, O, E
 
     ghost grammar = { λ f. func_of I.model O.view E.errors (F.post f) (F.pre f) (IsParser I.model O.view (F.post f)) };
 
+    ghost word = { λ f. Words.given_of I.model E.errors O.view (F.pre f) (F.post f) };
+
+    ghost worded = { λ f. Words.given_worded I.model E.errors O.view (F.pre f) (F.post f) };
+
     #[inline(always)]
     fn process<OM: OutputMode>(&mut self, input: I) -> PResult<I, O, E> {
         input.prove_known();
@@ -93,6 +98,10 @@ impl<I: CutRest, O: Viewed + Drop, E: ParseError<I>, F: Fn(I) -> IResult<I, O, E
     ghost Tree = { O.view.Value };
 
     ghost grammar = { λ f. func_of I.model O.view E.errors (F.post f) (F.pre f) (IsStreamParser I.model O.view (F.post f)) };
+
+    ghost word = { λ f. Words.stream_given_of I.model E.errors O.view (F.pre f) (F.post f) };
+
+    ghost worded = { λ f. Words.stream_given_worded I.model E.errors O.view (F.pre f) (F.post f) };
 
     #[inline(always)]
     fn process<OM: OutputMode>(&mut self, input: I) -> PResult<I, O, E> {

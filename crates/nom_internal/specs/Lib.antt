@@ -19,4 +19,6 @@ pub mod Results
 pub mod Sequence
 pub mod Success
 pub mod Tuples
+pub mod Word
+pub mod Words
 pub mod laws

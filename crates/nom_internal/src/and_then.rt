@@ -5,6 +5,7 @@ ghost use Rattle.nom_internal.specs.Bounded.{and_then_of};
 ghost use Rattle.nom_internal.specs.Grammar.{GivesAt};
 ghost use Rattle.nom_internal.specs.Pinned.{IsPinned};
 ghost use Rattle.nom_internal.specs.Results.{BoundBesides};
+ghost use Rattle.nom_internal.specs.Words as Words;
 
 use crate::parser::{Parser, StreamParser};
 use nom_error::answer::PResult;
@@ -40,6 +41,10 @@ impl<
     ghost Tree = { G.Tree };
 
     ghost grammar = { λ s. and_then_of I.model F.Output.model (F.grammar s.0) (G.grammar s.1) };
+
+    ghost word = { λ s. Words.and_then_of I.model F.Output.model (F.word s.0) (G.word s.1) };
+
+    ghost worded = { λ s. Words.and_then_worded I.model F.Output.model (F.worded s.0) (G.worded s.1) };
 
     ghost Besides = { λ mode old new i. BoundBesides (F.Besides (with_outputs true mode) old.first new.first i)
         (GivesAt (F.grammar (F.state old.first)) mode.streaming i) (G.Besides mode old.second new.second) };

@@ -2,6 +2,7 @@
 ghost use Rattle.std.specs.Prelude.{◌⊎◌};
 ghost use Rattle.nom_internal.specs.Choice.{either_of};
 ghost use Rattle.nom_internal.specs.Results.{OrBesides};
+ghost use Rattle.nom_internal.specs.Words as Words;
 
 use crate::choice::next_branch;
 use crate::parser::{Parser, StreamParser};
@@ -37,6 +38,10 @@ impl<
     ghost Tree = { F.Tree ⊎ G.Tree };
 
     ghost grammar = { λ s. either_of F.Error.errors.joined F.Error.errors.grows (F.grammar s.0) (G.grammar s.1) };
+
+    ghost word = { λ s. Words.either_of F.Error.errors.joined F.Error.errors.grows (F.word s.0) (G.word s.1) };
+
+    ghost worded = { λ s. Words.either_worded F.Error.errors.joined F.Error.errors.grows (F.worded s.0) (G.worded s.1) };
 
     ghost Besides = { λ mode old new i. OrBesides (F.Besides mode old.first new.first i) (G.Besides mode old.second new.second i) };
 

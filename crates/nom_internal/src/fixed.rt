@@ -2,6 +2,7 @@
 ghost use Rattle.nom_error.specs.Modes.{with_streaming};
 ghost use Rattle.nom_internal.specs.Cases.{fixed_of};
 ghost use Rattle.nom_internal.specs.laws.CaseLaws.{fixed_lawful, fixed_steady};
+ghost use Rattle.nom_internal.specs.Words as Words;
 
 use crate::parser::{Parser, StreamParser};
 use nom_error::answer::PResult;
@@ -28,6 +29,10 @@ impl<I: Items, P: Parser<I> + Drop, S: IsStreaming> Parser<I> for Fixed<P, S> {
     ghost Tree = { P.Tree };
 
     ghost grammar = { λ s. fixed_of S.STREAMING (P.grammar s) };
+
+    ghost word = { λ s. Words.fixed_of S.STREAMING (P.word s) };
+
+    ghost worded = { λ s. Words.fixed_worded S.STREAMING (P.worded s) };
 
     ghost Besides = { λ mode old new. P.Besides (with_streaming S.STREAMING mode) old.parser new.parser };
 

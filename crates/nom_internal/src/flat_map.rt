@@ -4,6 +4,8 @@ ghost use Rattle.nom_error.specs.Modes.{with_outputs};
 ghost use Rattle.nom_internal.specs.FlatMap.{maker, OfEachGiven, flat_map_by};
 ghost use Rattle.nom_internal.specs.Grammar.{GivesAt};
 ghost use Rattle.nom_internal.specs.Results.{MadeBesides, ThenBesides};
+ghost use Rattle.nom_internal.specs.Word.{keyed};
+ghost use Rattle.nom_internal.specs.Words as Words;
 
 use crate::parser::{Parser, StreamParser};
 use nom_error::answer::PResult;
@@ -37,6 +39,10 @@ impl<
     ghost Tree = { H.State × H.Tree };
 
     ghost grammar = { λ s. flat_map_by I.model (maker (G.pre s.1) (G.post s.1) H.state) (F.grammar s.0) H.grammar };
+
+    ghost word = { λ s. Words.flat_map_of I.model (maker (G.pre s.1) (G.post s.1) H.state) (keyed H.grammar) (F.word s.0) };
+
+    ghost worded = { λ s. Words.flat_map_worded I.model (maker (G.pre s.1) (G.post s.1) H.state) (keyed H.grammar) (F.worded s.0) };
 
     ghost Besides = { λ mode old new i. ThenBesides (F.Besides (with_outputs true mode) old.first new.first i)
         (MadeBesides (GivesAt (F.grammar (F.state old.first)) mode.streaming i) (G.post old.make) (H.Besides mode)) };

@@ -2,6 +2,7 @@
 ghost use Rattle.nom_internal.specs.Closures.{SeesAlike};
 ghost use Rattle.nom_internal.specs.Mapped.{into_by, ConvertsSome, ConvertsResult};
 ghost use Rattle.nom_internal.specs.laws.MappedLaws.{given_pinned, renamed_lawful, renamed_steady};
+ghost use Rattle.nom_internal.specs.Words as Words;
 
 use crate::parser::{Parser, StreamParser};
 use nom_error::answer::{Err, PResult};
@@ -67,6 +68,10 @@ impl<
     ghost Tree = { F.Tree };
 
     ghost grammar = { λ s. into_by O.from_gives E.from_gives (F.grammar s) };
+
+    ghost word = { λ s. Words.into_of O.from_gives E.from_gives (F.word s) };
+
+    ghost worded = { λ s. Words.into_worded O.from_gives E.from_gives (F.worded s) };
 
     ghost Besides = { λ mode old new. F.Besides mode old.parser new.parser };
 

@@ -7,6 +7,7 @@ ghost use Rattle.nom_internal.specs.Judged.{map_opt_by, map_res_by};
 ghost use Rattle.nom_internal.specs.Results.{JudgedBesides};
 ghost use Rattle.nom_internal.specs.laws.JudgedLaws.{judged_lawful, judged_steady};
 ghost use Rattle.nom_internal.specs.laws.MappedLaws.{given_pinned};
+ghost use Rattle.nom_internal.specs.Words as Words;
 
 use crate::built::built;
 use crate::parser::{Parser, StreamParser};
@@ -27,7 +28,7 @@ pub struct MapOpt<F, G> {
     pub map: G,
 }
 
-impl<I: Items, F: Parser<I> + Drop, O: Drop, G: Fn(F::Output) -> Option<O>> Parser<I>
+impl<I: Items, A: Drop, F: Parser<I, Output = A> + Drop, O: Drop, G: Fn(A) -> Option<O>> Parser<I>
     for MapOpt<F, G> {
     type Output = O;
 
@@ -40,6 +41,10 @@ impl<I: Items, F: Parser<I> + Drop, O: Drop, G: Fn(F::Output) -> Option<O>> Pars
     ghost Tree = { F.Tree };
 
     ghost grammar = { λ s. map_opt_by F.Error.errors (G.pre s.1) (G.post s.1) (F.grammar s.0) };
+
+    ghost word = { λ s. Words.map_opt_of F.Error.errors (G.pre s.1) (G.post s.1) (F.word s.0) };
+
+    ghost worded = { λ s. Words.map_opt_worded F.Error.errors (G.pre s.1) (G.post s.1) (F.worded s.0) };
 
     ghost Besides = { λ mode old new i. JudgedBesides (F.Besides (with_outputs true mode) old.parser new.parser i) };
 
@@ -63,11 +68,12 @@ impl<I: Items, F: Parser<I> + Drop, O: Drop, G: Fn(F::Output) -> Option<O>> Pars
 
 impl<
     I: Items,
-    F: StreamParser<I> + Drop,
+    A: Viewed + Drop,
+    F: StreamParser<I, Output = A> + Drop,
     O: Viewed + Drop,
-    G: Fn(F::Output) -> Option<O>,
+    G: Fn(A) -> Option<O>,
 > StreamParser<I> for MapOpt<F, G> {
-    ghost Pins = { λ p. F.Pins p.parser × SeesAlike F.Output.view O.view (λ a o. G.post p.map a (Some o)) };
+    ghost Pins = { λ p. F.Pins p.parser × SeesAlike A.view O.view (λ a o. G.post p.map a (Some o)) };
 
     ghost pinned = { λ p k h. given_pinned (F.pinned p.parser k.0 h.0) h.1 };
 
@@ -102,8 +108,14 @@ pub struct MapRes<F, G> {
     pub map: G,
 }
 
-impl<I: Items, X: Drop, F: Parser<I> + Drop, O: Drop, G: Fn(F::Output) -> Result<O, X>> Parser<I>
-    for MapRes<F, G>
+impl<
+    I: Items,
+    X: Drop,
+    A: Drop,
+    F: Parser<I, Output = A> + Drop,
+    O: Drop,
+    G: Fn(A) -> Result<O, X>,
+> Parser<I> for MapRes<F, G>
 where
     F::Error: FromExternalError<I, X>,
 {
@@ -118,6 +130,10 @@ where
     ghost Tree = { F.Tree };
 
     ghost grammar = { λ s. map_res_by F.Error.externals (G.pre s.1) (G.post s.1) (F.grammar s.0) };
+
+    ghost word = { λ s. Words.map_res_of F.Error.externals (G.pre s.1) (G.post s.1) (F.word s.0) };
+
+    ghost worded = { λ s. Words.map_res_worded F.Error.externals (G.pre s.1) (G.post s.1) (F.worded s.0) };
 
     ghost Besides = { λ mode old new i. JudgedBesides (F.Besides (with_outputs true mode) old.parser new.parser i) };
 
@@ -146,14 +162,15 @@ where
 impl<
     I: Items,
     X: Drop,
-    F: StreamParser<I> + Drop,
+    A: Viewed + Drop,
+    F: StreamParser<I, Output = A> + Drop,
     O: Viewed + Drop,
-    G: Fn(F::Output) -> Result<O, X>,
+    G: Fn(A) -> Result<O, X>,
 > StreamParser<I> for MapRes<F, G>
 where
     F::Error: FromExternalError<I, X>,
 {
-    ghost Pins = { λ p. F.Pins p.parser × SeesAlike F.Output.view O.view (λ a o. G.post p.map a (Ok o)) };
+    ghost Pins = { λ p. F.Pins p.parser × SeesAlike A.view O.view (λ a o. G.post p.map a (Ok o)) };
 
     ghost pinned = { λ p k h. given_pinned (F.pinned p.parser k.0 h.0) h.1 };
 

@@ -2,6 +2,7 @@
 ghost use Rattle.nom_internal.specs.Closures.{SeesAlike};
 ghost use Rattle.nom_internal.specs.Mapped.{map_by};
 ghost use Rattle.nom_internal.specs.laws.MappedLaws.{given_pinned, map_lawful, map_steady};
+ghost use Rattle.nom_internal.specs.Words as Words;
 
 use crate::parser::{Parser, StreamParser};
 use nom_error::answer::PResult;
@@ -16,7 +17,8 @@ pub struct Map<F, G> {
     pub map: G,
 }
 
-impl<I: Items, F: Parser<I> + Drop, O: Drop, G: Fn(F::Output) -> O> Parser<I> for Map<F, G> {
+impl<I: Items, A: Drop, F: Parser<I, Output = A> + Drop, O: Drop, G: Fn(A) -> O> Parser<I>
+    for Map<F, G> {
     type Output = O;
 
     type Error = F::Error;
@@ -28,6 +30,10 @@ impl<I: Items, F: Parser<I> + Drop, O: Drop, G: Fn(F::Output) -> O> Parser<I> fo
     ghost Tree = { F.Tree };
 
     ghost grammar = { λ s. map_by (G.pre s.1) (G.post s.1) (F.grammar s.0) };
+
+    ghost word = { λ s. Words.map_of (G.pre s.1) (G.post s.1) (F.word s.0) };
+
+    ghost worded = { λ s. Words.map_worded (G.pre s.1) (G.post s.1) (F.worded s.0) };
 
     ghost Besides = { λ mode old new. F.Besides mode old.parser new.parser };
 
@@ -43,9 +49,14 @@ impl<I: Items, F: Parser<I> + Drop, O: Drop, G: Fn(F::Output) -> O> Parser<I> fo
     ghost lawful = { λ s k. map_lawful (F.lawful s.0 k) };
 }
 
-impl<I: Items, F: StreamParser<I> + Drop, O: Viewed + Drop, G: Fn(F::Output) -> O> StreamParser<I>
-    for Map<F, G> {
-    ghost Pins = { λ p. F.Pins p.parser × SeesAlike F.Output.view O.view (G.post p.map) };
+impl<
+    I: Items,
+    A: Viewed + Drop,
+    F: StreamParser<I, Output = A> + Drop,
+    O: Viewed + Drop,
+    G: Fn(A) -> O,
+> StreamParser<I> for Map<F, G> {
+    ghost Pins = { λ p. F.Pins p.parser × SeesAlike A.view O.view (G.post p.map) };
 
     ghost pinned = { λ p k h. given_pinned (F.pinned p.parser k h.0) h.1 };
 

@@ -5,6 +5,7 @@ ghost use Rattle.nom_internal.specs.Grammar.{GivesAt, Grammar, Parses, Shows};
 ghost use Rattle.nom_internal.specs.Meaning.{IsLawful, IsSteady};
 ghost use Rattle.nom_internal.specs.Pinned.{IsPinned};
 ghost use Rattle.nom_internal.specs.Results.{IsFull, HoldsSame, rest_of};
+ghost use Rattle.nom_internal.specs.Word.{Answers, Word};
 
 use crate::and_then::AndThen;
 use crate::either::Or;
@@ -43,6 +44,11 @@ pub trait Parser<I: Items>: Sized {
     /// The grammar of the parser: its meaning, and the outputs that a tree represents.
     ghost grammar: { State → Grammar I Tree Self.Output Self.Error };
 
+    /// The word of that grammar. A contract that states it is found to hold.
+    ghost word: { State → Word I Self.Output Self.Error };
+
+    ghost worded: { (s : State) → word s ≡ record { Tree = Tree; grammar = grammar s } };
+
     /// The condition that a call must prove in addition to its outcome.
     ///
     /// It depends on the mode, the parser before and after, the input, and the accepted rest.
@@ -71,6 +77,7 @@ pub trait Parser<I: Items>: Sized {
     #[inline(always)]
     final fn parse(&mut self, input: I) -> IResult<I, Self::Output, Self::Error>
         requires runs { (grammar (state self.old)).meaning.Runs }
+        ensures written { Answers I.model (word (state self.old)) true input result }
         ensures shown { Parses I.model (grammar (state self.old)) true input result }
         // So what is accepted tells of the output, as how long a slice is, without a proof.
         ensures output { IfOk result (λ accepted. GivesAt (grammar (state self.old)) true input accepted.1) }
@@ -84,6 +91,7 @@ pub trait Parser<I: Items>: Sized {
     #[inline(always)]
     final fn parse_complete(&mut self, input: I) -> IResult<I, Self::Output, Self::Error>
         requires runs { (grammar (state self.old)).meaning.Runs }
+        ensures written { Answers I.model (word (state self.old)) false input result }
         ensures shown { Parses I.model (grammar (state self.old)) false input result }
         ensures output { IfOk result (λ accepted. GivesAt (grammar (state self.old)) false input accepted.1) }
         ensures kept { state self.new ≡ state self.old }

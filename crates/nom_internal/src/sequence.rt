@@ -2,6 +2,7 @@
 ghost use Rattle.std.specs.Prelude.{◌≡◌, Some, None};
 ghost use Rattle.nom_internal.specs.Results.{ThenBesides};
 ghost use Rattle.nom_internal.specs.Sequence.{pair_of};
+ghost use Rattle.nom_internal.specs.Words as Words;
 
 use crate::parser::{Parser, StreamParser};
 use nom_error::answer::PResult;
@@ -41,6 +42,10 @@ impl<I: Items, F: Parser<I> + Drop, G: Parser<I, Error = F::Error> + Drop> Parse
     ghost Tree = { F.Tree × G.Tree };
 
     ghost grammar = { λ s. pair_of I.model (F.grammar s.0) (G.grammar s.1) };
+
+    ghost word = { λ s. Words.pair_of I.model (F.word s.0) (G.word s.1) };
+
+    ghost worded = { λ s. Words.pair_worded I.model (F.worded s.0) (G.worded s.1) };
 
     ghost Besides = { λ mode old new i. ThenBesides (F.Besides mode old.first new.first i) (G.Besides mode old.second new.second) };
 

@@ -11,6 +11,7 @@ ghost use Rattle.nom_internal.specs.Results.{rest_of, with_output, ThenBesides};
 ghost use Rattle.nom_internal.specs.Tuples.{tuple_of};
 ghost use Rattle.nom_internal.specs.Pinned.{pair_pinned};
 ghost use Rattle.nom_internal.specs.laws.TupleLaws.{built_lawful, pair_lawful, built_steady, pair_steady, flat_pinned, single_pinned};
+ghost use Rattle.nom_internal.specs.Words as Words;
 
 use crate::built::built;
 use crate::parser::{Parser, StreamParser};
@@ -50,6 +51,10 @@ impl<I: Items, A: Parser<I>> Parser<I> for (A,) {
 
     ghost grammar = { λ s. tuple_of (λ o. o.0) (A.grammar s) };
 
+    ghost word = { λ s. Words.tuple_of (λ o. o.0) (A.word s) };
+
+    ghost worded = { λ s. Words.tuple_worded (λ o. o.0) (A.worded s) };
+
     ghost Besides = { λ mode old new i. A.Besides (with_outputs true mode) old.0 new.0 i };
 
     #[inline(always)]
@@ -81,6 +86,10 @@ impl<I: Items, A: Parser<I>, B: Parser<I, Error = A::Error>> Parser<I> for (A, B
     ghost Tree = { A.Tree × B.Tree };
 
     ghost grammar = { λ s. tuple_of (λ o. (o.0, o.1)) (pair_of I.model (A.grammar s.0) (B.grammar s.1)) };
+
+    ghost word = { λ s. Words.tuple_of (λ o. (o.0, o.1)) (Words.pair_of I.model (A.word s.0) (B.word s.1)) };
+
+    ghost worded = { λ s. Words.tuple_worded (λ o. (o.0, o.1)) (Words.pair_worded I.model (A.worded s.0) (B.worded s.1)) };
 
     ghost Besides = { λ mode old new i. ThenBesides (A.Besides (with_outputs true mode) old.0 new.0 i) (B.Besides (with_outputs true mode) old.1 new.1) };
 
@@ -118,6 +127,12 @@ impl<I: Items, A: Parser<I>, B: Parser<I, Error = A::Error>, C: Parser<I, Error 
     ghost Tree = { (A.Tree × B.Tree) × C.Tree };
 
     ghost grammar = { λ s. tuple_of (λ o. ((o.0, o.1), o.2)) (pair_of I.model (pair_of I.model (A.grammar s.0) (B.grammar s.1)) (C.grammar s.2)) };
+
+    ghost word = { λ s. Words.tuple_of (λ o. ((o.0, o.1), o.2)) (Words.pair_of I.model (Words.pair_of I.model (A.word s.0) (B.word s.1)) (C.word
+        s.2)) };
+
+    ghost worded = { λ s. Words.tuple_worded (λ o. ((o.0, o.1), o.2)) (Words.pair_worded I.model (Words.pair_worded I.model (A.worded s.0) (B.worded
+        s.1)) (C.worded s.2)) };
 
     ghost Besides = { λ mode old new i. ThenBesides (ThenBesides (A.Besides (with_outputs true mode) old.0 new.0 i)
         (B.Besides (with_outputs true mode) old.1 new.1)) (C.Besides (with_outputs true mode) old.2 new.2) };
@@ -166,6 +181,12 @@ impl<
 
     ghost grammar = { λ s. tuple_of (λ o. (((o.0, o.1), o.2), o.3))
         (pair_of I.model (pair_of I.model (pair_of I.model (A.grammar s.0) (B.grammar s.1)) (C.grammar s.2)) (D.grammar s.3)) };
+
+    ghost word = { λ s. Words.tuple_of (λ o. (((o.0, o.1), o.2), o.3)) (Words.pair_of I.model (Words.pair_of I.model (Words.pair_of I.model (A.word
+        s.0) (B.word s.1)) (C.word s.2)) (D.word s.3)) };
+
+    ghost worded = { λ s. Words.tuple_worded (λ o. (((o.0, o.1), o.2), o.3)) (Words.pair_worded I.model (Words.pair_worded I.model (Words.pair_worded
+        I.model (A.worded s.0) (B.worded s.1)) (C.worded s.2)) (D.worded s.3)) };
 
     ghost Besides = { λ mode old new i. ThenBesides (ThenBesides (ThenBesides (A.Besides (with_outputs true mode) old.0 new.0 i)
         (B.Besides (with_outputs true mode) old.1 new.1)) (C.Besides (with_outputs true mode) old.2 new.2))

@@ -7,6 +7,7 @@ ghost use Rattle.nom_internal.specs.Sequence.{pair_of};
 ghost use Rattle.nom_internal.specs.Tuples.{tuple_of};
 ghost use Rattle.nom_internal.specs.Pinned.{pair_pinned};
 ghost use Rattle.nom_internal.specs.laws.TupleLaws.{built_lawful, pair_lawful, built_steady, pair_steady, flat_pinned};
+ghost use Rattle.nom_internal.specs.Words as Words;
 
 use crate::built::built;
 use crate::parser::{Parser, StreamParser};
@@ -36,6 +37,12 @@ impl<
     ghost grammar = { λ s. tuple_of (λ o. ((((o.0, o.1), o.2), o.3), o.4))
         (pair_of I.model (pair_of I.model (pair_of I.model (pair_of I.model (A.grammar s.0) (B.grammar s.1)) (C.grammar s.2)) (D.grammar s.3))
         (E.grammar s.4)) };
+
+    ghost word = { λ s. Words.tuple_of (λ o. ((((o.0, o.1), o.2), o.3), o.4)) (Words.pair_of I.model (Words.pair_of I.model (Words.pair_of I.model
+        (Words.pair_of I.model (A.word s.0) (B.word s.1)) (C.word s.2)) (D.word s.3)) (E.word s.4)) };
+
+    ghost worded = { λ s. Words.tuple_worded (λ o. ((((o.0, o.1), o.2), o.3), o.4)) (Words.pair_worded I.model (Words.pair_worded I.model
+        (Words.pair_worded I.model (Words.pair_worded I.model (A.worded s.0) (B.worded s.1)) (C.worded s.2)) (D.worded s.3)) (E.worded s.4)) };
 
     ghost Besides = { λ mode old new i. ThenBesides (ThenBesides (ThenBesides (ThenBesides (A.Besides (with_outputs true mode) old.0 new.0 i)
         (B.Besides (with_outputs true mode) old.1 new.1)) (C.Besides (with_outputs true mode) old.2 new.2))
@@ -103,6 +110,13 @@ impl<
     ghost grammar = { λ s. tuple_of (λ o. (((((o.0, o.1), o.2), o.3), o.4), o.5))
         (pair_of I.model (pair_of I.model (pair_of I.model (pair_of I.model (pair_of I.model (A.grammar s.0) (B.grammar s.1)) (C.grammar s.2))
         (D.grammar s.3)) (E.grammar s.4)) (F.grammar s.5)) };
+
+    ghost word = { λ s. Words.tuple_of (λ o. (((((o.0, o.1), o.2), o.3), o.4), o.5)) (Words.pair_of I.model (Words.pair_of I.model (Words.pair_of
+        I.model (Words.pair_of I.model (Words.pair_of I.model (A.word s.0) (B.word s.1)) (C.word s.2)) (D.word s.3)) (E.word s.4)) (F.word s.5)) };
+
+    ghost worded = { λ s. Words.tuple_worded (λ o. (((((o.0, o.1), o.2), o.3), o.4), o.5)) (Words.pair_worded I.model (Words.pair_worded I.model
+        (Words.pair_worded I.model (Words.pair_worded I.model (Words.pair_worded I.model (A.worded s.0) (B.worded s.1)) (C.worded s.2)) (D.worded
+        s.3)) (E.worded s.4)) (F.worded s.5)) };
 
     ghost Besides = { λ mode old new i. ThenBesides (ThenBesides (ThenBesides (ThenBesides (ThenBesides (A.Besides (with_outputs true mode) old.0 new.0 i)
         (B.Besides (with_outputs true mode) old.1 new.1)) (C.Besides (with_outputs true mode) old.2 new.2))
@@ -178,6 +192,14 @@ impl<
     ghost grammar = { λ s. tuple_of (λ o. ((((((o.0, o.1), o.2), o.3), o.4), o.5), o.6))
         (pair_of I.model (pair_of I.model (pair_of I.model (pair_of I.model (pair_of I.model (pair_of I.model (A.grammar s.0) (B.grammar s.1))
         (C.grammar s.2)) (D.grammar s.3)) (E.grammar s.4)) (F.grammar s.5)) (G.grammar s.6)) };
+
+    ghost word = { λ s. Words.tuple_of (λ o. ((((((o.0, o.1), o.2), o.3), o.4), o.5), o.6)) (Words.pair_of I.model (Words.pair_of I.model
+        (Words.pair_of I.model (Words.pair_of I.model (Words.pair_of I.model (Words.pair_of I.model (A.word s.0) (B.word s.1)) (C.word s.2)) (D.word
+        s.3)) (E.word s.4)) (F.word s.5)) (G.word s.6)) };
+
+    ghost worded = { λ s. Words.tuple_worded (λ o. ((((((o.0, o.1), o.2), o.3), o.4), o.5), o.6)) (Words.pair_worded I.model (Words.pair_worded
+        I.model (Words.pair_worded I.model (Words.pair_worded I.model (Words.pair_worded I.model (Words.pair_worded I.model (A.worded s.0) (B.worded
+        s.1)) (C.worded s.2)) (D.worded s.3)) (E.worded s.4)) (F.worded s.5)) (G.worded s.6)) };
 
     ghost Besides = { λ mode old new i.
         ThenBesides (ThenBesides (ThenBesides (ThenBesides (ThenBesides (ThenBesides (A.Besides (with_outputs true mode) old.0 new.0 i)
@@ -259,6 +281,15 @@ impl<
     ghost grammar = { λ s. tuple_of (λ o. (((((((o.0, o.1), o.2), o.3), o.4), o.5), o.6), o.7))
         (pair_of I.model (pair_of I.model (pair_of I.model (pair_of I.model (pair_of I.model (pair_of I.model (pair_of I.model (A.grammar s.0)
         (B.grammar s.1)) (C.grammar s.2)) (D.grammar s.3)) (E.grammar s.4)) (F.grammar s.5)) (G.grammar s.6)) (H.grammar s.7)) };
+
+    ghost word = { λ s. Words.tuple_of (λ o. (((((((o.0, o.1), o.2), o.3), o.4), o.5), o.6), o.7)) (Words.pair_of I.model (Words.pair_of I.model
+        (Words.pair_of I.model (Words.pair_of I.model (Words.pair_of I.model (Words.pair_of I.model (Words.pair_of I.model (A.word s.0) (B.word s.1))
+        (C.word s.2)) (D.word s.3)) (E.word s.4)) (F.word s.5)) (G.word s.6)) (H.word s.7)) };
+
+    ghost worded = { λ s. Words.tuple_worded (λ o. (((((((o.0, o.1), o.2), o.3), o.4), o.5), o.6), o.7)) (Words.pair_worded I.model
+        (Words.pair_worded I.model (Words.pair_worded I.model (Words.pair_worded I.model (Words.pair_worded I.model (Words.pair_worded I.model
+        (Words.pair_worded I.model (A.worded s.0) (B.worded s.1)) (C.worded s.2)) (D.worded s.3)) (E.worded s.4)) (F.worded s.5)) (G.worded s.6))
+        (H.worded s.7)) };
 
     ghost Besides = { λ mode old new i.
         ThenBesides (ThenBesides (ThenBesides (ThenBesides (ThenBesides (ThenBesides (ThenBesides (A.Besides (with_outputs true mode) old.0 new.0 i)

@@ -1,12 +1,10 @@
 -- The first byte from a place on.
 use Rattle.std.specs.Prelude.{◌≡◌, ℕ, suc, ◌+◌, ◌-◌, ◌==◌, ◌<◌, ◌≤◌, Bool, true, false, if◌then◌else◌, List, [], ◌∷◌}
-use Rattle.std.specs.Prelude.{Option, None, Some, Result, Ok, Err, IfOk, IfErr, length, drop, slice_index, refl}
+use Rattle.std.specs.Prelude.{Option, None, Some, length, drop, slice_index, refl}
 use Rattle.std.proofs.Common.{arith, sym, ◌∙◌, ap, length-drop}
 use Rattle.std.proofs.lemmas.List.{drop_more, drop_all}
 use Rattle.nom_json_run.specs.Json.{after_digits, after_hex, after_sign, after_minus, after_spaces, after_word, begins, first_is}
 use Rattle.nom_json_run.specs.Json.{is_digit, is_hex, is_sign, is_space, rest}
-use Rattle.nom_json_run.specs.Scans.{LeadsTo}
-use Rattle.nom_json_run.specs.declared.bracket.Fault.{Fault}
 
 pub first_at : (test : ℕ → Bool) (bs : List ℕ) (i : ℕ) → i < length bs → first_is test (drop i bs) ≡ test (slice_index bs i)
 first_at test bs i h = ap (first_is test) (drop_more bs i 0 h)
@@ -60,17 +58,6 @@ sign_taken bs i e = sym (ap (λ t. if t then rest (drop i bs) else drop i bs) e 
 pub minus_taken : (bs : List ℕ) (i : ℕ) → begins 45 (drop i bs) ≡ true → drop (i + 1) bs ≡ after_minus (drop i bs)
 minus_taken bs i e = sym (ap (λ t. if t then rest (drop i bs) else drop i bs) e ∙ rest_at (λ b. b == 45) bs i e)
 
--- from one place to an earlier one, and from one part to another
-pub reach_map : (bs : List ℕ) (r : Result ℕ Fault) (a b : Option (List ℕ)) (i j : ℕ) → i ≤ j → b ≡ a → IfOk r (λ n. LeadsTo bs a j n) →
-    IfOk r (λ n. LeadsTo bs b i n)
-reach_map bs (Ok n) a b i j le e h = record { begins = omega (arith, h.begins, le); within = h.within; follows = e ∙ h.follows }
-reach_map bs (Err f) a b i j le e h = h
-
-pub fail_map : (bs : List ℕ) (r : Result ℕ Fault) (a b : Option (List ℕ)) → b ≡ a → IfErr r (λ f. (a ≡ None) × (f.at ≤ length bs)) →
-    IfErr r (λ f. (b ≡ None) × (f.at ≤ length bs))
-fail_map bs (Ok n) a b e h = h
-fail_map bs (Err f) a b e h = (e ∙ h.0, h.1)
-
 hex_count : (k : ℕ) → k < 4 → 4 - k ≡ suc (4 - (k + 1))
 hex_count k h = omega (arith, h)
 
@@ -109,3 +96,6 @@ word_stop w bs s k h e = ap (λ v. after_word v (drop (s + k) bs)) (drop_more w 
 
 pub word_end : (w bs : List ℕ) (s k : ℕ) → length w ≤ k → after_word (drop k w) (drop (s + k) bs) ≡ Some (drop (s + k) bs)
 word_end w bs s k h = ap (λ v. after_word v (drop (s + k) bs)) (drop_all k w h)
+
+pub hex_end : (bs : List ℕ) (s k : ℕ) → k ≡ 4 → after_hex (4 - k) (drop (s + k) bs) ≡ Some (drop (s + 4) bs)
+hex_end bs s k e = ap (λ n. after_hex (4 - n) (drop (s + n) bs)) e

@@ -4,8 +4,8 @@ use Rattle.std.specs.Prelude.{◌↔◌, Contains, IsTrue}
 use Rattle.nom_error.specs.declared.kind.ErrorKind.TheVariants as Kind
 use Rattle.nom_internal.specs.Prelude.{ErrorKind, Slice, bytes_model}
 use Rattle.nom_bytes.specs.ParsedRuns.{run1_meaning}
-use Rattle.nom.specs.Grammar.{sliced}
-use Rattle.nom.specs.Bytes.{BytesGrammar, map_of, opt_of, plain_errors, tag_of, terminated_of}
+use Rattle.nom.specs.grammars.Grammar.{sliced}
+use Rattle.nom.specs.grammars.Bytes.{BytesGrammar, map_of, opt_of, plain_errors, tag_of, terminated_of}
 use Rattle.nom_json_run.specs.Lines.{line_len, json_line_of}
 
 -- the grammar, by which bytes end a line, and the kind of a refusal

@@ -11,8 +11,8 @@ use Rattle.nom_stream.specs.declared.stream.Stop.TheVariants as Stop
 use Rattle.nom_stream.specs.declared.stream.Stream.{Stream}
 use Rattle.nom_stream.specs.Held.{last_of}
 use Rattle.nom_stream.specs.Streams.{Decides}
-use Rattle.nom_json_run.specs.Lines.{BeginsLine, BeginsNext, BeginsText, CheckedLines, Going, IsLine, IsLineText, IsUnread, LacksNext, ListsLine}
-use Rattle.nom_json_run.specs.Lines.{ReadsNoLine, TellsLine, ToldLines, json_line_of}
+use Rattle.nom_json_run.specs.Lines.{BeginsLine, BeginsNext, CheckedLines, Going, IsLine, IsUnread, LacksNext, ListsLine, ReadsNoLine, ToldLines}
+use Rattle.nom_json_run.specs.Lines.{json_line_of, long_line}
 use Rattle.nom_json_run.specs.Lines.CheckedLines.{none, good, bad}
 
 module _ {R A : Type 0} (left : R → Option (List ℕ)) (s : Stream R A) where
@@ -20,7 +20,7 @@ module _ {R A : Type 0} (left : R → Option (List ℕ)) (s : Stream R A) where
   going_none held = record { text = []; lines = none; wrote = appends-none held }
 
   going_line : (t u : Stream R A) (held a b : Option (List ℕ)) (count n x : ℕ) (before then_ : Bool) (more : List ℕ) → Going left s t held a count before →
-      Decides left json_line_of t u (Ok (Some (n, x))) → IsLine (count + 1) (last_of n u.held) more before then_ → Appends a b more →
+      Decides left json_line_of t u (Ok (Some (n, x))) → IsLine (count + 1) x (last_of n u.held) more before then_ → Appends a b more →
       Going left s u held b (count + 1) then_
   going_line t u held a b count n x before then_ more g d (inl (j, e, w)) p = record {
     text = g.text;
@@ -34,7 +34,7 @@ module _ {R A : Type 0} (left : R → Option (List ℕ)) (s : Stream R A) where
   }
 
   pub going_on : (t u : Stream R A) (held a b : Option (List ℕ)) (count n x : ℕ) (before then_ : Bool) → Going left s t held a count before →
-      Decides left json_line_of t u (Ok (Some (n, x))) → ListsLine a b (count + 1) (last_of n u.held) before then_ → Going left s u held b (count + 1) then_
+      Decides left json_line_of t u (Ok (Some (n, x))) → ListsLine a b (count + 1) x (last_of n u.held) before then_ → Going left s u held b (count + 1) then_
   going_on t u held a b count n x before then_ g d h = going_line t u held a b count n x before then_ h.0 g d h.1 h.2
 
   pub ended : (t u : Stream R A) (held a : Option (List ℕ)) (count status : ℕ) (wrong : Bool) → Going left s t held a count wrong →
@@ -49,14 +49,14 @@ module _ {R A : Type 0} (left : R → Option (List ℕ)) (s : Stream R A) where
   }
 
   pub too_long : (t u : Stream R A) (held a b : Option (List ℕ)) (count status : ℕ) (wrong : Bool) → Going left s t held a count wrong →
-      Decides left json_line_of t u (Err Stop.TooLong) → status ≡ 3 → TellsLine a b (count + 1) → ToldLines left s u held b status
+      Decides left json_line_of t u (Err Stop.TooLong) → status ≡ 3 → Appends a b (long_line (count + 1)) → ToldLines left s u held b status
   too_long t u held a b count status wrong g d e h = record {
     count = count;
     before = t;
     text = g.text;
     wrong = wrong;
     lines = g.lines;
-    ends = inr (d, e, (h.0, h.1, appends-more held a b g.text h.0 g.wrote h.2));
+    ends = inr (d, e, appends-more held a b g.text (long_line (count + 1)) g.wrote h);
   }
 
 -- counts of failed writes: none failed, and then none did, or one
@@ -67,20 +67,20 @@ pub none_then_one : (f f' f'' k k' k'' : ℕ) → NoWriteFailed f f' k k' → Wr
 none_then_one f f' f'' k k' k'' h n = subst (λ a. WriteFailed a f'' k k'') h.0 (subst (λ b. WriteFailed f' f'' b k'') h.1 n)
 
 -- where a write failed, a beginning of what is told of a line was written
-pub line_begun : (F S : Type 0) (held held' : Option (List ℕ)) (number : ℕ) (bytes text : List ℕ) (before then_ : Bool) →
-    IsLine number bytes text before then_ → (e : RunError) → MatchRunError e ⊥ (WroteFront held held' text × F) ⊥ ⊥ →
-    MatchRunError e ⊥ (BeginsLine held held' number bytes before × F) S ⊥
-line_begun F S held held' number bytes text before then_ i Read h = absurd h
-line_begun F S held held' number bytes text before then_ i Write h = ((text, then_, i, h.0), h.1)
-line_begun F S held held' number bytes text before then_ i OutOfMemory h = absurd h
-line_begun F S held held' number bytes text before then_ i Usage h = absurd h
+pub line_begun : (F S : Type 0) (held held' : Option (List ℕ)) (number inside : ℕ) (bytes text : List ℕ) (before then_ : Bool) →
+    IsLine number inside bytes text before then_ → (e : RunError) → MatchRunError e ⊥ (WroteFront held held' text × F) ⊥ ⊥ →
+    MatchRunError e ⊥ (BeginsLine held held' number inside bytes before × F) S ⊥
+line_begun F S held held' number inside bytes text before then_ i Read h = absurd h
+line_begun F S held held' number inside bytes text before then_ i Write h = ((text, then_, i, h.0), h.1)
+line_begun F S held held' number inside bytes text before then_ i OutOfMemory h = absurd h
+line_begun F S held held' number inside bytes text before then_ i Usage h = absurd h
 
-pub text_begun : (F S : Type 0) (held held' : Option (List ℕ)) (number : ℕ) (text : List ℕ) → IsLineText number text → (e : RunError) →
-    MatchRunError e ⊥ (WroteFront held held' text × F) ⊥ ⊥ → MatchRunError e ⊥ (BeginsText held held' number × F) S ⊥
-text_begun F S held held' number text i Read h = absurd h
-text_begun F S held held' number text i Write h = ((text, i, h.0), h.1)
-text_begun F S held held' number text i OutOfMemory h = absurd h
-text_begun F S held held' number text i Usage h = absurd h
+pub long_begun : (F S : Type 0) (held held' : Option (List ℕ)) (number : ℕ) (text : List ℕ) → text ≡ long_line number → (e : RunError) →
+    MatchRunError e ⊥ (WroteFront held held' text × F) ⊥ ⊥ → MatchRunError e ⊥ (WroteFront held held' (long_line number) × F) S ⊥
+long_begun F S held held' number text i Read h = absurd h
+long_begun F S held held' number text i Write h = (subst (WroteFront held held') i h.0, h.1)
+long_begun F S held held' number text i OutOfMemory h = absurd h
+long_begun F S held held' number text i Usage h = absurd h
 
 -- What is told where there is no status, by what was told of the lines before; no write had failed then.
 module _ {R A W : Type 0} (left : R → Option (List ℕ)) (s t u : Stream R A) (holds : W → Option (List ℕ)) (failures stalls : W → ℕ) (old a b : W)
@@ -95,7 +95,7 @@ module _ {R A W : Type 0} (left : R → Option (List ℕ)) (s t u : Stream R A) 
   none_failed e = subst (λ z. NoWriteFailed (failures old) (failures z) (stalls old) (stalls z)) (sym e) writes
 
   pub on_list : (n x : ℕ) → Decides left json_line_of t u (Ok (Some (n, x))) → (e : RunError) →
-      MatchRunError e ⊥ (BeginsLine (holds a) (holds b) (count + 1) (last_of n u.held) wrong
+      MatchRunError e ⊥ (BeginsLine (holds a) (holds b) (count + 1) x (last_of n u.held) wrong
       × WriteFailed (failures a) (failures b) (stalls a) (stalls b)) (b ≡ a) ⊥ → Told e
   on_list n x d Read h = absurd h
   on_list n x d Write h = ((count, t, wrong, holds a, g, inl (n, x, d, h.0)), none_then_one _ _ _ _ _ _ writes h.1)
@@ -111,7 +111,7 @@ module _ {R A W : Type 0} (left : R → Option (List ℕ)) (s t u : Stream R A) 
   lacks why d (inr m) = (count, t, wrong, g, inr (inl (subst (λ z. Decides left json_line_of t u (Err z)) m d)))
 
   on_stop : (why : Stops.Stop) → Decides left json_line_of t u (Err why) → (e : RunError) →
-      MatchRunError e ((b ≡ a) × IsUnread why) ((why ≡ Stop.TooLong) × BeginsText (holds a) (holds b) (count + 1)
+      MatchRunError e ((b ≡ a) × IsUnread why) ((why ≡ Stop.TooLong) × WroteFront (holds a) (holds b) (long_line (count + 1))
       × WriteFailed (failures a) (failures b) (stalls a) (stalls b)) ((b ≡ a) × ((why ≡ Stop.OutOfMemory) ⊎ (why ≡ Stop.TooLong))) ⊥ → Told e
   on_stop why d Read h = (
     subst (λ z. ReadsNoLine left s u (holds old) (holds z)) (sym h.0) (count, t, wrong, g, inl (why, d, h.1)),
@@ -129,7 +129,7 @@ module _ {R A W : Type 0} (left : R → Option (List ℕ)) (s t u : Stream R A) 
 
   -- of what is told where no line comes
   pub on_stop_status : (why : Stops.Stop) → Decides left json_line_of t u (Err why) → (r : Result ℕ RunError) →
-      IfOk r (λ status. (why ≡ Stop.TooLong) × (status ≡ 3) × TellsLine (holds a) (holds b) (count + 1)
+      IfOk r (λ status. (why ≡ Stop.TooLong) × (status ≡ 3) × Appends (holds a) (holds b) (long_line (count + 1))
       × NoWriteFailed (failures a) (failures b) (stalls a) (stalls b)) →
       IfOk r (λ status. ToldLines left s u (holds old) (holds b) status × NoWriteFailed (failures old) (failures b) (stalls old) (stalls b))
   on_stop_status why d (Ok status) h = (
@@ -139,7 +139,7 @@ module _ {R A W : Type 0} (left : R → Option (List ℕ)) (s t u : Stream R A) 
   on_stop_status why d (Err e) h = tt
 
   pub on_stop_error : (why : Stops.Stop) → Decides left json_line_of t u (Err why) → (r : Result ℕ RunError) →
-      IfErr r (λ e. MatchRunError e ((b ≡ a) × IsUnread why) ((why ≡ Stop.TooLong) × BeginsText (holds a) (holds b) (count + 1)
+      IfErr r (λ e. MatchRunError e ((b ≡ a) × IsUnread why) ((why ≡ Stop.TooLong) × WroteFront (holds a) (holds b) (long_line (count + 1))
       × WriteFailed (failures a) (failures b) (stalls a) (stalls b)) ((b ≡ a) × ((why ≡ Stop.OutOfMemory) ⊎ (why ≡ Stop.TooLong))) ⊥) → IfErr r Told
   on_stop_error why d (Ok status) h = tt
   on_stop_error why d (Err e) h = on_stop why d e h

@@ -7,12 +7,13 @@ use Rattle.nom_json_run.specs.Json.{JsonCharacters, JsonInside, JsonItem, JsonSt
 use Rattle.nom_json_run.specs.Json.{opening, rest}
 use Rattle.nom_json_run.specs.Json.JsonValue.{null, truth, untruth, number, text, brackets}
 use Rattle.nom_json_run.specs.Json.JsonItem.{element, member}
-use Rattle.nom_json_run.specs.Scans.{EndsAtStop, EndsNowhere, EndsOnly}
+use Rattle.nom_json_run.specs.Scans.{EndsAtStop, EndsNowhere, EndsOnly, FailsAt, FailsFor}
 use Rattle.nom_json_run.specs.Walk.{IsWordAt}
 use Rattle.nom_json_run.specs.Walk.IsWordAt.{as_null, as_true, as_false}
 use Rattle.nom_json_run.specs.declared.bracket.Bracket.{Bracket}
 use Rattle.nom_json_run.specs.declared.bracket.Bracket.TheVariants.{Array, Object}
 use Rattle.nom_json_run.specs.declared.bracket.Fault.{Fault}
+use Rattle.nom_json_run.proofs.Alike.{fails_map, first_there, for_all}
 use Rattle.nom_json_run.proofs.Firsts.{rest_at}
 
 Rests : Type 0
@@ -176,19 +177,25 @@ text_value i e r h =
     let p = head_is 34 i e in
     subst (λ xs. JsonString xs r) (sym p) (text_from (rest i) r (subst (λ xs. JsonValue xs r) p h))
 
-pub text_ends : (bs i : List ℕ) (at : ℕ) (x : Result ℕ Fault) → begins 34 i ≡ true → IfOk x (λ n. EndsAtStop bs (JsonString i) at n) →
-    IfOk x (λ n. EndsAtStop bs (JsonValue i) at n)
-text_ends bs i at (Ok n) e h = record {
+pub text_ends : (bytes : List ℕ) (at : ℕ) (x : Result ℕ Fault) → begins 34 (drop at bytes) ≡ true → IfOk x (λ n. EndsAtStop bytes JsonString at n) →
+    IfOk x (λ n. EndsAtStop bytes JsonValue at n)
+text_ends bytes at (Ok n) e h = record {
   begins = h.begins;
   within = h.within;
-  ends = λ r. (λ v. (h.ends r).0 (text_value i e r v), λ f. text ((h.ends r).1 f));
+  ends = λ bs s r.
+      let f = first_there (λ b. b == 34) bytes bs at n true (omega (arith, h.begins)) s e in
+      (λ v. (h.ends bs s r).0 (text_value (drop at bs) f r v), λ g. text ((h.ends bs s r).1 g));
 }
-text_ends bs i at (Err x) e h = h
+text_ends bytes at (Err x) e h = h
 
-pub text_fails : (bs i : List ℕ) (x : Result ℕ Fault) → begins 34 i ≡ true → IfErr x (λ f. EndsNowhere (JsonString i) × (f.at ≤ length bs)) →
-    IfErr x (λ f. EndsNowhere (JsonValue i) × (f.at ≤ length bs))
-text_fails bs i (Ok n) e h = h
-text_fails bs i (Err x) e h = (λ r v. h.0 r (text_value i e r v), h.1)
+pub text_fails : (bytes : List ℕ) (at : ℕ) (x : Result ℕ Fault) → begins 34 (drop at bytes) ≡ true →
+    IfErr x (FailsAt bytes (λ i. EndsNowhere (JsonString i)) at) → IfErr x (FailsFor bytes (λ i. EndsNowhere (JsonValue i)) at)
+text_fails bytes at (Ok n) e h = h
+text_fails bytes at (Err x) e h =
+    let le : at ≤ at = omega arith in
+    for_all bytes (λ i. EndsNowhere (JsonValue i)) at x (
+    fails_map bytes (λ i. EndsNowhere (JsonString i)) (λ i. EndsNowhere (JsonValue i)) at at x le
+    (λ bs s none r v. none r (text_value (drop at bs) (first_there (λ b. b == 34) bytes bs at at true le s e) r v)) h)
 
 -- a string, by its characters
 pub string_only : (bs : List ℕ) (at stop n : ℕ) → begins 34 (drop at bs) ≡ true → EndsOnly (JsonCharacters (drop (at + 1) bs)) (drop stop bs) →

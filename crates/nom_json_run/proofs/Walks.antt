@@ -1,14 +1,17 @@
 -- Steps through a text, by the brackets that lie open.
-use Rattle.std.specs.Prelude.{◌≡◌, ℕ, ◌<◌, ◌↔◌, true, false, List, [], ◌∷◌, ◌++◌, length, drop, refl}
+use Rattle.std.specs.Prelude.{◌≡◌, ℕ, ◌+◌, ◌==◌, ◌<◌, ◌≤◌, ◌↔◌, true, false, List, [], ◌∷◌, ◌++◌, length, drop, refl}
 use Rattle.std.proofs.Common.{arith, sym, ◌∙◌, ap, subst, inl, inr, reverse, length-drop}
 use Rattle.std.proofs.lemmas.List.{reverse-append}
 use Rattle.nom_json_run.specs.Json.{JsonInside, JsonItem, JsonItems, JsonValue, after_spaces, begins, closing, opening, rest}
 use Rattle.nom_json_run.specs.Json.JsonValue.{brackets}
 use Rattle.nom_json_run.specs.Json.JsonInside.{nothing, some}
 use Rattle.nom_json_run.specs.Json.JsonItems.{last, more}
+use Rattle.nom_json_run.specs.Scans.{BeginsAs}
 use Rattle.nom_json_run.specs.Walk.{ClosesAll, ClosesAfter, ClosesInside, Further}
 use Rattle.nom_json_run.specs.declared.bracket.Bracket.{Bracket}
 use Rattle.nom_json_run.specs.declared.bracket.Bracket.TheVariants.{Array, Object}
+use Rattle.nom_json_run.proofs.Alike.{first_there}
+use Rattle.nom_json_run.proofs.Firsts.{rest_at}
 use Rattle.nom_json_run.proofs.Values.{bracket_from, differ, item_none, one_head}
 
 pub inner_push : (xs ys : List Bracket) (b : Bracket) → ys ≡ xs ++ b ∷ [] → reverse ys ≡ b ∷ reverse xs
@@ -30,6 +33,14 @@ opened o inner i j e s = (
   λ h. subst (ClosesInside o inner) (sym s) (opened_to o inner i e h),
   λ h. let g = subst (ClosesInside o inner) s h in (after_spaces g.0, brackets o g.0 e g.1 refl, g.2),
 )
+
+-- the same of all bytes that begin so
+pub opened_in : (o : Bracket) (inner : List Bracket) (bytes : List ℕ) (at inside : ℕ) → at + 1 ≤ inside → begins (opening o) (drop at bytes) ≡ true →
+    ((bs : List ℕ) → BeginsAs bytes inside bs → drop inside bs ≡ after_spaces (drop (at + 1) bs)) → (bs : List ℕ) → BeginsAs bytes inside bs →
+    ClosesAfter (JsonValue (drop at bs)) inner ↔ ClosesInside o inner (drop inside bs)
+opened_in o inner bytes at inside le e follows bs s =
+    let there = first_there (λ b. b == opening o) bytes bs at inside true (omega (arith, le)) s e in
+    opened o inner (drop at bs) (drop inside bs) there (follows bs s ∙ ap after_spaces (sym (rest_at (λ b. b == opening o) bs at there)))
 
 items_none : (o : Bracket) (i j : List ℕ) → begins (closing o) i ≡ true → JsonItems o i j → ⊥
 items_none o i j e (last it) = item_none o i e j it
@@ -100,6 +111,13 @@ comma_on o inner r i b s = (
   λ h. subst (λ xs. ClosesAfter (JsonItem o xs) (o ∷ inner)) (sym s) (comma_to o inner r h.0 b h.1 h.2 h.3),
   λ h. let c = h.2 in (c.0, inr (b, subst (λ xs. JsonItems o xs c.0) s (items_from o i h.0 c.0 h.1 c.1)), c.2, c.3),
 )
+
+pub comma_in : (o : Bracket) (inner : List Bracket) (bytes : List ℕ) (at item : ℕ) → at + 1 ≤ item → begins 44 (drop at bytes) ≡ true →
+    ((bs : List ℕ) → BeginsAs bytes item bs → drop item bs ≡ after_spaces (drop (at + 1) bs)) → (bs : List ℕ) → BeginsAs bytes item bs →
+    ClosesAll (o ∷ inner) (drop at bs) ↔ ClosesAfter (JsonItem o (drop item bs)) (o ∷ inner)
+comma_in o inner bytes at item le e follows bs s =
+    let there = first_there (λ b. b == 44) bytes bs at item true (omega (arith, le)) s e in
+    comma_on o inner (drop at bs) (drop item bs) there (follows bs s ∙ ap after_spaces (sym (rest_at (λ b. b == 44) bs at there)))
 
 neither_to : (o : Bracket) (r j : List ℕ) → begins (closing o) r ≡ false → begins 44 r ≡ false → Further o r j → begins (closing o) j ≡ true → ⊥
 neither_to o r j n m (inl p) e = differ (begins (closing o) r) (subst (λ xs. begins (closing o) xs ≡ true) (sym p) e) n

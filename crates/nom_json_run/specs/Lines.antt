@@ -1,17 +1,24 @@
 -- JSON Lines: what is told of lines that come one after another.
-use Rattle.std.specs.Prelude.{◌≡◌, ℕ, ◌+◌, ◌-◌, ◌^◌, ◌⊎◌, Bool, true, false, if◌then◌else◌, List, [], ◌∷◌, ◌++◌, length, Option, None, Some, Ok, Err, codes}
+use Rattle.std.specs.Prelude.{◌≡◌, ℕ, ◌+◌, ◌-◌, ◌^◌, ◌==◌, ◌⊎◌, min, Bool, true, false, if◌then◌else◌, List, [], ◌∷◌, ◌++◌, length, take, count_by}
+use Rattle.std.specs.Prelude.{IsUtf8, Option, None, Some, Ok, Err, codes}
 use Rattle.std.specs.Borrow.{Bor}
 use Rattle.std.specs.Fmt.{decimal}
 use Rattle.std.specs.Io.KnownBytes.{Appends}
+use Rattle.std.specs.List.{before_first}
+use Rattle.std.specs.Str.Lossy.{utf8_valid_len}
 use Rattle.nom_internal.specs.Prelude.{bytes_model, Slice}
-use Rattle.nom.specs.Bytes.{BytesGrammar, is_not_of, map_of, opt_of, tag_of, terminated_of}
+use Rattle.nom.specs.grammars.Bytes.{BytesGrammar, is_not_of, map_of, opt_of, tag_of, terminated_of}
+use Rattle.nom_located.specs.Lines.{begins_character}
 use Rattle.nom_run.specs.Stream.{WroteFront}
 use Rattle.nom_stream.specs.declared.stream.Stop as Stops
 use Rattle.nom_stream.specs.declared.stream.Stop.TheVariants as Stop
 use Rattle.nom_stream.specs.declared.stream.Stream.{Stream}
 use Rattle.nom_stream.specs.Held.{last_of}
 use Rattle.nom_stream.specs.Streams.{Decides}
+use Rattle.nom_json_run.specs.declared.bracket.Fault.{Fault}
 use Rattle.nom_json_run.specs.Json.{IsJson}
+use Rattle.nom_json_run.specs.Report.{IsOctetsReport, IsTextReport}
+use Rattle.nom_json_run.specs.Walk.{IsFault}
 
 -- the length of a line, without its end
 abbrev pub line_len : Option (Bor (List ℕ)) → ℕ
@@ -26,28 +33,42 @@ json_line_of = map_of line_len (terminated_of (opt_of (is_not_of (10 ∷ []))) (
 abbrev pub fault_line : (number column : ℕ) (message : List ℕ) → List ℕ
 fault_line number column message = decimal number ++ codes ":" ++ decimal column ++ codes ": " ++ message ++ codes "\n"
 
-abbrev pub IsLineText : (number : ℕ) → (text : List ℕ) → Type 0
-IsLineText number text = (column : ℕ) × (message : List ℕ) × (text ≡ fault_line number column message)
+-- for a line that is longer than may be held
+abbrev pub long_line : (number : ℕ) → List ℕ
+long_line number = fault_line number 1 (codes "error: the line is longer than may be held")
+
+-- by a report on the line: the column after some bytes, in characters and from 1 on, and the first line of the report
+abbrev pub report_line : (number : ℕ) (before report : List ℕ) → List ℕ
+report_line number before report = fault_line number (1 + count_by begins_character before) (before_first (λ b. b == 10) report)
+
+-- The text for a fault of a line with so many bytes before its end. What is missing behind the end is missing before it.
+abbrev pub IsFaultLine : (number inside : ℕ) (bytes : List ℕ) (fault : Fault) (text : List ℕ) → Type 0
+IsFaultLine number inside bytes fault text =
+    (report : List ℕ) × IsTextReport [] bytes fault report × (text ≡ report_line number (take (min fault.at inside) bytes) report)
+
+-- the text for a line of which the bytes are no text from a place on
+abbrev pub IsOctetsLine : (number : ℕ) (bytes : List ℕ) (at : ℕ) (text : List ℕ) → Type 0
+IsOctetsLine number bytes at text = (report : List ℕ) × IsOctetsReport [] bytes at report × (text ≡ report_line number (take at bytes) report)
+
+-- the text for a line: of the fault of the bytes; or of the first place from which on they are no text
+abbrev pub IsLineText : (number inside : ℕ) (bytes text : List ℕ) → Type 0
+IsLineText number inside bytes text =
+    (IsUtf8 bytes × ((fault : Fault) × IsFault bytes fault × IsFaultLine number inside bytes fault text)) ⊎
+    ((IsUtf8 bytes → ⊥) × IsOctetsLine number bytes (utf8_valid_len bytes) text)
 
 -- Of a line that is a JSON text nothing is told; of another its text. Whether any line was wrong, before and then.
-abbrev pub IsLine : (number : ℕ) (bytes text : List ℕ) (before then_ : Bool) → Type 0
-IsLine number bytes text before then_ =
-    (IsJson bytes × (text ≡ []) × (then_ ≡ before)) ⊎ ((IsJson bytes → ⊥) × IsLineText number text × (then_ ≡ true))
+abbrev pub IsLine : (number inside : ℕ) (bytes text : List ℕ) (before then_ : Bool) → Type 0
+IsLine number inside bytes text before then_ =
+    (IsJson bytes × (text ≡ []) × (then_ ≡ before)) ⊎ ((IsJson bytes → ⊥) × IsLineText number inside bytes text × (then_ ≡ true))
 
 -- what is told of a line was written
-abbrev pub ListsLine : (held held' : Option (List ℕ)) (number : ℕ) (bytes : List ℕ) (before then_ : Bool) → Type 0
-ListsLine held held' number bytes before then_ = (text : List ℕ) × IsLine number bytes text before then_ × Appends held held' text
-
-abbrev pub TellsLine : (held held' : Option (List ℕ)) (number : ℕ) → Type 0
-TellsLine held held' number = (text : List ℕ) × IsLineText number text × Appends held held' text
+abbrev pub ListsLine : (held held' : Option (List ℕ)) (number inside : ℕ) (bytes : List ℕ) (before then_ : Bool) → Type 0
+ListsLine held held' number inside bytes before then_ = (text : List ℕ) × IsLine number inside bytes text before then_ × Appends held held' text
 
 -- a beginning of it was, and not all
-abbrev pub BeginsLine : (held held' : Option (List ℕ)) (number : ℕ) (bytes : List ℕ) (before : Bool) → Type 0
-BeginsLine held held' number bytes before =
-    (text : List ℕ) × (then_ : Bool) × IsLine number bytes text before then_ × WroteFront held held' text
-
-abbrev pub BeginsText : (held held' : Option (List ℕ)) (number : ℕ) → Type 0
-BeginsText held held' number = (text : List ℕ) × IsLineText number text × WroteFront held held' text
+abbrev pub BeginsLine : (held held' : Option (List ℕ)) (number inside : ℕ) (bytes : List ℕ) (before : Bool) → Type 0
+BeginsLine held held' number inside bytes before =
+    (text : List ℕ) × (then_ : Bool) × IsLine number inside bytes text before then_ × WroteFront held held' text
 
 -- no line comes, other than for a limit or for want of memory: so it is where a read failed
 abbrev pub IsUnread : Stops.Stop → Type 0
@@ -66,7 +87,7 @@ pub data CheckedLines {R A : Type 0} (left : R → Option (List ℕ)) (s : Strea
   good : {count : ℕ} {t u : Stream R A} {n x : ℕ} {text : List ℕ} {wrong : Bool} → CheckedLines left s count t text wrong →
       Decides left json_line_of t u (Ok (Some (n, x))) → IsJson (last_of n u.held) → CheckedLines left s (count + 1) u text wrong
   bad : {count : ℕ} {t u : Stream R A} {n x : ℕ} {text more : List ℕ} {wrong : Bool} → CheckedLines left s count t text wrong →
-      Decides left json_line_of t u (Ok (Some (n, x))) → (IsJson (last_of n u.held) → ⊥) → IsLineText (count + 1) more →
+      Decides left json_line_of t u (Ok (Some (n, x))) → (IsJson (last_of n u.held) → ⊥) → IsLineText (count + 1) x (last_of n u.held) more →
       CheckedLines left s (count + 1) u (text ++ more) true
 
 module _ {R A : Type 0} (left : R → Option (List ℕ)) (s t : Stream R A) (held held' : Option (List ℕ)) where
@@ -85,8 +106,7 @@ pub record ToldLines {R A : Type 0} (left : R → Option (List ℕ)) (s t : Stre
   pub wrong : Bool
   pub lines : CheckedLines left s count before text wrong
   pub ends : (Decides left json_line_of before t (Ok None) × (status ≡ (if wrong then 1 else 0)) × Appends held held' text) ⊎
-      (Decides left json_line_of before t (Err Stop.TooLong) × (status ≡ 3) ×
-      ((more : List ℕ) × IsLineText (count + 1) more × Appends held held' (text ++ more)))
+      (Decides left json_line_of before t (Err Stop.TooLong) × (status ≡ 3) × Appends held held' (text ++ long_line (count + 1)))
 
 -- What was written where there is no status: what is told of the lines before one.
 module _ {R A : Type 0} (left : R → Option (List ℕ)) (s t : Stream R A) (held held' : Option (List ℕ)) where
@@ -98,8 +118,8 @@ module _ {R A : Type 0} (left : R → Option (List ℕ)) (s t : Stream R A) (hel
   -- and a beginning of what is told of that one
   abbrev pub BeginsNext : Type 0
   BeginsNext = (count : ℕ) × (before : Stream R A) × (wrong : Bool) × (between : Option (List ℕ)) × Going left s before held between count wrong ×
-      (((n x : ℕ) × Decides left json_line_of before t (Ok (Some (n, x))) × BeginsLine between held' (count + 1) (last_of n t.held) wrong) ⊎
-      (Decides left json_line_of before t (Err Stop.TooLong) × BeginsText between held' (count + 1)))
+      (((n x : ℕ) × Decides left json_line_of before t (Ok (Some (n, x))) × BeginsLine between held' (count + 1) x (last_of n t.held) wrong) ⊎
+      (Decides left json_line_of before t (Err Stop.TooLong) × WroteFront between held' (long_line (count + 1))))
 
   -- memory was wanted by the stream, or for what is told of that one
   abbrev pub LacksNext : Type 0

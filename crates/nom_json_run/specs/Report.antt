@@ -1,5 +1,5 @@
 -- The report on a file.
-use Rattle.std.specs.Prelude.{◌≡◌, ℕ, ◌-◌, ◌^◌, ◌≤◌, ◌⊎◌, false, List, [], ◌∷◌, length, drop, codes, IsUtf8, Result, Ok}
+use Rattle.std.specs.Prelude.{◌≡◌, ℕ, ◌-◌, ◌^◌, ◌⊎◌, false, List, [], ◌∷◌, length, drop, codes, IsUtf8, Result, Ok}
 use Rattle.std.specs.Borrow.{Bor}
 use Rattle.std.specs.Str.Lossy.{utf8_valid_len}
 use Rattle.nom_report.specs.declared.value.Report.{Report}
@@ -14,6 +14,7 @@ use Rattle.nom_json_run.specs.declared.bracket.Fault.{Fault}
 use Rattle.nom_json_run.specs.declared.bracket.Missing as Part
 use Rattle.nom_json_run.specs.declared.bracket.Missing.TheVariants as Missing
 use Rattle.nom_json_run.specs.Json.{IsJson, closing}
+use Rattle.nom_json_run.specs.Walk.{IsFault}
 
 -- what is wanted at a place, in this order, and nothing else, in no context
 pub record Wanting (place : Bor (List ℕ)) (wanted : List Wanted) (e : Report (Bor (List ℕ))) : Type 0 where
@@ -64,10 +65,10 @@ pub record IsOctetsReport (name bytes : List ℕ) (at : ℕ) (text : List ℕ) :
   pub wants : Wanting place (WantedLabel (codes "a character in UTF-8") ∷ []) error
   pub text_is : text ≡ octets_report name source error
 
--- the report on a fault within the bytes; or on the first place from which on they are no text
+-- the report on the fault of the bytes; or on the first place from which on they are no text
 abbrev pub IsFaultReport : (name bytes text : List ℕ) → Type 0
 IsFaultReport name bytes text =
-    (IsUtf8 bytes × ((fault : Fault) × (fault.at ≤ length bytes) × IsTextReport name bytes fault text)) ⊎
+    (IsUtf8 bytes × ((fault : Fault) × IsFault bytes fault × IsTextReport name bytes fault text)) ⊎
     ((IsUtf8 bytes → ⊥) × IsOctetsReport name bytes (utf8_valid_len bytes) text)
 
 -- nothing is told of a JSON text, with status 0; of all else there is a report, with status 1

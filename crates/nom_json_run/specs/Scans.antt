@@ -1,5 +1,9 @@
--- Where something ends that begins at a place of some bytes.
-use Rattle.std.specs.Prelude.{◌≡◌, ℕ, ◌<◌, ◌≤◌, ◌↔◌, List, Option, Some, length, drop}
+-- Where something ends that begins at a place of some bytes, and where it fails.
+use Rattle.std.specs.Prelude.{◌≡◌, ℕ, ◌+◌, ◌<◌, ◌≤◌, ◌↔◌, List, Option, None, Some, length, take, drop}
+use Rattle.nom_json_run.specs.declared.bracket.Fault.{Fault}
+use Rattle.nom_json_run.specs.declared.bracket.Missing as Part
+use Rattle.nom_json_run.specs.declared.bracket.Missing.TheVariants as Missing
+use Rattle.nom_json_run.specs.Json.{after_word}
 
 -- the list, and no other, is one that the relation holds of
 abbrev pub EndsOnly : (List ℕ → Type 0) → List ℕ → Type 0
@@ -9,18 +13,40 @@ EndsOnly Ends j = (r : List ℕ) → Ends r ↔ (r ≡ j)
 abbrev pub EndsNowhere : (List ℕ → Type 0) → Type 0
 EndsNowhere Ends = (r : List ℕ) → Ends r → ⊥
 
--- what follows a part that begins at `start` begins at `stop`
-pub record LeadsTo (bytes : List ℕ) (after : Option (List ℕ)) (start stop : ℕ) : Type 0 where
+-- bytes that begin as others do, up to a place, and with the byte there
+abbrev pub BeginsAs : (bytes : List ℕ) (at : ℕ) (bs : List ℕ) → Type 0
+BeginsAs bytes at bs = take (at + 1) bs ≡ take (at + 1) bytes
+
+-- What follows a part that begins at `start` begins at `stop`. So it is in all bytes that begin so.
+pub record LeadsTo (bytes : List ℕ) (after : List ℕ → Option (List ℕ)) (start stop : ℕ) : Type 0 where
   pub begins : start ≤ stop
   pub within : stop ≤ length bytes
-  pub follows : after ≡ Some (drop stop bytes)
+  pub follows : (bs : List ℕ) → BeginsAs bytes stop bs → after (drop start bs) ≡ Some (drop stop bs)
 
 -- a part of one byte at least, which begins at `start`, ends at `stop`, and nowhere else
-pub record EndsAtStop (bytes : List ℕ) (Ends : List ℕ → Type 0) (start stop : ℕ) : Type 0 where
+pub record EndsAtStop (bytes : List ℕ) (Ends : List ℕ → List ℕ → Type 0) (start stop : ℕ) : Type 0 where
   pub begins : start < stop
   pub within : stop ≤ length bytes
-  pub ends : EndsOnly Ends (drop stop bytes)
+  pub ends : (bs : List ℕ) → BeginsAs bytes stop bs → EndsOnly (Ends (drop start bs)) (drop stop bs)
 
 -- two relations hold of the same lists
 abbrev pub SameEnds : (Ends Others : List ℕ → Type 0) → Type 0
 SameEnds Ends Others = (r : List ℕ) → Ends r ↔ Others r
+
+-- No part stands at `start`, whatever follows the byte at the place of a fault.
+pub record FailsAt (bytes : List ℕ) (Fails : List ℕ → Type 0) (start : ℕ) (fault : Fault) : Type 0 where
+  pub begins : start ≤ fault.at
+  pub within : fault.at ≤ length bytes
+  pub fails : (bs : List ℕ) → BeginsAs bytes fault.at bs → Fails (drop start bs)
+
+-- what is missing isn't there: of a word its first letter may be
+abbrev pub IsMissing : Part.Missing → List ℕ → Type 0
+IsMissing (Missing.Word word) i = after_word word.now i ≡ None
+IsMissing missing i = Unit {0}
+
+-- No part stands at `start`, whatever follows the byte at the place of a fault, as long as what is missing is missing there.
+pub record FailsFor (bytes : List ℕ) (Fails : List ℕ → Type 0) (start : ℕ) (fault : Fault) : Type 0 where
+  pub begins : start ≤ fault.at
+  pub within : fault.at ≤ length bytes
+  pub here : Fails (drop start bytes)
+  pub fails : (bs : List ℕ) → BeginsAs bytes fault.at bs → IsMissing fault.missing (drop fault.at bs) → Fails (drop start bs)

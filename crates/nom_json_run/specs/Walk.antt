@@ -1,6 +1,7 @@
 -- What is left of a JSON text at a place within it, by the brackets that lie open there, the innermost first.
 use Rattle.std.specs.Prelude.{◌≡◌, ℕ, ◌<◌, ◌≤◌, ◌⊎◌, ◌↔◌, true, List, [], ◌∷◌, Option, MatchOption, length, drop, codes}
 use Rattle.nom_json_run.specs.Json.{JsonInside, JsonItem, JsonItems, JsonValue, after_spaces, begins, closing, rest, IsValue}
+use Rattle.nom_json_run.specs.Scans.{BeginsAs, FailsFor, IsMissing}
 use Rattle.nom_json_run.specs.declared.bracket.Bracket.{Bracket}
 use Rattle.nom_json_run.specs.declared.bracket.Fault.{Fault}
 use Rattle.nom_json_run.specs.declared.bracket.Awaits.{Awaits}
@@ -30,16 +31,17 @@ FinishesText Value inner i = ClosesAfter (JsonValue i) inner
 FinishesText After inner i = ClosesAll inner i
 
 -- A step from a place: where it goes on, the same is awaited of the bytes as before; where it stops it can't come; or all has come.
-abbrev pub Stepped : (bytes : List ℕ) → (Before : Type 0) → (at : ℕ) → (inner : List Bracket) → Step → Type 0
-Stepped bytes Before at inner (Go stop awaits) = (at < stop) × (stop ≤ length bytes) × (Before ↔ FinishesText awaits inner (drop stop bytes))
-Stepped bytes Before at inner (Stop fault) = (fault.at ≤ length bytes) × (Before → ⊥)
-Stepped bytes Before at inner Done = Before
+abbrev pub Stepped : (bytes : List ℕ) → (Before : List ℕ → Type 0) → (at : ℕ) → (inner : List Bracket) → Step → Type 0
+Stepped bytes Before at inner (Go stop awaits) = (at < stop) × (stop ≤ length bytes) ×
+    ((bs : List ℕ) → BeginsAs bytes stop bs → Before (drop at bs) ↔ FinishesText awaits inner (drop stop bs))
+Stepped bytes Before at inner (Stop fault) = FailsFor bytes (λ i. Before i → ⊥) at fault
+Stepped bytes Before at inner Done = Before (drop at bytes)
 
 -- what follows the name of a member, or the place itself, is a value where an item stands at the place
 pub record IsKey (bytes : List ℕ) (o : Bracket) (at stop : ℕ) : Type 0 where
   pub begins : at ≤ stop
   pub within : stop ≤ length bytes
-  pub same : (r : List ℕ) → JsonItem o (drop at bytes) r ↔ JsonValue (drop stop bytes) r
+  pub same : (bs : List ℕ) → BeginsAs bytes stop bs → (r : List ℕ) → JsonItem o (drop at bs) r ↔ JsonValue (drop stop bs) r
 
 -- the first character of a word stands at the place
 pub data IsWordAt (word i : List ℕ) : Type 0 where
@@ -47,6 +49,12 @@ pub data IsWordAt (word i : List ℕ) : Type 0 where
   as_true : word ≡ codes "true" → begins 116 i ≡ true → IsWordAt word i
   as_false : word ≡ codes "false" → begins 102 i ≡ true → IsWordAt word i
 
--- no fault where the bytes are a value, with white space around it; else a fault at a place of them
+-- The fault of bytes that are no value: whatever follows the byte at its place, they are none, as long as what is missing is missing there.
+pub record IsFault (bytes : List ℕ) (fault : Fault) : Type 0 where
+  pub within : fault.at ≤ length bytes
+  pub here : IsValue bytes → ⊥
+  pub fails : (bs : List ℕ) → BeginsAs bytes fault.at bs → IsMissing fault.missing (drop fault.at bs) → IsValue bs → ⊥
+
+-- no fault where the bytes are a value, with white space around it; else their fault
 abbrev pub IsVerdict : (bytes : List ℕ) → Option Fault → Type 0
-IsVerdict bytes verdict = MatchOption verdict (IsValue bytes) (λ fault. (IsValue bytes → ⊥) × (fault.at ≤ length bytes))
+IsVerdict bytes verdict = MatchOption verdict (IsValue bytes) (IsFault bytes)

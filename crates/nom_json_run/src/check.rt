@@ -3,7 +3,7 @@
 //! The open brackets are kept in a list. No nesting is too deep.
 ghost use Rattle.std.specs.Prelude.{◌≡◌, ◌≤◌, ◌∷◌, [], ◌⊎◌, IfOk, IfErr, MatchOption, OnErr, false, true, length, drop, reverse, vec_capacity, vec_len};
 ghost use Rattle.nom_json_run.specs.Json.{JsonItem, JsonString, JsonValue, begins, closing, opening};
-ghost use Rattle.nom_json_run.specs.Scans.{EndsAtStop, EndsNowhere};
+ghost use Rattle.nom_json_run.specs.Scans.{EndsAtStop, EndsNowhere, FailsAt, FailsFor};
 ghost use Rattle.nom_json_run.specs.Walk.{ClosesAll, ClosesAfter, FinishesText, IsKey, IsWordAt, IsVerdict, Stepped};
 
 use crate::bracket::{Awaits, Bracket, Fault, Missing, Step};
@@ -48,8 +48,8 @@ fn pop<A: Allocator>(open: &mut Vec<Bracket, A>) -> Option<Bracket>
 #[inline(always)]
 fn quoted(bytes: &[u8], at: usize) -> Result<usize, Fault>
     requires { begins 34 (drop at bytes.now) ≡ true }
-    ensures ok { IfOk result (λ n. EndsAtStop bytes.now (JsonString (drop at bytes.now)) at n) }
-    ensures err { IfErr result (λ f. EndsNowhere (JsonString (drop at bytes.now)) × (f.at ≤ length bytes.now)) }
+    ensures ok { IfOk result (λ n. EndsAtStop bytes.now JsonString at n) }
+    ensures err { IfErr result (FailsAt bytes.now (λ i. EndsNowhere (JsonString i)) at) }
 {
     match string(bytes, at + 1) {
         Ok(stop) => Ok(spaces(bytes, stop)),
@@ -61,8 +61,8 @@ fn quoted(bytes: &[u8], at: usize) -> Result<usize, Fault>
 #[inline(always)]
 fn named(bytes: &[u8], at: usize, wanted: &'static str) -> Result<usize, Fault>
     requires { IsWordAt wanted.now (drop at bytes.now) }
-    ensures ok { IfOk result (λ n. EndsAtStop bytes.now (JsonValue (drop at bytes.now)) at n) }
-    ensures err { IfErr result (λ f. EndsNowhere (JsonValue (drop at bytes.now)) × (f.at ≤ length bytes.now)) }
+    ensures ok { IfOk result (λ n. EndsAtStop bytes.now JsonValue at n) }
+    ensures err { IfErr result (FailsFor bytes.now (λ i. EndsNowhere (JsonValue i)) at) }
 {
     match word(bytes, at, wanted) {
         Ok(stop) => Ok(spaces(bytes, stop)),
@@ -94,8 +94,8 @@ fn numeric(bytes: &[u8], at: usize) -> Result<usize, Fault>
     requires truth { begins 116 (drop at bytes.now) ≡ false }
     requires untruth { begins 102 (drop at bytes.now) ≡ false }
     requires nothing { begins 110 (drop at bytes.now) ≡ false }
-    ensures ok { IfOk result (λ n. EndsAtStop bytes.now (JsonValue (drop at bytes.now)) at n) }
-    ensures err { IfErr result (λ f. EndsNowhere (JsonValue (drop at bytes.now)) × (f.at ≤ length bytes.now)) }
+    ensures ok { IfOk result (λ n. EndsAtStop bytes.now JsonValue at n) }
+    ensures err { IfErr result (FailsFor bytes.now (λ i. EndsNowhere (JsonValue i)) at) }
 {
     match number(bytes, at) {
         Ok(stop) => Ok(spaces(bytes, stop)),
@@ -109,8 +109,8 @@ fn scalar(bytes: &[u8], at: usize) -> Result<usize, Fault>
     requires within { at ≤ length bytes.now }
     requires array { begins 91 (drop at bytes.now) ≡ false }
     requires object { begins 123 (drop at bytes.now) ≡ false }
-    ensures ok { IfOk result (λ n. EndsAtStop bytes.now (JsonValue (drop at bytes.now)) at n) }
-    ensures err { IfErr result (λ f. EndsNowhere (JsonValue (drop at bytes.now)) × (f.at ≤ length bytes.now)) }
+    ensures ok { IfOk result (λ n. EndsAtStop bytes.now JsonValue at n) }
+    ensures err { IfErr result (FailsFor bytes.now (λ i. EndsNowhere (JsonValue i)) at) }
 {
     if byte_is(bytes, at, b'"') {
         return quoted(bytes, at);
@@ -132,7 +132,7 @@ fn scalar(bytes: &[u8], at: usize) -> Result<usize, Fault>
 fn member_name(bytes: &[u8], at: usize) -> Result<usize, Fault>
     requires { at ≤ length bytes.now }
     ensures ok { IfOk result (λ n. IsKey bytes.now Bracket.Object at n) }
-    ensures err { IfErr result (λ f. EndsNowhere (JsonItem Bracket.Object (drop at bytes.now)) × (f.at ≤ length bytes.now)) }
+    ensures err { IfErr result (FailsAt bytes.now (λ i. EndsNowhere (JsonItem Bracket.Object i)) at) }
 {
     if !byte_is(bytes, at, b'"') {
         return Err(Fault {
@@ -160,7 +160,7 @@ fn member_name(bytes: &[u8], at: usize) -> Result<usize, Fault>
 fn key(bytes: &[u8], at: usize, bracket: Bracket) -> Result<usize, Fault>
     requires { at ≤ length bytes.now }
     ensures ok { IfOk result (λ n. IsKey bytes.now bracket at n) }
-    ensures err { IfErr result (λ f. EndsNowhere (JsonItem bracket (drop at bytes.now)) × (f.at ≤ length bytes.now)) }
+    ensures err { IfErr result (FailsAt bytes.now (λ i. EndsNowhere (JsonItem bracket i)) at) }
 {
     match bracket {
         Bracket::Array => Ok(at),
@@ -177,7 +177,7 @@ fn open_step<A: Allocator>(
     bracket: Bracket,
 ) -> Result<Step, OutOfMemory>
     requires { begins (opening bracket) (drop at bytes.now) ≡ true }
-    ensures { IfOk result (λ s. Stepped bytes.now (ClosesAfter (JsonValue (drop at bytes.now)) (reverse open.old.items)) at (reverse open.new.items) s) }
+    ensures { IfOk result (λ s. Stepped bytes.now (λ i. ClosesAfter (JsonValue i) (reverse open.old.items)) at (reverse open.new.items) s) }
 {
     let inside = spaces(bytes, at + 1);
     if byte_is(bytes, inside, closing_byte(bracket)) {
@@ -201,7 +201,7 @@ fn value_step<A: Allocator>(
     open: &mut Vec<Bracket, A>,
 ) -> Result<Step, OutOfMemory>
     requires { at ≤ length bytes.now }
-    ensures { IfOk result (λ s. Stepped bytes.now (ClosesAfter (JsonValue (drop at bytes.now)) (reverse open.old.items)) at (reverse open.new.items) s) }
+    ensures { IfOk result (λ s. Stepped bytes.now (λ i. ClosesAfter (JsonValue i) (reverse open.old.items)) at (reverse open.new.items) s) }
 {
     if byte_is(bytes, at, b'[') {
         return open_step(bytes, at, open, Bracket::Array);
@@ -224,7 +224,7 @@ fn inner_step<A: Allocator>(
     bracket: Bracket,
 ) -> Result<Step, OutOfMemory>
     requires { at ≤ length bytes.now }
-    ensures { IfOk result (λ s. Stepped bytes.now (ClosesAll (bracket ∷ reverse open.old.items) (drop at bytes.now)) at (reverse open.new.items) s) }
+    ensures { IfOk result (λ s. Stepped bytes.now (ClosesAll (bracket ∷ reverse open.old.items)) at (reverse open.new.items) s) }
 {
     if byte_is(bytes, at, closing_byte(bracket)) {
         return Ok(Step::Go(spaces(bytes, at + 1), Awaits::After));
@@ -254,7 +254,7 @@ fn after_step<A: Allocator>(
     open: &mut Vec<Bracket, A>,
 ) -> Result<Step, OutOfMemory>
     requires { at ≤ length bytes.now }
-    ensures { IfOk result (λ s. Stepped bytes.now (ClosesAll (reverse open.old.items) (drop at bytes.now)) at (reverse open.new.items) s) }
+    ensures { IfOk result (λ s. Stepped bytes.now (ClosesAll (reverse open.old.items)) at (reverse open.new.items) s) }
 {
     match pop(open) {
         Some(bracket) => inner_step(bytes, at, open, bracket),
@@ -279,7 +279,7 @@ fn step<A: Allocator>(
     open: &mut Vec<Bracket, A>,
 ) -> Result<Step, OutOfMemory>
     requires { at ≤ length bytes.now }
-    ensures { IfOk result (λ s. Stepped bytes.now (FinishesText awaits (reverse open.old.items) (drop at bytes.now)) at (reverse open.new.items) s) }
+    ensures { IfOk result (λ s. Stepped bytes.now (FinishesText awaits (reverse open.old.items)) at (reverse open.new.items) s) }
 {
     match awaits {
         Awaits::Value => value_step(bytes, at, open),
@@ -289,8 +289,8 @@ fn step<A: Allocator>(
 
 /// Returns `None` if bytes are a JSON value with white space around it, and no more.
 ///
-/// Otherwise it returns the first place where something is missing. Brackets may nest as deep as memory holds
-/// them.
+/// Otherwise it returns the first place where something is missing. Whatever follows the byte there, the bytes
+/// are no value, unless a missing word does. Brackets may nest as deep as memory holds them.
 pub fn verdict<A: Allocator>(alloc: A, bytes: &[u8]) -> Result<Option<Fault>, OutOfMemory>
     ensures { IfOk result (λ fault. IsVerdict bytes.now fault) }
 {

@@ -1,11 +1,13 @@
 //! JSON Lines: a JSON text in each line, from a reader of any length.
-ghost use Rattle.std.specs.Prelude.{◌≡◌, ◌++◌, ◌≤◌, ◌<◌, ◌^◌, ◌⊎◌, ⊤, Option, if◌then◌else◌, IfErr, IfOk, length, string_bytes};
+ghost use Rattle.std.specs.Prelude.{◌≡◌, ◌++◌, ◌≤◌, ◌<◌, ◌^◌, ◌==◌, ◌⊎◌, ⊤, Option, if◌then◌else◌, IfErr, IfOk, count_by, length, string_bytes};
 ghost use Rattle.std.specs.Io.KnownBytes.{Appends};
+ghost use Rattle.std.specs.List.{before_first};
 ghost use Rattle.nom_internal.specs.Prelude.{bytes_model, Slice};
-ghost use Rattle.nom_run.specs.Stream.{MatchRunError, NoWriteFailed, WriteFailed};
+ghost use Rattle.nom_located.specs.Lines.{begins_character};
+ghost use Rattle.nom_run.specs.Stream.{MatchRunError, NoWriteFailed, WriteFailed, WroteFront};
 ghost use Rattle.nom_stream.specs.Streams.{IsOpen};
-ghost use Rattle.nom_json_run.specs.Lines.{BeginsLine, BeginsNext, BeginsText, IsLine, IsLineText, IsUnread, LacksNext};
-ghost use Rattle.nom_json_run.specs.Lines.{ListsLine, ReadsNoLine, TellsLine, ToldLines, fault_line, json_line_of, line_len};
+ghost use Rattle.nom_json_run.specs.Lines.{BeginsLine, BeginsNext, IsFaultLine, IsLine, IsOctetsLine, IsUnread, LacksNext};
+ghost use Rattle.nom_json_run.specs.Lines.{ListsLine, ReadsNoLine, ToldLines, fault_line, json_line_of, line_len, long_line};
 
 use crate::bracket::Fault;
 use crate::check::verdict;
@@ -78,7 +80,7 @@ fn line_text<A: Allocator + Copy>(
     column: usize,
     message: &str,
 ) -> Result<String<A>, OutOfMemory>
-    ensures { IfOk result (λ t. IsLineText number (string_bytes t)) }
+    ensures { IfOk result (λ t. string_bytes t ≡ fault_line number column message.now) }
 {
     let mut text = String::new(alloc);
     add_line(&mut text, number, column, message)?;
@@ -86,7 +88,9 @@ fn line_text<A: Allocator + Copy>(
 }
 
 // The first line of a report.
-fn first_line(report: &str) -> &str {
+fn first_line(report: &str) -> &str
+    ensures { result.now ≡ before_first (λ b. b == 10) report.now }
+{
     match report.split_once('\n') {
         Some((first, _)) => first,
         None => report,
@@ -95,32 +99,22 @@ fn first_line(report: &str) -> &str {
 
 // How many characters begin in bytes of UTF-8.
 fn characters(bytes: &[u8]) -> usize
-    ensures { result ≤ length bytes.now }
+    ensures count { result ≡ count_by begins_character bytes.now }
+    ensures few { result ≤ length bytes.now }
 {
     bytes.iter().filter(|b| **b < 128 || 192 <= **b).count()
 }
 
-// How many bytes a line has without its end.
-fn inside_len(line: &[u8]) -> usize
-    ensures { result ≤ length line.now }
-{
-    let count = line.len();
-    if count > 0 && line[count - 1] == b'\n' {
-        count - 1
-    } else {
-        count
-    }
-}
-
-// The text for a line that is no JSON text, by its first fault. Columns count characters, from 1 on.
+// The text for a line that is no JSON text, by its fault. So many bytes stand before its end. Columns count characters, from 1 on.
 fn fault_text<A: Allocator + Copy>(
     alloc: A,
     number: u64,
+    inside: usize,
     line: &str,
     fault: Fault,
 ) -> Result<String<A>, OutOfMemory>
     requires { fault.at ≤ length line.now }
-    ensures { IfOk result (λ t. IsLineText number (string_bytes t)) }
+    ensures { IfOk result (λ t. IsFaultLine number inside line.now fault (string_bytes t)) }
 {
     let bytes = line.as_bytes();
     let error = match error_of(bytes, fault) {
@@ -133,7 +127,7 @@ fn fault_text<A: Allocator + Copy>(
         Err(error) => return Err(error),
     }
     // (the end of a line is white space, and what is missing is missing before it)
-    let at = fault.at.min(inside_len(bytes));
+    let at = fault.at.min(inside);
     let column = 1 + characters(&bytes[..at]);
     line_text(alloc, number, column, first_line(out.as_str()))
 }
@@ -146,7 +140,7 @@ fn bytes_text<A: Allocator + Copy>(
     at: usize,
 ) -> Result<String<A>, OutOfMemory>
     requires { at ≤ length line.now }
-    ensures { IfOk result (λ t. IsLineText number (string_bytes t)) }
+    ensures { IfOk result (λ t. IsOctetsLine number line.now at (string_bytes t)) }
 {
     let error = match named(&line[at..], "a character in UTF-8") {
         Ok(error) => error,
@@ -165,15 +159,16 @@ fn bytes_text<A: Allocator + Copy>(
 fn told<A: Allocator + Copy>(
     alloc: A,
     number: u64,
+    inside: usize,
     line: &[u8],
     wrong: bool,
 ) -> Result<(String<A>, bool), OutOfMemory>
-    ensures { IfOk result (λ r. IsLine number line.now (string_bytes r.0) wrong r.1) }
+    ensures { IfOk result (λ r. IsLine number inside line.now (string_bytes r.0) wrong r.1) }
 {
     match str::from_utf8(line) {
         Ok(text) => match verdict(alloc, text.as_bytes()) {
             Ok(None) => Ok((String::new(alloc), wrong)),
-            Ok(Some(fault)) => match fault_text(alloc, number, text, fault) {
+            Ok(Some(fault)) => match fault_text(alloc, number, inside, text, fault) {
                 Ok(text) => Ok((text, true)),
                 Err(error) => Err(error),
             },
@@ -191,16 +186,17 @@ fn list<A: Allocator + Copy, W: Sink>(
     alloc: A,
     sink: &mut W,
     number: u64,
+    inside: usize,
     line: &[u8],
     wrong: bool,
 ) -> Result<bool, RunError>
-    ensures wrote { IfOk result (λ then_. ListsLine (W.held sink.old) (W.held sink.new) number line.now wrong then_
+    ensures wrote { IfOk result (λ then_. ListsLine (W.held sink.old) (W.held sink.new) number inside line.now wrong then_
         × NoWriteFailed (W.failures sink.old) (W.failures sink.new) (W.stalls sink.old) (W.stalls sink.new)) }
     ensures error { IfErr result (λ e. MatchRunError e ⊥
-        (BeginsLine (W.held sink.old) (W.held sink.new) number line.now wrong
+        (BeginsLine (W.held sink.old) (W.held sink.new) number inside line.now wrong
         × WriteFailed (W.failures sink.old) (W.failures sink.new) (W.stalls sink.old) (W.stalls sink.new)) (sink.new ≡ sink.old) ⊥) }
 {
-    let found = match told(alloc, number, line, wrong) {
+    let found = match told(alloc, number, inside, line, wrong) {
         Ok(found) => found,
         Err(_) => return Err(RunError::OutOfMemory),
     };
@@ -217,10 +213,10 @@ fn tell_too_long<A: Allocator + Copy, W: Sink>(
     sink: &mut W,
     number: u64,
 ) -> Result<u8, RunError>
-    ensures wrote { IfOk result (λ status. (status ≡ 3) × TellsLine (W.held sink.old) (W.held sink.new) number
+    ensures wrote { IfOk result (λ status. (status ≡ 3) × Appends (W.held sink.old) (W.held sink.new) (long_line number)
         × NoWriteFailed (W.failures sink.old) (W.failures sink.new) (W.stalls sink.old) (W.stalls sink.new)) }
     ensures error { IfErr result (λ e. MatchRunError e ⊥
-        (BeginsText (W.held sink.old) (W.held sink.new) number
+        (WroteFront (W.held sink.old) (W.held sink.new) (long_line number)
         × WriteFailed (W.failures sink.old) (W.failures sink.new) (W.stalls sink.old) (W.stalls sink.new)) (sink.new ≡ sink.old) ⊥) }
 {
     let text = match line_text(
@@ -245,11 +241,11 @@ fn stopped<A: Allocator + Copy, W: Sink>(
     number: u64,
     why: Stop,
 ) -> Result<u8, RunError>
-    ensures wrote { IfOk result (λ status. (why ≡ Stop.TooLong) × (status ≡ 3) × TellsLine (W.held sink.old) (W.held sink.new) number
+    ensures wrote { IfOk result (λ status. (why ≡ Stop.TooLong) × (status ≡ 3) × Appends (W.held sink.old) (W.held sink.new) (long_line number)
         × NoWriteFailed (W.failures sink.old) (W.failures sink.new) (W.stalls sink.old) (W.stalls sink.new)) }
     ensures error { IfErr result (λ e. MatchRunError e
         ((sink.new ≡ sink.old) × IsUnread why)
-        ((why ≡ Stop.TooLong) × BeginsText (W.held sink.old) (W.held sink.new) number
+        ((why ≡ Stop.TooLong) × WroteFront (W.held sink.old) (W.held sink.new) (long_line number)
         × WriteFailed (W.failures sink.old) (W.failures sink.new) (W.stalls sink.old) (W.stalls sink.new))
         ((sink.new ≡ sink.old) × ((why ≡ Stop.OutOfMemory) ⊎ (why ≡ Stop.TooLong))) ⊥) }
 {
@@ -303,8 +299,8 @@ pub fn tell_lines<R: Read, A: Allocator + Copy, W: Sink>(
     let mut wrong = false;
     for turn in 0..u64::MAX {
         match stream.next_item(&mut grammar) {
-            Ok(Some((used, _length))) => {
-                match list(alloc, sink, turn + 1, stream.last(used), wrong) {
+            Ok(Some((used, inside))) => {
+                match list(alloc, sink, turn + 1, inside, stream.last(used), wrong) {
                     Ok(next) => wrong = next,
                     Err(error) => return Err(error),
                 }

@@ -1,10 +1,10 @@
 //! Texts without a value in them: white space, words, numbers and strings. Each function returns the place
 //! where it ends.
-ghost use Rattle.std.specs.Prelude.{◌≡◌, ◌+◌, ◌<◌, ◌≤◌, None, IfOk, IfErr, MatchBool, false, true, length, drop};
+ghost use Rattle.std.specs.Prelude.{◌≡◌, ℕ, ◌+◌, ◌<◌, ◌≤◌, List, None, IfOk, IfErr, MatchBool, false, true, length, drop};
 ghost use Rattle.nom_json_run.specs.Json.{JsonCharacters, after_digits, after_digits1, after_escape, after_exponent, after_fraction};
 ghost use Rattle.nom_json_run.specs.Json.{after_hex, after_integer, after_minus, after_number, after_sign, after_spaces, after_word, begins, first_is};
 ghost use Rattle.nom_json_run.specs.Json.{is_digit, is_hex, is_letter, is_mark, is_plain, is_sign, is_space};
-ghost use Rattle.nom_json_run.specs.Scans.{EndsAtStop, EndsNowhere, LeadsTo, SameEnds};
+ghost use Rattle.nom_json_run.specs.Scans.{BeginsAs, EndsAtStop, EndsNowhere, FailsAt, FailsFor, LeadsTo, SameEnds};
 
 use crate::bracket::{Fault, Missing};
 
@@ -157,7 +157,7 @@ fn hex(byte: u8) -> bool
 #[inline(always)]
 pub fn spaces(bytes: &[u8], start: usize) -> usize
     requires { start ≤ length bytes.now }
-    ensures follows { drop result bytes.now ≡ after_spaces (drop start bytes.now) }
+    ensures follows { (bs : List ℕ) → BeginsAs bytes.now result bs → drop result bs ≡ after_spaces (drop start bs) }
     ensures begins { start ≤ result }
     ensures within { result ≤ length bytes.now }
 {
@@ -172,7 +172,7 @@ pub fn spaces(bytes: &[u8], start: usize) -> usize
 #[inline(always)]
 fn digits(bytes: &[u8], start: usize) -> usize
     requires { start ≤ length bytes.now }
-    ensures follows { drop result bytes.now ≡ after_digits (drop start bytes.now) }
+    ensures follows { (bs : List ℕ) → BeginsAs bytes.now result bs → drop result bs ≡ after_digits (drop start bs) }
     ensures begins { start ≤ result }
     ensures within { result ≤ length bytes.now }
 {
@@ -188,8 +188,8 @@ fn digits(bytes: &[u8], start: usize) -> usize
 fn digits1(bytes: &[u8], start: usize) -> Result<usize, Fault>
     requires { start ≤ length bytes.now }
     ensures some { IfOk result (λ n. start < n) }
-    ensures ok { IfOk result (λ n. LeadsTo bytes.now (after_digits1 (drop start bytes.now)) start n) }
-    ensures err { IfErr result (λ f. (after_digits1 (drop start bytes.now) ≡ None) × (f.at ≤ length bytes.now)) }
+    ensures ok { IfOk result (λ n. LeadsTo bytes.now after_digits1 start n) }
+    ensures err { IfErr result (FailsAt bytes.now (λ i. after_digits1 i ≡ None) start) }
 {
     if digit_at(bytes, start) {
         Ok(digits(bytes, start + 1))
@@ -205,8 +205,8 @@ fn digits1(bytes: &[u8], start: usize) -> Result<usize, Fault>
 fn integer(bytes: &[u8], start: usize) -> Result<usize, Fault>
     requires { start ≤ length bytes.now }
     ensures some { IfOk result (λ n. start < n) }
-    ensures ok { IfOk result (λ n. LeadsTo bytes.now (after_integer (drop start bytes.now)) start n) }
-    ensures err { IfErr result (λ f. (after_integer (drop start bytes.now) ≡ None) × (f.at ≤ length bytes.now)) }
+    ensures ok { IfOk result (λ n. LeadsTo bytes.now after_integer start n) }
+    ensures err { IfErr result (FailsAt bytes.now (λ i. after_integer i ≡ None) start) }
 {
     if byte_is(bytes, start, b'0') {
         Ok(start + 1)
@@ -218,8 +218,8 @@ fn integer(bytes: &[u8], start: usize) -> Result<usize, Fault>
 #[inline(always)]
 fn fraction(bytes: &[u8], start: usize) -> Result<usize, Fault>
     requires { start ≤ length bytes.now }
-    ensures ok { IfOk result (λ n. LeadsTo bytes.now (after_fraction (drop start bytes.now)) start n) }
-    ensures err { IfErr result (λ f. (after_fraction (drop start bytes.now) ≡ None) × (f.at ≤ length bytes.now)) }
+    ensures ok { IfOk result (λ n. LeadsTo bytes.now after_fraction start n) }
+    ensures err { IfErr result (FailsAt bytes.now (λ i. after_fraction i ≡ None) start) }
 {
     if byte_is(bytes, start, b'.') {
         digits1(bytes, start + 1)
@@ -231,7 +231,7 @@ fn fraction(bytes: &[u8], start: usize) -> Result<usize, Fault>
 #[inline(always)]
 fn after_a_sign(bytes: &[u8], start: usize) -> usize
     requires { start ≤ length bytes.now }
-    ensures follows { drop result bytes.now ≡ after_sign (drop start bytes.now) }
+    ensures follows { (bs : List ℕ) → BeginsAs bytes.now result bs → drop result bs ≡ after_sign (drop start bs) }
     ensures begins { start ≤ result }
     ensures within { result ≤ length bytes.now }
 {
@@ -245,8 +245,8 @@ fn after_a_sign(bytes: &[u8], start: usize) -> usize
 #[inline(always)]
 fn exponent(bytes: &[u8], start: usize) -> Result<usize, Fault>
     requires { start ≤ length bytes.now }
-    ensures ok { IfOk result (λ n. LeadsTo bytes.now (after_exponent (drop start bytes.now)) start n) }
-    ensures err { IfErr result (λ f. (after_exponent (drop start bytes.now) ≡ None) × (f.at ≤ length bytes.now)) }
+    ensures ok { IfOk result (λ n. LeadsTo bytes.now after_exponent start n) }
+    ensures err { IfErr result (FailsAt bytes.now (λ i. after_exponent i ≡ None) start) }
 {
     if mark_at(bytes, start) {
         let signed = after_a_sign(bytes, start + 1);
@@ -259,7 +259,7 @@ fn exponent(bytes: &[u8], start: usize) -> Result<usize, Fault>
 #[inline(always)]
 fn after_a_minus(bytes: &[u8], start: usize) -> usize
     requires { start ≤ length bytes.now }
-    ensures follows { drop result bytes.now ≡ after_minus (drop start bytes.now) }
+    ensures follows { (bs : List ℕ) → BeginsAs bytes.now result bs → drop result bs ≡ after_minus (drop start bs) }
     ensures begins { start ≤ result }
     ensures within { result ≤ length bytes.now }
 {
@@ -275,8 +275,8 @@ fn after_a_minus(bytes: &[u8], start: usize) -> usize
 pub fn number(bytes: &[u8], start: usize) -> Result<usize, Fault>
     requires { start ≤ length bytes.now }
     ensures some { IfOk result (λ n. start < n) }
-    ensures ok { IfOk result (λ n. LeadsTo bytes.now (after_number (drop start bytes.now)) start n) }
-    ensures err { IfErr result (λ f. (after_number (drop start bytes.now) ≡ None) × (f.at ≤ length bytes.now)) }
+    ensures ok { IfOk result (λ n. LeadsTo bytes.now after_number start n) }
+    ensures err { IfErr result (FailsAt bytes.now (λ i. after_number i ≡ None) start) }
 {
     let unsigned = after_a_minus(bytes, start);
     let whole = match integer(bytes, unsigned) {
@@ -295,8 +295,8 @@ pub fn number(bytes: &[u8], start: usize) -> Result<usize, Fault>
 pub fn word(bytes: &[u8], start: usize, wanted: &'static str) -> Result<usize, Fault>
     requires { start ≤ length bytes.now }
     ensures length { IfOk result (λ n. start + length wanted.now ≤ n) }
-    ensures ok { IfOk result (λ n. LeadsTo bytes.now (after_word wanted.now (drop start bytes.now)) start n) }
-    ensures err { IfErr result (λ f. (after_word wanted.now (drop start bytes.now) ≡ None) × (f.at ≤ length bytes.now)) }
+    ensures ok { IfOk result (λ n. LeadsTo bytes.now (after_word wanted.now) start n) }
+    ensures err { IfErr result (FailsFor bytes.now (λ i. after_word wanted.now i ≡ None) start) }
 {
     let text = wanted.as_bytes();
     let mut at = 0;
@@ -315,8 +315,8 @@ pub fn word(bytes: &[u8], start: usize, wanted: &'static str) -> Result<usize, F
 /// Skips four digits in base 16.
 fn hexes(bytes: &[u8], start: usize) -> Result<usize, Fault>
     requires { start ≤ length bytes.now }
-    ensures ok { IfOk result (λ n. LeadsTo bytes.now (after_hex 4 (drop start bytes.now)) start n) }
-    ensures err { IfErr result (λ f. (after_hex 4 (drop start bytes.now) ≡ None) × (f.at ≤ length bytes.now)) }
+    ensures ok { IfOk result (λ n. LeadsTo bytes.now (after_hex 4) start n) }
+    ensures err { IfErr result (FailsAt bytes.now (λ i. after_hex 4 i ≡ None) start) }
 {
     for count in 0usize..4 {
         if !hex_at(bytes, start + count) {
@@ -332,8 +332,8 @@ fn hexes(bytes: &[u8], start: usize) -> Result<usize, Fault>
 /// Skips the part after a backslash.
 fn escape(bytes: &[u8], start: usize) -> Result<usize, Fault>
     requires { start ≤ length bytes.now }
-    ensures ok { IfOk result (λ n. LeadsTo bytes.now (after_escape (drop start bytes.now)) start n) }
-    ensures err { IfErr result (λ f. (after_escape (drop start bytes.now) ≡ None) × (f.at ≤ length bytes.now)) }
+    ensures ok { IfOk result (λ n. LeadsTo bytes.now after_escape start n) }
+    ensures err { IfErr result (FailsAt bytes.now (λ i. after_escape i ≡ None) start) }
 {
     if byte_is(bytes, start, b'u') {
         hexes(bytes, start + 1)
@@ -351,7 +351,7 @@ fn escape(bytes: &[u8], start: usize) -> Result<usize, Fault>
 #[inline(always)]
 fn plain_run(bytes: &[u8], start: usize) -> usize
     requires { start ≤ length bytes.now }
-    ensures same { SameEnds (JsonCharacters (drop start bytes.now)) (JsonCharacters (drop result bytes.now)) }
+    ensures same { (bs : List ℕ) → BeginsAs bytes.now result bs → SameEnds (JsonCharacters (drop start bs)) (JsonCharacters (drop result bs)) }
     ensures ends { first_is is_plain (drop result bytes.now) ≡ false }
     ensures begins { start ≤ result }
     ensures within { result ≤ length bytes.now }
@@ -366,8 +366,8 @@ fn plain_run(bytes: &[u8], start: usize) -> usize
 /// Skips the characters of a string, after the quote that opens it, and the quote that closes it.
 pub fn string(bytes: &[u8], start: usize) -> Result<usize, Fault>
     requires { start ≤ length bytes.now }
-    ensures ok { IfOk result (λ n. EndsAtStop bytes.now (JsonCharacters (drop start bytes.now)) start n) }
-    ensures err { IfErr result (λ f. EndsNowhere (JsonCharacters (drop start bytes.now)) × (f.at ≤ length bytes.now)) }
+    ensures ok { IfOk result (λ n. EndsAtStop bytes.now JsonCharacters start n) }
+    ensures err { IfErr result (FailsAt bytes.now (λ i. EndsNowhere (JsonCharacters i)) start) }
 {
     let mut at = start;
     'pieces: loop {

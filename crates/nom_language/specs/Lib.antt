@@ -5,3 +5,4 @@ pub mod Operators
 pub mod Precedences
 pub mod helpers
 pub mod laws
+pub mod Words

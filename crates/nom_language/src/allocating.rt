@@ -3,6 +3,7 @@ ghost use Rattle.std.specs.Prelude.{◌≡◌, List};
 ghost use Rattle.nom_error.specs.declared.kind.ErrorKind.TheVariants as Kind;
 ghost use Rattle.nom_language.specs.Allocations.{StopsFold, expression_alloc_by};
 ghost use Rattle.nom_operators.specs.declared.operation.Operation.{Operation};
+ghost use Rattle.nom_language.specs.Words as Words;
 
 use crate::expression::{outside_refusal, terms};
 use nom_error::answer::{Err, OutOfMemory, PResult};
@@ -99,6 +100,10 @@ where
 
     ghost grammar = { λ s. expression_alloc_by I.model T.Error.errors T.Error.externals ((x : Operation P Q B O) → G.pre s.2 x) (G.post s.2)
         (T.grammar s.1) (C.grammar s.0) };
+
+    ghost word = { λ s. Words.expression_alloc_of I.model T.Error.errors T.Error.externals (G.pre s.2) (G.post s.2) (T.word s.1) (C.word s.0) };
+
+    ghost worded = { λ s. Words.expression_alloc_worded I.model T.Error.errors T.Error.externals (G.pre s.2) (G.post s.2) (T.worded s.1) (C.worded s.0) };
 
     fn process<OM: OutputMode>(&mut self, input: I) -> PResult<I, O, T::Error> {
         let (end, answer) = terms::<OM, I, A, P, Q, B, O, FoldError<X>, C, T, G>(

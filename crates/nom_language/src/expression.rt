@@ -5,6 +5,7 @@ ghost use Rattle.nom_internal.specs.Prelude.{modes, ShowsMeaning};
 ghost use Rattle.nom_language.specs.Evaluated.{IsEvaluated};
 ghost use Rattle.nom_language.specs.Precedences.{PrefixesWait, expression_by, terms_meaning};
 ghost use Rattle.nom_operators.specs.declared.operation.Operation.{Operation};
+ghost use Rattle.nom_language.specs.Words as Words;
 
 use crate::evaluation::{Evaluation, begin_evaluation, evaluated};
 use crate::operands::RequireOperands;
@@ -73,6 +74,10 @@ where
 
     ghost grammar = { λ s. expression_by I.model T.Error.errors T.Error.externals ((x : Operation P Q B O) → G.pre s.2 x) (G.post s.2)
         (T.grammar s.1) (C.grammar s.0) };
+
+    ghost word = { λ s. Words.expression_of I.model T.Error.errors T.Error.externals (G.pre s.2) (G.post s.2) (T.word s.1) (C.word s.0) };
+
+    ghost worded = { λ s. Words.expression_worded I.model T.Error.errors T.Error.externals (G.pre s.2) (G.post s.2) (T.worded s.1) (C.worded s.0) };
 
     fn process<OM: OutputMode>(&mut self, input: I) -> PResult<I, O, T::Error> {
         let (end, answer) = terms::<OM, I, A, P, Q, B, O, X, C, T, G>(

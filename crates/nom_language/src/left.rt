@@ -3,6 +3,7 @@ ghost use Rattle.std.specs.Prelude.{◌≡◌, IsSome, List, MatchOption, None, 
 ghost use Rattle.nom_internal.specs.Prelude.{BuiltFrom};
 ghost use Rattle.nom_language.specs.LeftFolds.{left_assoc_by};
 ghost use Rattle.nom_language.specs.helpers.Accumulated.{LeftPushes};
+ghost use Rattle.nom_language.specs.Words as Words;
 
 use nom_error::answer::{OutOfMemory, PResult};
 use nom_error::kind::ErrorKind;
@@ -42,6 +43,10 @@ impl<
 
     ghost grammar = { λ s. left_assoc_by I.model F.Error.errors ((x : F.Output) (c : C.Output) (y : F.Output) → G.pre s.2 x c y) (G.post s.2)
         (F.grammar s.1) (C.grammar s.0) };
+
+    ghost word = { λ s. Words.left_assoc_of I.model F.Error.errors (G.pre s.2) (G.post s.2) (F.word s.1) (C.word s.0) };
+
+    ghost worded = { λ s. Words.left_assoc_worded I.model F.Error.errors (G.pre s.2) (G.post s.2) (F.worded s.1) (C.worded s.0) };
 
     fn process<OM: OutputMode>(&mut self, input: I) -> PResult<I, F::Output, F::Error> {
         let (rest, first) = self.pair.1.process::<OM>(input)?;

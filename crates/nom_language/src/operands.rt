@@ -5,6 +5,7 @@ ghost use Rattle.nom_error.specs.declared.kind.ErrorKind.TheVariants as Kind;
 ghost use Rattle.nom_internal.specs.Prelude.{modes, ShowsMeaning};
 ghost use Rattle.nom_language.specs.Precedences.{expression_by, require_operands_of};
 ghost use Rattle.nom_operators.specs.declared.operation.Operation.{Operation};
+ghost use Rattle.nom_language.specs.Words as Words;
 
 use crate::expression::Expression;
 use nom_error::answer::{Err, PResult};
@@ -55,6 +56,12 @@ where
 
     ghost grammar = { λ s. require_operands_of I.model T.Error.errors (C.grammar s.0) (expression_by I.model T.Error.errors T.Error.externals
         ((x : Operation P Q B O) → G.pre s.2 x) (G.post s.2) (T.grammar s.1) (C.grammar s.0)) };
+
+    ghost word = { λ s. Words.require_operands_of I.model T.Error.errors (C.word s.0) (Words.expression_of I.model T.Error.errors T.Error.externals
+        (G.pre s.2) (G.post s.2) (T.word s.1) (C.word s.0)) };
+
+    ghost worded = { λ s. Words.require_operands_worded I.model T.Error.errors (C.worded s.0)
+        (Words.expression_worded I.model T.Error.errors T.Error.externals (G.pre s.2) (G.post s.2) (T.worded s.1) (C.worded s.0)) };
 
     fn process<OM: OutputMode>(&mut self, input: I) -> PResult<I, O, T::Error> {
         let (rest, value) = self.expression.process::<OM>(input)?;

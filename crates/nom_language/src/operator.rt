@@ -3,6 +3,7 @@ ghost use Rattle.std.specs.Prelude.{◌≡◌, ℕ, true};
 ghost use Rattle.nom_internal.specs.Prelude.{BuiltFrom};
 ghost use Rattle.nom_language.specs.Operators.{binary_op_of, unary_op_of};
 ghost use Rattle.nom_operators.specs.declared.operation.Assoc.{Assoc};
+ghost use Rattle.nom_language.specs.Words as Words;
 
 use nom_error::answer::PResult;
 use nom_error::mode::OutputMode;
@@ -30,6 +31,10 @@ impl<I: Items, F: Parser<I> + Drop> Parser<I> for UnaryOp<F> {
     ghost Tree = { F.Tree };
 
     ghost grammar = { λ s. unary_op_of s.1 (F.grammar s.0) };
+
+    ghost word = { λ s. Words.unary_op_of s.1 (F.word s.0) };
+
+    ghost worded = { λ s. Words.unary_op_worded s.1 (F.worded s.0) };
 
     #[inline(always)]
     fn process<OM: OutputMode>(&mut self, input: I) -> PResult<I, Self::Output, F::Error> {
@@ -70,6 +75,10 @@ impl<I: Items, F: Parser<I> + Drop> Parser<I> for BinaryOp<F> {
     ghost Tree = { F.Tree };
 
     ghost grammar = { λ s. binary_op_of s.1 s.2 (F.grammar s.0) };
+
+    ghost word = { λ s. Words.binary_op_of s.1 s.2 (F.word s.0) };
+
+    ghost worded = { λ s. Words.binary_op_worded s.1 s.2 (F.worded s.0) };
 
     #[inline(always)]
     fn process<OM: OutputMode>(&mut self, input: I) -> PResult<I, Self::Output, F::Error> {

@@ -21,7 +21,7 @@ use Rattle.nom_multi_length.specs.laws.LengthLaws.{length_data_lawful}
 use Rattle.nom_multi_length.specs.laws.ValueLaws.{length_value_lawful, length_value_steady}
 use Rattle.nom_number.specs.Numbers.{binary_number, bytes_lack}
 use Rattle.nom_sequence.specs.laws.SequenceLaws.{preceded_lawful}
-use Rattle.nom.specs.Bytes.{Big, Bytes, all_consuming_of, length_data_of, number_of, pair_of, plain_errors, preceded_of, tag_of}
+use Rattle.nom.specs.grammars.Bytes.{Big, Bytes, all_consuming_of, length_data_of, number_of, pair_of, plain_errors, preceded_of, tag_of}
 use Rattle.nom_error.specs.declared.value.Error.{Error}
 use Rattle.nom_write_stream.specs.Pipes.{HasOutcome}
 use Rattle.nom_write_stream.proofs.Everywhere.{case_outcome, of_value_outcome, rest_of, then_outcome}

@@ -1,7 +1,7 @@
 -- Why a frame isn't written, by what its writer says.
 use Rattle.std.proofs.Common.{arith, ◌≡◌, ℕ, ◌+◌, ◌<◌, ◌⊎◌, List, [], length, Option, Result, Ok, Err, IfErr, ap, inl, inr, length-append}
 use Rattle.nom_internal.specs.Prelude.{bytes_model}
-use Rattle.nom.specs.Bytes.{Bytes}
+use Rattle.nom.specs.grammars.Bytes.{Bytes}
 use Rattle.nom_number.specs.Numbers.{binary_number}
 use Rattle.nom_number.specs.declared.order.Endianness.{Endianness}
 use Rattle.nom_sink.specs.declared.error.WriteError.{WriteError}

@@ -4,6 +4,7 @@ pub mod Framed
 pub mod Lacks
 pub mod Lines
 mod Piped
+mod Putting
 pub mod ReadBack
 pub mod Reported
 mod TypedParts

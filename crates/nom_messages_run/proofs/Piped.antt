@@ -1,27 +1,28 @@
 -- The lines of messages, call by call.
 use Rattle.std.proofs.Common.{arith, ◌≡◌, ℕ, ◌+◌, List, [], ◌∷◌, ◌++◌, Option, Some, Result, Ok, Err, refl, sym, ◌∙◌, ap, subst, append_assoc, append-nil}
-use Rattle.std.proofs.Common.{◌<◌, None, IfErr, IfOk, inl, inr, length, length-append, take, drop}
-use Rattle.std.specs.Prelude.{codes}
+use Rattle.std.proofs.Common.{◌<◌, ◌≤◌, IfErr, IfOk, inl, inr, length, length-append}
+use Rattle.std.specs.Prelude.{Vec, vec_capacity, vec_len}
 use Rattle.std.specs.Io.KnownBytes.{Appends}
 use Rattle.nom_error.specs.declared.value.Error.{Error}
-use Rattle.nom_internal.specs.Prelude.{Grammar, size_of}
-use Rattle.std.proofs.lemmas.List.{length-take, take-append-drop}
+use Rattle.nom_internal.specs.Prelude.{Grammar}
 use Rattle.nom_run.proofs.Known.{appends-more, appends-none}
 use Rattle.nom_run.specs.declared.error.RunError.{RunError}
 use Rattle.nom_run.specs.declared.error.RunError.TheVariants.{Read, Write, OutOfMemory, Usage}
+use Rattle.nom_run.specs.Pieces.{BeganText, HasRoom, WroteBut}
 use Rattle.nom_run.specs.Stream.{MatchRunError, NoWriteFailed, WriteFailed}
 use Rattle.nom_run.specs.Stream as Run
-use Rattle.nom_run.specs.Texts.{need_text}
 use Rattle.nom_stream.specs.declared.stream.Stop as Why
-use Rattle.nom_stream.specs.declared.stream.Stop.TheVariants as Stop
 use Rattle.nom_stream.specs.declared.stream.Stream.{Stream}
 use Rattle.nom_stream.specs.Held.{last_of}
 use Rattle.nom_stream.specs.Items.{Bytes}
 use Rattle.nom_stream.specs.Streams.{Decides}
 use Rattle.example_streams.specs.declared.messages.Received.{Received}
-use Rattle.example_streams.specs.declared.messages.Received.TheVariants.{Ping, Text, Close}
-use Rattle.nom_messages_run.specs.Pipe.{Ends, Lines, Lists, Wrote, WroteAll, WroteFront, WroteLines, WroteSome}
-use Rattle.nom_messages_run.specs.Pipe.{ending_status, ending_text, place_text, received_text, stopped}
+use Rattle.nom_messages_run.specs.Pipe.{Ends, LacksRoom, Lines, Lists, WroteAll, WroteLines, WroteSome}
+use Rattle.nom_messages_run.specs.Pipe.{ending_status, ending_text, received_text, stopped}
+
+none_of : {X : Type 0} (xs : List X) → length xs ≡ 0 → xs ≡ []
+none_of [] e = refl
+none_of (x ∷ xs) e = absurd (omega (arith, e))
 
 module _ {R A V : Type 0} (left : R → Option (List ℕ)) (grammar : Grammar Bytes V Received (Error Bytes)) where
   -- one more message, and its line
@@ -74,7 +75,13 @@ module _ {R A V : Type 0} (left : R → Option (List ℕ)) (grammar : Grammar By
         counted = simp length-append (omega (arith, g.lists.counted));
       }
 
-      pub goes_on : (then : Option (List ℕ)) (new : List ℕ) → Wrote now then (text ++ received_text message (last_of n u.held)) new →
+      -- memory is wanted for the first line
+      pub lacks_line : count ≡ 0 → LacksRoom left grammar s u
+      lacks_line e =
+          let all = g.written ++ (text ++ received_text message (last_of n u.held)) in
+          (all, inl (subst (λ k. Lists left grammar s u all (k + 1)) e all_lines))
+
+      pub goes_on : (then : Option (List ℕ)) (new : List ℕ) → WroteBut now then (text ++ received_text message (last_of n u.held)) new →
           Going s u held then new (count + 1)
       goes_on then new w = record {
         written = g.written ++ w.0;
@@ -83,7 +90,7 @@ module _ {R A V : Type 0} (left : R → Option (List ℕ)) (grammar : Grammar By
             (ap (λ z. g.written ++ z) w.1 ∙ sym (append_assoc g.written w.0 new)) all_lines;
       }
 
-      pub line_begun : (then : Option (List ℕ)) → WroteFront now then (text ++ received_text message (last_of n u.held)) →
+      pub line_begun : (then : Option (List ℕ)) → BeganText now then (text ++ received_text message (last_of n u.held)) →
           WroteSome left grammar s u held then
       line_begun then w =
           let all = text ++ received_text message (last_of n u.held) in
@@ -102,7 +109,7 @@ module _ {R A V : Type 0} (left : R → Option (List ℕ)) (grammar : Grammar By
     pub all_written : (then : Option (List ℕ)) → Appends now then text → WroteLines left grammar s t held then count
     all_written then w = (g.written ++ text, g.lists, appends-more held now then g.written text g.wrote w)
 
-    pub some_written : 0 < count → (then : Option (List ℕ)) → WroteFront now then text → WroteSome left grammar s t held then
+    pub some_written : 0 < count → (then : Option (List ℕ)) → BeganText now then text → WroteSome left grammar s t held then
     some_written some then w =
         let wrote = w.2 in
         record {
@@ -138,7 +145,12 @@ module _ {R A V : Type 0} (left : R → Option (List ℕ)) (grammar : Grammar By
             appends-more held now then g.written all g.wrote w.1,
           )
 
-      pub end_begun : (then : Option (List ℕ)) → WroteFront now then (text ++ ending_text why u.offset) → WroteSome left grammar s u held then
+      pub lacks_end : count ≡ 0 → LacksRoom left grammar s u
+      unfolding all_ends
+      lacks_end e =
+          (g.written ++ (text ++ ending_text why u.offset), inr (ending_status why, all_ends, none_of g.lists.messages (g.lists.counted ∙ e)))
+
+      pub end_begun : (then : Option (List ℕ)) → BeganText now then (text ++ ending_text why u.offset) → WroteSome left grammar s u held then
       end_begun then w =
           let all = text ++ ending_text why u.offset in
           let wrote = w.2 in
@@ -152,60 +164,6 @@ module _ {R A V : Type 0} (left : R → Option (List ℕ)) (grammar : Grammar By
             wrote = appends-more held now then g.written wrote.0 g.wrote wrote.2;
           }
 
--- of a text that wasn't written whole a beginning was
-front_of : (held held' : Option (List ℕ)) (text : List ℕ) → Run.WroteFront held held' text → WroteFront held held' text
-front_of held held' text w =
-    let rest = drop w.count text in
-    let all = take-append-drop w.count text in
-    let some : 0 < length rest = omega (arith, w.within, ap length all, length-append (take w.count text) rest, length-take w.count text) in
-    (rest, some, (take w.count text, sym all, w.wrote))
-
-pub unwritten : (F : Type 0) (held held' : Option (List ℕ)) (text : List ℕ) (e : RunError) →
-    MatchRunError e ⊥ (Run.WroteFront held held' text × F) ⊥ ⊥ → MatchRunError e ⊥ (WroteFront held held' text × F) ⊥ ⊥
-unwritten F held held' text Read h = absurd h
-unwritten F held held' text Write h = (front_of held held' text h.0, h.1)
-unwritten F held held' text OutOfMemory h = absurd h
-unwritten F held held' text Usage h = absurd h
-
-pub at_write : (P S : Type 0) (e : RunError) → MatchRunError e ⊥ P ⊥ ⊥ → MatchRunError e ⊥ P S ⊥
-at_write P S Read h = absurd h
-at_write P S Write h = h
-at_write P S OutOfMemory h = absurd h
-at_write P S Usage h = absurd h
-
--- where nothing was written of a text that isn't empty, a beginning was
-front_none : (held : Option (List ℕ)) (text : List ℕ) → 0 < length text → WroteFront held held text
-front_none held text some = (text, some, ([], refl, appends-none held))
-
--- no line is empty
-some_front : (xs ys : List ℕ) → 0 < length xs → 0 < length (xs ++ ys)
-some_front xs ys h = omega (arith, h, length-append xs ys)
-
-some_rest : (xs ys : List ℕ) → 0 < length ys → 0 < length (xs ++ ys)
-some_rest xs ys h = omega (arith, h, length-append xs ys)
-
-pub received_some : (xs : List ℕ) (message : Received) (bytes : List ℕ) → 0 < length (xs ++ received_text message bytes)
-received_some xs (Ping number) bytes = some_rest xs _ (some_front (codes "ping ") _ (omega arith))
-received_some xs (Text len) bytes = some_rest xs _ (some_front (codes "text ") _ (omega arith))
-received_some xs Close bytes = some_rest xs (codes "close\n") (omega arith)
-
-place_some : (what : List ℕ) (offset : ℕ) → 0 < length (place_text what offset)
-place_some what offset = some_rest _ (codes "\n") (omega arith)
-
-need_some : (k : Option ℕ) → 0 < length (need_text k)
-need_some None = omega arith
-need_some (Some k) = some_front (codes "need ") _ (omega arith)
-
-pub ending_some : (xs : List ℕ) (why : Option Why.Stop) (offset : ℕ) → 0 < length (xs ++ ending_text why offset)
-ending_some xs None offset = some_rest xs _ (place_some (codes "end") offset)
-ending_some xs (Some (Stop.Refused kind len)) offset = some_rest xs _ (some_front (codes "error ") _ (omega arith))
-ending_some xs (Some (Stop.Failed kind len)) offset = some_rest xs _ (some_front (codes "failure ") _ (omega arith))
-ending_some xs (Some Stop.Nothing) offset = some_rest xs _ (place_some (codes "empty") offset)
-ending_some xs (Some (Stop.Incomplete needed)) offset = some_rest xs _ (need_some (size_of needed))
-ending_some xs (Some Stop.TooLong) offset = some_rest xs _ (place_some (codes "too long") offset)
-ending_some xs (Some (Stop.Fault error)) offset = some_rest xs (codes "file fault\n") (omega arith)
-ending_some xs (Some Stop.OutOfMemory) offset = some_rest xs (codes "out of memory\n") (omega arith)
-
 -- no write failed, and then none again
 pub none_then : (f f' f₂ s s' s₂ : ℕ) → NoWriteFailed f f' s s' → NoWriteFailed f' f₂ s' s₂ → NoWriteFailed f f₂ s s₂
 none_then f f' f₂ s s' s₂ p q = (q.0 ∙ p.0, q.1 ∙ p.1)
@@ -215,28 +173,29 @@ failed_then : (f f' f₂ s s' s₂ : ℕ) → NoWriteFailed f f' s s' → WriteF
 failed_then f f' f₂ s s' s₂ p (inl e) = inl (e ∙ ap Run.one_more p.0)
 failed_then f f' f₂ s s' s₂ p (inr q) = inr (q.0 ∙ p.0, q.1 ∙ ap Run.one_more p.1)
 
--- What is told where memory ran out or a write failed, from what was written then; before it no write had failed.
+-- What is told where memory is wanted or a write failed, from what was written then; before it no write had failed.
 module _ {W : Type 0} (holds : W → Option (List ℕ)) (failures stalls : W → ℕ) (old a b : W)
-    (before : NoWriteFailed (failures old) (failures a) (stalls old) (stalls a)) (text : List ℕ) (Lined Begun : Type 0)
-    (begun : WroteFront (holds a) (holds b) text → Begun) where
+    (before : NoWriteFailed (failures old) (failures a) (stalls old) (stalls a)) (text : List ℕ) (Lined Begun Lacks : Type 0)
+    (begun : BeganText (holds a) (holds b) text → Begun) where
   abbrev WroteThere : Type 0
-  WroteThere = WroteFront (holds a) (holds b) text × WriteFailed (failures a) (failures b) (stalls a) (stalls b)
+  WroteThere = BeganText (holds a) (holds b) text × WriteFailed (failures a) (failures b) (stalls a) (stalls b)
 
   abbrev Told : RunError → Type 0
-  Told e = MatchRunError e Lined (Begun × WriteFailed (failures old) (failures b) (stalls old) (stalls b))
-      (Begun × NoWriteFailed (failures old) (failures b) (stalls old) (stalls b)) ⊥
+  Told e = MatchRunError e Lined (Begun × WriteFailed (failures old) (failures b) (stalls old) (stalls b)) Lacks ⊥
 
   failed : WroteThere → Begun × WriteFailed (failures old) (failures b) (stalls old) (stalls b)
   failed h = (begun h.0, failed_then _ _ _ _ _ _ before h.1)
 
-  pub on_error : 0 < length text → (e : RunError) → MatchRunError e ⊥ WroteThere (b ≡ a) ⊥ → Told e
-  on_error some Read h = absurd h
-  on_error some Write h = failed h
-  on_error some OutOfMemory h = (
-    begun (subst (λ z. WroteFront (holds a) (holds z) text) (sym h) (front_none (holds a) text some)),
-    subst (λ z. NoWriteFailed (failures old) (failures z) (stalls old) (stalls z)) (sym h) before,
-  )
-  on_error some Usage h = absurd h
+  module _ {Wanted : Type 0} (lacks : Wanted → Lacks) where
+    pub on_error : (e : RunError) → MatchRunError e ⊥ WroteThere Wanted ⊥ → Told e
+    on_error Read h = absurd h
+    on_error Write h = failed h
+    on_error OutOfMemory h = lacks h
+    on_error Usage h = absurd h
+
+    pub on_err : (r : Result ℕ RunError) → IfErr r (λ e. MatchRunError e ⊥ WroteThere Wanted ⊥) → IfErr r Told
+    on_err (Ok status) h = tt
+    on_err (Err e) h = on_error e h
 
   pub on_failed_write : (e : RunError) → MatchRunError e ⊥ WroteThere ⊥ ⊥ → Told e
   on_failed_write Read h = absurd h
@@ -244,10 +203,10 @@ module _ {W : Type 0} (holds : W → Option (List ℕ)) (failures stalls : W →
   on_failed_write OutOfMemory h = absurd h
   on_failed_write Usage h = absurd h
 
-  pub on_err : 0 < length text → (r : Result ℕ RunError) → IfErr r (λ e. MatchRunError e ⊥ WroteThere (b ≡ a) ⊥) → IfErr r Told
-  on_err some (Ok status) h = tt
-  on_err some (Err e) h = on_error some e h
-
 pub on_ok : {P Q : ℕ → Type 0} (r : Result ℕ RunError) → ((status : ℕ) → P status → Q status) → IfOk r P → IfOk r Q
 on_ok (Ok status) f h = f status h
 on_ok (Err e) f h = tt
+
+-- room that was taken
+pub has_room : {A : Type 0} (room : Vec ℕ A) → vec_len room ≤ 65536 → (vec_capacity room < 65536 → ⊥) → HasRoom room
+has_room room few taken = (few, omega (arith, taken))

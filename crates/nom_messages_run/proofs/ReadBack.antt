@@ -2,8 +2,8 @@
 use Rattle.std.specs.Prelude.{◌≡◌, ℕ, ◌-◌, ◌<◌, ◌^◌, List, [], ◌∷◌, ◌++◌, length, Some, refl}
 use Rattle.std.proofs.Common.{arith, sym, ◌∙◌, ap, subst, inl, inr, length-append, lit<}
 use Rattle.nom_internal.specs.Prelude.{bytes_lawful, bytes_model, AreValues, IsOne, Slice}
-use Rattle.nom.specs.Bytes.{Big, Bytes, BytesGrammar, all_consuming_of, alt_of, length_data_of, length_value_of, map_of, number_of, or_of}
-use Rattle.nom.specs.Bytes.{pair_of, plain_errors, preceded_of, tag_of}
+use Rattle.nom.specs.grammars.Bytes.{Big, Bytes, BytesGrammar, all_consuming_of, alt_of, length_data_of, length_value_of, map_of, number_of, or_of}
+use Rattle.nom.specs.grammars.Bytes.{pair_of, plain_errors, preceded_of, tag_of}
 use Rattle.nom_multi_length.specs.Lengths.{HasSize}
 use Rattle.nom_number.specs.Numbers.{binary_number}
 use Rattle.nom_sink.specs.declared.error.WriteError.{WriteError}

@@ -5,7 +5,7 @@ use Rattle.std.specs.Prelude.{codes}
 use Rattle.nom_internal.specs.Prelude.{IResult, bytes_model, Cause}
 use Rattle.nom_growing.specs.Growing.{IsGrown}
 use Rattle.nom_internal.specs.Promises.{HasNoFailure}
-use Rattle.nom.specs.Bytes.{Bytes}
+use Rattle.nom.specs.grammars.Bytes.{Bytes}
 use Rattle.example_streams.specs.declared.protocol.Message.{Message}
 use Rattle.example_streams.specs.Protocol.{Body, body_of, messages_of}
 use Rattle.nom_run.specs.Report.{IsTold}

@@ -3,7 +3,7 @@ use Rattle.std.proofs.Common.{◌≡◌, ℕ, ℤ, Bool, false, List, codes, sub
 use Rattle.nom_internal.specs.Prelude.{bytes_model}
 use Rattle.std.specs.Int.{FitsUnsignedBits}
 use Rattle.nom_character_integer.specs.Integers.{integer_meaning}
-use Rattle.nom.specs.Bytes.{BytesGrammar, all_consuming_of, alt_of, map_of, or_of, pair_of, plain_errors, preceded_of, tag_of, take_of}
+use Rattle.nom.specs.grammars.Bytes.{BytesGrammar, all_consuming_of, alt_of, map_of, or_of, pair_of, plain_errors, preceded_of, tag_of, take_of}
 use Rattle.example_streams.specs.declared.protocol.Message.{Message}
 use Rattle.example_streams.specs.declared.protocol.Message.TheVariants.{Ping, Text, Close}
 use Rattle.nom_messages_run.specs.Typed.{Line, typed_of}

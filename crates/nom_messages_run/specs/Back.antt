@@ -2,7 +2,7 @@
 use Rattle.std.specs.Prelude.{◌≡◌, ℕ, ◌-◌, ◌^◌, ◌<◌, ◌≤◌, List, [], ◌++◌, length, Option, Some, None}
 use Rattle.std.specs.Io.KnownBytes.{Appends}
 use Rattle.nom_internal.specs.Prelude.{bytes_model}
-use Rattle.nom.specs.Bytes.{Big, all_consuming_of, length_value_of, number_of}
+use Rattle.nom.specs.grammars.Bytes.{Big, all_consuming_of, length_value_of, number_of}
 use Rattle.nom_run.specs.Texts.{lines_text}
 use Rattle.nom_stream.specs.declared.stream.Stop as Why
 use Rattle.nom_stream.specs.declared.stream.Stop.TheVariants as Stop

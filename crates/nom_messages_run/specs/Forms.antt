@@ -1,6 +1,6 @@
 -- The bytes that stand for messages.
 use Rattle.std.specs.Prelude.{◌≡◌, ℕ, ◌+◌, ◌<◌, List, [], ◌∷◌, ◌++◌, length}
-use Rattle.nom.specs.Bytes.{Big}
+use Rattle.nom.specs.grammars.Bytes.{Big}
 use Rattle.nom_number.specs.Numbers.{binary_number}
 use Rattle.example_streams.specs.declared.protocol.Message.{Message}
 use Rattle.example_streams.specs.declared.protocol.Message.TheVariants.{Ping, Text, Close}

@@ -4,7 +4,7 @@ use Rattle.std.specs.Prelude.{ℕ, List, ◌++◌, codes, Vec}
 use Rattle.std.specs.Fmt.{decimal}
 use Rattle.nom_error.specs.declared.value.Error.{Error}
 use Rattle.nom_internal.specs.Prelude.{Meaning}
-use Rattle.nom.specs.Bytes.{Bytes}
+use Rattle.nom.specs.grammars.Bytes.{Bytes}
 use Rattle.example_streams.specs.declared.protocol.Message.{Message}
 use Rattle.example_streams.specs.declared.protocol.Message.TheVariants.{Ping, Text, Close}
 use Rattle.example_streams.specs.Protocol.{Body, messages_of}

@@ -1,12 +1,12 @@
 -- Messages that are written as they are typed.
-use Rattle.std.specs.Prelude.{◌≡◌, ℕ, false, ◌+◌, ◌-◌, ◌^◌, ◌<◌, ◌≤◌, ◌⊎◌, List, [], ◌∷◌, ◌++◌, length, take, Option, Some, None, Ok, Err, codes}
+use Rattle.std.specs.Prelude.{◌≡◌, ℕ, false, ◌+◌, ◌-◌, ◌^◌, ◌<◌, ◌≤◌, Bool, true, List, [], ◌∷◌, ◌++◌, length, take, Option, Some, None, Ok, Err, codes}
 use Rattle.std.specs.Fmt.{decimal}
 use Rattle.std.specs.List.{All}
 use Rattle.std_io.specs.declared.io.error.Error as Io
 use Rattle.nom_error.specs.declared.value.Error.{Error}
 use Rattle.nom_error.specs.declared.answer.Err.TheVariants as Answer
 use Rattle.nom_internal.specs.Prelude.{IResult}
-use Rattle.nom.specs.Bytes.{Bytes, Parses}
+use Rattle.nom.specs.grammars.Bytes.{Bytes, Parses}
 use Rattle.nom_json_run.specs.Lines.{json_line_of}
 use Rattle.nom_sink.specs.declared.error.WriteError.{WriteError}
 use Rattle.nom_sink.specs.declared.error.WriteError.TheVariants as Write
@@ -18,8 +18,8 @@ use Rattle.nom_stream.specs.Streams.{Decides}
 use Rattle.nom_write_stream.specs.declared.outgoing.Outgoing.{Outgoing}
 use Rattle.nom_write_stream.specs.declared.outgoing.Unwritten as Unwrittens
 use Rattle.nom_write_stream.specs.declared.outgoing.Unwritten.TheVariants as Unwritten
-use Rattle.nom_write_stream.specs.Outgoing.{IsItem, Sends, held_of}
-use Rattle.nom_write_stream.specs.Targets.{NoFault, OneFault}
+use Rattle.nom_write_stream.specs.Outgoing.{Flushes, IsItem, Sends, held_of}
+use Rattle.nom_write_stream.specs.Targets.{NoFault, OneFault, one_more}
 use Rattle.example_streams.specs.declared.protocol.Message.{Message}
 use Rattle.nom_messages_run.specs.Forms.{IsLong, IsMessage, body_len}
 use Rattle.nom_messages_run.specs.Typed.{typed_of}
@@ -148,7 +148,7 @@ pub data SentLines {R A W B : Type 0} (left : R → Option (List ℕ)) (contents
       SentLines left contents s a messages t b → TakesLine left t u xs → Says xs m → SendsMessage contents b c m →
       SentLines left contents s a (messages ++ m ∷ []) u c
 
--- the lines before one were sent, and nothing of that; and what halted there, and why
+-- the lines before one were sent, and nothing of that; and what halted there, and why; and nothing was flushed
 pub record SentUntil {R A W B : Type 0} (left : R → Option (List ℕ)) (contents : W → Option (List ℕ)) (s : Stream R A) (a : Outgoing W B)
     (h : Halts.Halt) (t : Stream R A) (b : Outgoing W B) : Type 0 where
   pub messages : List Message
@@ -157,15 +157,30 @@ pub record SentUntil {R A W B : Type 0} (left : R → Option (List ℕ)) (conten
   pub lines : SentLines left contents s a messages stream outgoing
   pub nothing : SendsNone contents outgoing b
   pub why : HaltsAt left messages stream t outgoing b h
+  pub flushes : b.target.flushes ≡ a.target.flushes
 
--- then all that was held was written; or a write failed then, and that halted
+-- a write failed
+abbrev pub is_failed_write : Halts.Halt → Bool
+is_failed_write Halt.Write = true
+is_failed_write h = false
+
+-- What is done after what halted. After a failed write nothing is written or flushed. Else all that is held is written, and the writer is
+-- flushed, once; or a call fails then, and that halts.
+pub data Finishes {W B : Type 0} (a b : Outgoing W B) (halt h : Halts.Halt) : Type 0 where
+  Left : is_failed_write halt ≡ true → h ≡ halt → b ≡ a → Finishes a b halt h
+  Flushed : is_failed_write halt ≡ false → h ≡ halt → held_of b ≡ [] → NoFault a.target b.target →
+      b.target.flushes ≡ one_more a.target.flushes → Finishes a b halt h
+  Failed : (e : Io.Error) → is_failed_write halt ≡ false → h ≡ Halt.Write → OneFault a.target b.target e →
+      Flushes {T = Unit {0}} a b (Err e) → Finishes a b halt h
+
+-- then all that was held was written, unless a write failed
 pub record SentBefore {R A W B : Type 0} (left : R → Option (List ℕ)) (contents : W → Option (List ℕ)) (s : Stream R A) (a : Outgoing W B)
     (h : Halts.Halt) (t : Stream R A) (b : Outgoing W B) : Type 0 where
   pub halt : Halts.Halt
   pub outgoing : Outgoing W B
   pub until : SentUntil left contents s a halt t outgoing
   pub nothing : SendsNone contents outgoing b
-  pub flushed : ((h ≡ halt) × (held_of b ≡ []) × NoFault outgoing.target b.target) ⊎ ((h ≡ Halt.Write) × WriteFails outgoing b)
+  pub finishes : Finishes outgoing b halt h
 
 -- the status of the program
 abbrev pub status_of : Halts.Halt → ℕ

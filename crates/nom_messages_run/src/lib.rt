@@ -6,6 +6,7 @@
 
 pub mod pipe;
 pub mod promises;
+pub mod put;
 pub mod report;
 pub mod typed;
 pub mod write;

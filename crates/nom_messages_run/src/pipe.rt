@@ -1,56 +1,25 @@
 //! The lines of messages that come one after another, from a reader of any length.
-ghost use Rattle.std.specs.Prelude.{◌≡◌, ◌++◌, ◌^◌, ◌-◌, [], IfOk, IfErr, string_bytes};
+ghost use Rattle.std.specs.Prelude.{◌≡◌, ◌++◌, ◌-◌, ◌^◌, ◌<◌, ◌≤◌, IfOk, IfErr, OnErr, OnOk, vec_capacity, vec_len};
 ghost use Rattle.std.specs.Io.KnownBytes.{Appends};
+ghost use Rattle.nom_run.specs.Pieces.{BeganText, HasRoom, WroteBut};
 ghost use Rattle.nom_run.specs.Stream.{MatchRunError, NoWriteFailed, WriteFailed};
 ghost use Rattle.nom_stream.specs.Streams.{IsOpen};
-ghost use Rattle.nom_messages_run.specs.Pipe.{Wrote, WroteAll, WroteFront, WroteLines, WroteSome, ending_status, ending_text, place_text, received_text};
+ghost use Rattle.nom_messages_run.specs.Pipe.{LacksRoom, WroteAll, WroteLines, WroteSome, ending_status, ending_text, received_text};
 ghost use Rattle.example_streams.specs.Messages.{message_of};
 
-use crate::report::add_ping;
+use crate::put::{put_ending, put_received};
 use example_streams::messages::{Messages, Received};
 use nom::OutOfMemory;
 use nom_run::error::RunError;
-use nom_run::run::write_all;
+use nom_run::pieces::flush;
 use nom_run::stream::Sink;
-use nom_run::text::{add_bytes, add_error, add_failure, add_need, add_words};
 use nom_stream::grammar::Grammar;
 use nom_stream::stream::{Stop, Stream};
 use std::alloc::Allocator;
-use std::fmt::Write;
 use std::io::Read;
 
-// So many bytes of lines are written at once.
+// So many bytes of lines are held at the most.
 const FULL: usize = 65536;
-
-// Adds the line of a message, of which these are the bytes.
-fn add_received<A: Allocator + Copy>(
-    text: &mut String<A>,
-    message: Received,
-    bytes: &[u8],
-) -> Result<(), OutOfMemory>
-    ensures { IfOk result (λ _. string_bytes text.new ≡ string_bytes text.old ++ received_text message bytes.now) }
-{
-    match message {
-        Received::Ping(number) => add_ping(text, number),
-        Received::Text(len) => {
-            let start = bytes.len().saturating_sub(len);
-            add_bytes(text, "text ", &bytes[start..])
-        }
-        Received::Close => add_words(text, "close\n"),
-    }
-}
-
-// Adds what is at an offset.
-fn add_place<A: Allocator + Copy>(
-    text: &mut String<A>,
-    what: &str,
-    offset: u64,
-) -> Result<(), OutOfMemory>
-    ensures { IfOk result (λ _. string_bytes text.new ≡ string_bytes text.old ++ place_text what.now offset) }
-{
-    write!(text, "{what} at {offset}\n")?;
-    Ok(())
-}
 
 // The status where there is no further message.
 fn status_of(why: Option<Stop>) -> u8
@@ -68,87 +37,68 @@ fn status_of(why: Option<Stop>) -> u8
     }
 }
 
-// Adds the last line.
-fn add_ending<A: Allocator + Copy>(
-    text: &mut String<A>,
-    why: Option<Stop>,
-    offset: u64,
-) -> Result<(), OutOfMemory>
-    ensures { IfOk result (λ _. string_bytes text.new ≡ string_bytes text.old ++ ending_text why offset) }
+// Takes the memory for the bytes that are held, unless it is taken.
+fn take_room<A: Allocator>(room: &mut Vec<u8, A>) -> Result<(), OutOfMemory>
+    requires { vec_len room.old ≤ 65536 }
+    ensures room { OnOk result (HasRoom room.new) }
+    ensures same { room.new.items ≡ room.old.items }
+    ensures lacks { OnErr result (vec_capacity room.old < 65536) }
 {
-    match why {
-        None => add_place(text, "end", offset),
-        Some(Stop::Refused(kind, _)) => add_error(text, kind, offset as usize),
-        Some(Stop::Failed(kind, _)) => add_failure(text, kind, offset as usize),
-        Some(Stop::Nothing) => add_place(text, "empty", offset),
-        Some(Stop::Incomplete(needed)) => add_need(text, needed),
-        Some(Stop::TooLong) => add_place(text, "too long", offset),
-        Some(Stop::Fault(_)) => add_words(text, "file fault\n"),
-        Some(Stop::OutOfMemory) => add_words(text, "out of memory\n"),
+    match room.reserve(FULL - room.len()) {
+        Ok(()) => Ok(()),
+        Err(_) => Err(OutOfMemory),
     }
 }
 
-// Writes the text, which is empty then.
-fn flush<A: Allocator, W: Sink>(sink: &mut W, text: &mut String<A>) -> Result<(), RunError>
-    ensures wrote { IfOk result (λ _. Appends (W.held sink.old) (W.held sink.new) (string_bytes text.old)
-        × NoWriteFailed (W.failures sink.old) (W.failures sink.new) (W.stalls sink.old) (W.stalls sink.new)) }
-    ensures none { IfOk result (λ _. string_bytes text.new ≡ []) }
-    ensures error { IfErr result (λ e. MatchRunError e ⊥ (WroteFront (W.held sink.old) (W.held sink.new) (string_bytes text.old)
-        × WriteFailed (W.failures sink.old) (W.failures sink.new) (W.stalls sink.old) (W.stalls sink.new)) ⊥ ⊥) }
-{
-    match write_all(sink, text.as_bytes()) {
-        Ok(()) => {}
-        Err(error) => return Err(error),
-    }
-    text.clear();
-    Ok(())
-}
-
-// Adds the line of a message, of which these are the bytes. Where there are many lines they are written.
-fn list<A: Allocator + Copy, W: Sink>(
+// Adds the line of a message, of which these are the bytes. If it has no room, what is held is written.
+fn list<A: Allocator, W: Sink>(
     sink: &mut W,
-    text: &mut String<A>,
+    room: &mut Vec<u8, A>,
     message: Received,
     bytes: &[u8],
 ) -> Result<(), RunError>
-    ensures wrote { IfOk result (λ _. Wrote (W.held sink.old) (W.held sink.new)
-        (string_bytes text.old ++ received_text message bytes.now) (string_bytes text.new)
+    requires { vec_len room.old ≤ 65536 }
+    ensures room { IfOk result (λ _. HasRoom room.new) }
+    ensures wrote { IfOk result (λ _. WroteBut (W.held sink.old) (W.held sink.new)
+        (room.old.items ++ received_text message bytes.now) room.new.items
         × NoWriteFailed (W.failures sink.old) (W.failures sink.new) (W.stalls sink.old) (W.stalls sink.new)) }
     ensures error { IfErr result (λ e. MatchRunError e ⊥
-        (WroteFront (W.held sink.old) (W.held sink.new) (string_bytes text.old ++ received_text message bytes.now)
+        (BeganText (W.held sink.old) (W.held sink.new) (room.old.items ++ received_text message bytes.now)
         × WriteFailed (W.failures sink.old) (W.failures sink.new) (W.stalls sink.old) (W.stalls sink.new))
-        (sink.new ≡ sink.old) ⊥) }
+        ((sink.new ≡ sink.old) × (vec_capacity room.old < 65536)) ⊥) }
 {
-    match add_received(text, message, bytes) {
+    match take_room(room) {
         Ok(()) => {}
         Err(_) => return Err(RunError::OutOfMemory),
     }
-    if text.len() < FULL {
-        return Ok(());
-    }
-    flush(sink, text)
+    put_received(sink, room, message, bytes)
 }
 
 // Adds the last line, and writes all.
-fn end<A: Allocator + Copy, W: Sink>(
+fn end<A: Allocator, W: Sink>(
     sink: &mut W,
-    text: &mut String<A>,
+    room: &mut Vec<u8, A>,
     why: Option<Stop>,
     offset: u64,
 ) -> Result<u8, RunError>
+    requires { vec_len room.old ≤ 65536 }
     ensures status { IfOk result (λ status. (status ≡ ending_status why)
-        × Appends (W.held sink.old) (W.held sink.new) (string_bytes text.old ++ ending_text why offset)
+        × Appends (W.held sink.old) (W.held sink.new) (room.old.items ++ ending_text why offset)
         × NoWriteFailed (W.failures sink.old) (W.failures sink.new) (W.stalls sink.old) (W.stalls sink.new)) }
     ensures error { IfErr result (λ e. MatchRunError e ⊥
-        (WroteFront (W.held sink.old) (W.held sink.new) (string_bytes text.old ++ ending_text why offset)
+        (BeganText (W.held sink.old) (W.held sink.new) (room.old.items ++ ending_text why offset)
         × WriteFailed (W.failures sink.old) (W.failures sink.new) (W.stalls sink.old) (W.stalls sink.new))
-        (sink.new ≡ sink.old) ⊥) }
+        ((sink.new ≡ sink.old) × (vec_capacity room.old < 65536)) ⊥) }
 {
-    match add_ending(text, why, offset) {
+    match take_room(room) {
         Ok(()) => {}
         Err(_) => return Err(RunError::OutOfMemory),
     }
-    match flush(sink, text) {
+    match put_ending(sink, room, why, offset) {
+        Ok(()) => {}
+        Err(error) => return Err(error),
+    }
+    match flush(sink, room) {
         Ok(()) => Ok(status_of(why)),
         Err(error) => Err(error),
     }
@@ -156,9 +106,10 @@ fn end<A: Allocator + Copy, W: Sink>(
 
 /// Writes a line for each message of a stream, then a last line, and returns the status.
 ///
-/// The last line shows why there is no further message. The answer is `Write` if a write failed, and
-/// `OutOfMemory` if there was no room for a line. In both cases only a beginning of the lines up to that one
-/// was written. A failed write isn't tried again. The answer is `Read` after 2^64 - 1 messages.
+/// The last line shows why there is no further message. It holds at most 65,536 bytes of lines, and takes the
+/// memory for them at the first line. The answer is `OutOfMemory` only if there was none then; nothing was
+/// written. The answer is `Write` if a write failed, which isn't tried again; only a beginning of the lines up
+/// to that one was written. The answer is `Read` after 2^64 - 1 messages.
 pub fn tell_items<R: Read, A: Allocator + Copy, G: Grammar<Item = Received>, W: Sink>(
     alloc: A,
     stream: &mut Stream<R, A>,
@@ -179,24 +130,22 @@ pub fn tell_items<R: Read, A: Allocator + Copy, G: Grammar<Item = Received>, W: 
         (WroteSome R.remaining (G.grammar (G.state grammar.old))
         stream.old stream.new (W.held sink.old) (W.held sink.new)
         × WriteFailed (W.failures sink.old) (W.failures sink.new) (W.stalls sink.old) (W.stalls sink.new))
-        (WroteSome R.remaining (G.grammar (G.state grammar.old))
-        stream.old stream.new (W.held sink.old) (W.held sink.new)
-        × NoWriteFailed (W.failures sink.old) (W.failures sink.new) (W.stalls sink.old) (W.stalls sink.new)) ⊥) }
+        ((sink.new ≡ sink.old) × LacksRoom R.remaining (G.grammar (G.state grammar.old)) stream.old stream.new) ⊥) }
 {
-    let mut text = String::new(alloc);
+    let mut room = Vec::new(alloc);
     for _turn in 0..u64::MAX {
         match stream.next_item(grammar) {
             Ok(Some((used, message))) => {
-                match list(sink, &mut text, message, stream.last(used)) {
+                match list(sink, &mut room, message, stream.last(used)) {
                     Ok(()) => {}
                     Err(error) => return Err(error),
                 }
             }
-            Ok(None) => return end(sink, &mut text, None, stream.offset),
-            Err(why) => return end(sink, &mut text, Some(why), stream.offset),
+            Ok(None) => return end(sink, &mut room, None, stream.offset),
+            Err(why) => return end(sink, &mut room, Some(why), stream.offset),
         }
     }
-    match flush(sink, &mut text) {
+    match flush(sink, &mut room) {
         Ok(()) => Err(RunError::Read),
         Err(error) => Err(error),
     }
@@ -218,8 +167,7 @@ pub fn tell_messages<R: Read, A: Allocator + Copy, W: Sink>(
         × NoWriteFailed (W.failures sink.old) (W.failures sink.new) (W.stalls sink.old) (W.stalls sink.new))
         (WroteSome R.remaining message_of stream.old stream.new (W.held sink.old) (W.held sink.new)
         × WriteFailed (W.failures sink.old) (W.failures sink.new) (W.stalls sink.old) (W.stalls sink.new))
-        (WroteSome R.remaining message_of stream.old stream.new (W.held sink.old) (W.held sink.new)
-        × NoWriteFailed (W.failures sink.old) (W.failures sink.new) (W.stalls sink.old) (W.stalls sink.new)) ⊥) }
+        ((sink.new ≡ sink.old) × LacksRoom R.remaining message_of stream.old stream.new) ⊥) }
 {
     tell_items(alloc, stream, &mut Messages, sink)
 }

@@ -1,7 +1,7 @@
 //! Messages as they are typed, one in a line.
 ghost use Rattle.std.specs.Prelude.{◌≡◌, ◌-◌, false, Err, length};
 ghost use Rattle.nom_error.specs.declared.answer.Err.TheVariants as Answer;
-ghost use Rattle.nom.specs.Bytes.{Parses};
+ghost use Rattle.nom.specs.grammars.Bytes.{Parses};
 ghost use Rattle.example_streams.specs.declared.protocol.Message.TheVariants.{Ping, Text, Close};
 ghost use Rattle.nom_messages_run.specs.Typed.{typed_of};
 

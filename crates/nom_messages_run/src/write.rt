@@ -122,6 +122,7 @@ fn write_frame<'a, W: Write, A: Allocator>(
         Sends W.contents outgoing.old outgoing.new xs × NoFault outgoing.old.target outgoing.new.target) }
     ensures error { IfErr result (λ why. SendsNone W.contents outgoing.old outgoing.new ×
         WhyUnframed outgoing.old outgoing.new body.now why) }
+    ensures flushes { outgoing.new.target.flushes ≡ outgoing.old.target.flushes }
 {
     let frame = length_data(be_u16::<&'a [u8], Error<&'a [u8]>>());
     outgoing.write_item(&frame, &body)
@@ -139,6 +140,7 @@ pub fn write_message<W: Write, A: Allocator, B: Allocator>(
         (body_len message.entry ≤ vec_capacity room.new)) }
     ensures error { IfErr result (λ why. SendsNone W.contents outgoing.old outgoing.new ×
         WhyUnsent outgoing.old outgoing.new (vec_capacity room.old) message.entry why) }
+    ensures flushes { outgoing.new.target.flushes ≡ outgoing.old.target.flushes }
     ensures room { vec_capacity room.old ≤ vec_capacity room.new }
 {
     match make_body(message, room) {
@@ -178,6 +180,7 @@ fn write_line<W: Write, A: Allocator, B: Allocator>(
     ensures sent { MatchOption result ((m : Message) × Says line.now m × SendsMessage W.contents outgoing.old outgoing.new m ×
         (body_len m ≤ vec_capacity room.new)) (λ h. SendsNone W.contents outgoing.old outgoing.new ×
         HaltsLine (vec_capacity room.old) outgoing.old outgoing.new line.now number h) }
+    ensures flushes { outgoing.new.target.flushes ≡ outgoing.old.target.flushes }
     ensures room { vec_capacity room.old ≤ vec_capacity room.new }
 {
     match typed(line) {
@@ -244,10 +247,25 @@ fn write_each<R: Read, A: Allocator + Copy, W: Write, B: Allocator>(
     Halt::Read
 }
 
+/// Returns whether a write failed.
+fn is_failed_write(halt: Halt) -> bool
+    ensures { result ≡ Sent.is_failed_write halt }
+{
+    match halt {
+        Halt::Write => true,
+        Halt::End => false,
+        Halt::NoMessage(_) => false,
+        Halt::LongText(_) => false,
+        Halt::LongLine(_) => false,
+        Halt::Read => false,
+        Halt::OutOfMemory => false,
+    }
+}
+
 /// Writes the messages of lines, one after another, until one can't be written, and all that is held then.
 ///
-/// The lines before that one are written whole, and nothing of it is. After a failed write what wasn't taken is held. The
-/// answer is `Read` after 2^64 - 1 lines.
+/// The lines before that one are written whole, and nothing of it is. After a failed write nothing more is written or
+/// flushed: what wasn't taken is held. The answer is `Read` after 2^64 - 1 lines.
 pub fn write_lines<R: Read, A: Allocator + Copy, W: Write, B: Allocator>(
     alloc: A,
     stream: &mut Stream<R, A>,
@@ -260,6 +278,9 @@ pub fn write_lines<R: Read, A: Allocator + Copy, W: Write, B: Allocator>(
     ensures sent { SentBefore R.remaining W.contents stream.old outgoing.old result stream.new outgoing.new }
 {
     let halt = write_each(alloc, stream, outgoing);
+    if is_failed_write(halt) {
+        return halt;
+    }
     match outgoing.flush() {
         Ok(()) => halt,
         Err(_) => Halt::Write,

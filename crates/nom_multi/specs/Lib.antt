@@ -6,3 +6,4 @@ pub mod Till
 pub mod laws
 pub mod SeparatedPromises
 pub mod Separated
+pub mod Words

@@ -1,6 +1,7 @@
 //! Exactly n items, or a number of items within bounds.
 ghost use Rattle.std.specs.Prelude.{ℕ, List};
 ghost use Rattle.nom_multi.specs.Bounded.{count_of, many_m_n_of};
+ghost use Rattle.nom_multi.specs.Words as Words;
 
 use nom_error::answer::PResult;
 use nom_error::kind::ErrorKind;
@@ -36,6 +37,10 @@ impl<I: Items, A: Allocator + Copy, F: Parser<I> + Drop> Parser<I> for Count<A, 
     ghost Tree = { List F.Tree };
 
     ghost grammar = { λ s. count_of I.model F.Error.errors s.0 (F.grammar s.1) };
+
+    ghost word = { λ s. Words.count_of I.model F.Error.errors s.0 (F.word s.1) };
+
+    ghost worded = { λ s. Words.count_worded I.model F.Error.errors s.0 (F.worded s.1) };
 
     #[inline]
     fn process<OM: OutputMode>(&mut self, input: I) -> PResult<I, Self::Output, Self::Error> {
@@ -80,6 +85,10 @@ impl<I: Input, A: Allocator + Copy, F: Parser<I> + Drop> Parser<I> for ManyMN<A,
     ghost Tree = { List F.Tree };
 
     ghost grammar = { λ s. many_m_n_of I.model F.Error.errors s.0 s.1 (F.grammar s.2) };
+
+    ghost word = { λ s. Words.many_m_n_of I.model F.Error.errors s.0 s.1 (F.word s.2) };
+
+    ghost worded = { λ s. Words.many_m_n_worded I.model F.Error.errors s.0 s.1 (F.worded s.2) };
 
     #[inline]
     fn process<OM: OutputMode>(&mut self, input: I) -> PResult<I, Self::Output, Self::Error> {

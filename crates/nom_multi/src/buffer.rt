@@ -2,6 +2,7 @@
 ghost use Rattle.std.specs.Prelude.{◌≡◌, ◌<◌, ℕ, List, length, None};
 ghost use Rattle.nom_internal.specs.Prelude.{Built, modes, rest_of, ShowsMeaning};
 ghost use Rattle.nom_multi.specs.Fill.{fill_meaning, IsDone, IsFilled, IsPut, IsRanOut, fill_of};
+ghost use Rattle.nom_multi.specs.Words as Words;
 
 use nom_error::answer::{Err, PResult};
 use nom_error::kind::ErrorKind;
@@ -37,6 +38,10 @@ impl<'a, I: Items, T: Drop, F: Parser<I, Output = T> + Drop> Parser<I> for Fill<
         old.buffer.now new.buffer.now (rest ≡ None) };
 
     ghost grammar = { λ s. fill_of I.model F.Error.errors s.1 (F.grammar s.0) };
+
+    ghost word = { λ s. Words.fill_of I.model F.Error.errors s.1 (F.word s.0) };
+
+    ghost worded = { λ s. Words.fill_worded I.model F.Error.errors s.1 (F.worded s.0) };
 
     #[inline]
     fn process<OM: OutputMode>(&mut self, input: I) -> PResult<I, (), F::Error>

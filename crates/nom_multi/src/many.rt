@@ -1,6 +1,7 @@
 //! Items until one is refused.
 ghost use Rattle.std.specs.Prelude.{List};
 ghost use Rattle.nom_multi.specs.Many.{many0_of, many1_of};
+ghost use Rattle.nom_multi.specs.Words as Words;
 
 use nom_error::answer::PResult;
 use nom_error::kind::ErrorKind;
@@ -34,6 +35,10 @@ impl<I: Input, A: Allocator + Copy, F: Parser<I> + Drop> Parser<I> for Many0<A, 
     ghost Tree = { List F.Tree };
 
     ghost grammar = { λ s. many0_of I.model F.Error.errors (F.grammar s) };
+
+    ghost word = { λ s. Words.many0_of I.model F.Error.errors (F.word s) };
+
+    ghost worded = { λ s. Words.many0_worded I.model F.Error.errors (F.worded s) };
 
     #[inline]
     fn process<OM: OutputMode>(&mut self, input: I) -> PResult<I, Self::Output, Self::Error> {
@@ -76,6 +81,10 @@ impl<I: Input, A: Allocator + Copy, F: Parser<I> + Drop> Parser<I> for Many1<A, 
     ghost Tree = { List F.Tree };
 
     ghost grammar = { λ s. many1_of I.model F.Error.errors (F.grammar s) };
+
+    ghost word = { λ s. Words.many1_of I.model F.Error.errors (F.word s) };
+
+    ghost worded = { λ s. Words.many1_worded I.model F.Error.errors (F.worded s) };
 
     #[inline]
     fn process<OM: OutputMode>(&mut self, input: I) -> PResult<I, Self::Output, Self::Error> {

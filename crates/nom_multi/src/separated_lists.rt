@@ -2,6 +2,7 @@
 ghost use Rattle.std.specs.Prelude.{◌≡◌, true, List};
 ghost use Rattle.nom_internal.specs.Prelude.{Built, modes, ShowsAnswer};
 ghost use Rattle.nom_multi.specs.Separated.{Found, optional_meaning, separated_list0_of, separated_list1_of};
+ghost use Rattle.nom_multi.specs.Words as Words;
 
 use nom_error::answer::{Err, PResult};
 use nom_error::kind::ErrorKind;
@@ -42,6 +43,10 @@ impl<
     ghost Tree = { List F.Tree };
 
     ghost grammar = { λ s. separated_list1_of I.model F.Error.errors (G.grammar s.0) (F.grammar s.1) };
+
+    ghost word = { λ s. Words.separated_list1_of I.model F.Error.errors (G.word s.0) (F.word s.1) };
+
+    ghost worded = { λ s. Words.separated_list1_worded I.model F.Error.errors (G.worded s.0) (F.worded s.1) };
 
     #[inline]
     fn process<OM: OutputMode>(&mut self, input: I) -> PResult<I, Self::Output, Self::Error> {
@@ -107,6 +112,10 @@ impl<
     ghost Tree = { List F.Tree };
 
     ghost grammar = { λ s. separated_list0_of I.model F.Error.errors (G.grammar s.0) (F.grammar s.1) };
+
+    ghost word = { λ s. Words.separated_list0_of I.model F.Error.errors (G.word s.0) (F.word s.1) };
+
+    ghost worded = { λ s. Words.separated_list0_worded I.model F.Error.errors (G.worded s.0) (F.worded s.1) };
 
     #[inline]
     fn process<OM: OutputMode>(&mut self, input: I) -> PResult<I, Self::Output, Self::Error> {

@@ -2,6 +2,7 @@
 ghost use Rattle.std.specs.Prelude.{◌≡◌, true, Some, List};
 ghost use Rattle.nom_internal.specs.Prelude.{modes, ShowsAnswer};
 ghost use Rattle.nom_multi.specs.Till.{IsStep, end_or_item, many_till_of};
+ghost use Rattle.nom_multi.specs.Words as Words;
 
 use nom_error::answer::{Err, PResult};
 use nom_error::kind::ErrorKind;
@@ -51,6 +52,10 @@ impl<
     ghost Tree = { List F.Tree × G.Tree };
 
     ghost grammar = { λ s. many_till_of I.model F.Error.errors (F.grammar s.0) (G.grammar s.1) };
+
+    ghost word = { λ s. Words.many_till_of I.model F.Error.errors (F.word s.0) (G.word s.1) };
+
+    ghost worded = { λ s. Words.many_till_worded I.model F.Error.errors (F.worded s.0) (G.worded s.1) };
 
     #[inline]
     fn process<OM: OutputMode>(&mut self, input: I) -> PResult<I, Self::Output, Self::Error> {

@@ -6,3 +6,4 @@ pub mod Ranges
 pub mod Under
 pub mod Unfit
 pub mod laws
+pub mod Words

@@ -2,6 +2,7 @@
 ghost use Rattle.std.specs.Prelude.{◌^◌, ◌<◌, ℕ, List};
 ghost use Rattle.nom_internal.specs.Prelude.{input_len};
 ghost use Rattle.nom_multi_fold.specs.Counts.{many0_count_of, many1_count_of, many_m_n_count_of};
+ghost use Rattle.nom_multi_fold.specs.Words as Words;
 
 use crate::dropped::Dropped;
 use nom_error::answer::PResult;
@@ -36,6 +37,10 @@ impl<I: Input, F: Parser<I> + Drop> Parser<I> for Many0Count<F> {
     ghost Tree = { List F.Tree };
 
     ghost grammar = { λ s. many0_count_of I.model F.Error.errors (F.grammar s) };
+
+    ghost word = { λ s. Words.many0_count_of I.model F.Error.errors (F.word s) };
+
+    ghost worded = { λ s. Words.many0_count_worded I.model F.Error.errors (F.worded s) };
 
     #[inline]
     fn process<OM: OutputMode>(&mut self, input: I) -> PResult<I, usize, F::Error> {
@@ -77,6 +82,10 @@ impl<I: Input, F: Parser<I> + Drop> Parser<I> for Many1Count<F> {
     ghost Tree = { List F.Tree };
 
     ghost grammar = { λ s. many1_count_of I.model F.Error.errors (F.grammar s) };
+
+    ghost word = { λ s. Words.many1_count_of I.model F.Error.errors (F.word s) };
+
+    ghost worded = { λ s. Words.many1_count_worded I.model F.Error.errors (F.worded s) };
 
     #[inline]
     fn process<OM: OutputMode>(&mut self, input: I) -> PResult<I, usize, F::Error> {
@@ -127,6 +136,10 @@ impl<I: Input, F: Parser<I> + Drop> Parser<I> for ManyMNCount<F> {
     ghost Tree = { List F.Tree };
 
     ghost grammar = { λ s. many_m_n_count_of I.model F.Error.errors s.0 s.1 (F.grammar s.2) };
+
+    ghost word = { λ s. Words.many_m_n_count_of I.model F.Error.errors s.0 s.1 (F.word s.2) };
+
+    ghost worded = { λ s. Words.many_m_n_count_worded I.model F.Error.errors s.0 s.1 (F.worded s.2) };
 
     #[inline]
     fn process<OM: OutputMode>(&mut self, input: I) -> PResult<I, usize, F::Error> {

@@ -1,6 +1,7 @@
 //! Parts whose outputs are never built.
 ghost use Rattle.nom_multi_fold.specs.Dropped.{dropped_meaning};
 ghost use Rattle.nom_multi_fold.specs.laws.DroppedLaws.{dropped_lawful};
+ghost use Rattle.nom_multi_fold.specs.Words as Words;
 
 use nom_error::answer::PResult;
 use nom_error::mode::{Check, OutputM, OutputMode};
@@ -26,6 +27,10 @@ impl<I: Items, F: Parser<I> + Drop> Parser<I> for Dropped<F> {
     ghost Tree = { F.Tree };
 
     ghost grammar = { λ s. record { meaning = dropped_meaning (F.grammar s).meaning; IsOutput = λ _ _. Unit {0} } };
+
+    ghost word = { λ s. Words.dropped_of (F.word s) };
+
+    ghost worded = { λ s. Words.dropped_worded (F.worded s) };
 
     #[inline(always)]
     fn process<OM: OutputMode>(&mut self, input: I) -> PResult<I, (), F::Error> {

@@ -3,6 +3,7 @@ ghost use Rattle.std.specs.Prelude.{List};
 ghost use Rattle.nom_error.specs.declared.kind.ErrorKind.TheVariants as Kind;
 ghost use Rattle.nom_multi_fold.specs.Folds.{AreCallable, FoldsAlike};
 ghost use Rattle.nom_multi_fold.specs.Ranges.{many_of, fold_by};
+ghost use Rattle.nom_multi_fold.specs.Words as Words;
 
 use crate::folded::{Folded, carried, start};
 use crate::gathered::{Gathered, collected, gather};
@@ -51,6 +52,10 @@ impl<
     ghost Tree = { List F.Tree };
 
     ghost grammar = { λ s. many_of I.model F.Error.errors (R.IsSpent s.1) (R.lower s.1) (R.upper s.1) C.items (F.grammar s.0) };
+
+    ghost word = { λ s. Words.many_of I.model F.Error.errors C.items (R.IsSpent s.1) (R.lower s.1) (R.upper s.1) (F.word s.0) };
+
+    ghost worded = { λ s. Words.many_worded I.model F.Error.errors C.items (R.IsSpent s.1) (R.lower s.1) (R.upper s.1) (F.worded s.0) };
 
     #[inline]
     fn process<OM: OutputMode>(&mut self, input: I) -> PResult<I, C, F::Error> {
@@ -119,6 +124,12 @@ impl<
 
     ghost grammar = { λ s. fold_by I.model F.Error.errors (R.IsSpent s.3) (R.lower s.3) (R.upper s.3) (AreCallable (H.pre s.1) (G.pre s.2))
         (H.post s.1) (G.post s.2) (F.grammar s.0) };
+
+    ghost word = { λ s. Words.fold_of I.model F.Error.errors (R.IsSpent s.3) (R.lower s.3) (R.upper s.3) (H.pre s.1) (G.pre s.2) (H.post s.1)
+        (G.post s.2) (F.word s.0) };
+
+    ghost worded = { λ s. Words.fold_worded I.model F.Error.errors (R.IsSpent s.3) (R.lower s.3) (R.upper s.3) (H.pre s.1) (G.pre s.2) (H.post s.1)
+        (G.post s.2) (F.worded s.0) };
 
     #[inline]
     fn process<OM: OutputMode>(&mut self, input: I) -> PResult<I, T, F::Error> {

@@ -1,6 +1,7 @@
 //! A list after its length.
 ghost use Rattle.std.specs.Prelude.{List};
 ghost use Rattle.nom_multi_length.specs.Lengths.{length_count_of};
+ghost use Rattle.nom_multi_length.specs.Words as Words;
 
 use nom_error::answer::PResult;
 use nom_error::mode::{Emit, OutputM, OutputMode};
@@ -39,6 +40,10 @@ impl<
     ghost Tree = { List G.Tree };
 
     ghost grammar = { λ s. length_count_of I.model F.Error.errors F.Output.size (F.grammar s.0) (G.grammar s.1) };
+
+    ghost word = { λ s. Words.length_count_of I.model F.Error.errors F.Output.size (F.word s.0) (G.word s.1) };
+
+    ghost worded = { λ s. Words.length_count_worded I.model F.Error.errors F.Output.size (F.worded s.0) (G.worded s.1) };
 
     #[inline]
     fn process<OM: OutputMode>(&mut self, input: I) -> PResult<I, Self::Output, Self::Error> {

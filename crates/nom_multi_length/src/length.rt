@@ -1,6 +1,7 @@
 //! Data after a length.
 ghost use Rattle.nom_internal.specs.Prelude.{Slice};
 ghost use Rattle.nom_multi_length.specs.Lengths.{length_data_of};
+ghost use Rattle.nom_multi_length.specs.Words as Words;
 
 use nom_bytes::take;
 use nom_error::answer::PResult;
@@ -31,6 +32,10 @@ impl<I: Input, F: Parser<I, Output: ToUsize> + Drop> Parser<I> for LengthData<F>
     ghost Tree = { F.Tree × Slice I.model };
 
     ghost grammar = { λ s. length_data_of I.model F.Error.errors I.lack F.Output.size (F.grammar s) };
+
+    ghost word = { λ s. Words.length_data_of I.model F.Error.errors I.lack F.Output.size (F.word s) };
+
+    ghost worded = { λ s. Words.length_data_worded I.model F.Error.errors I.lack F.Output.size (F.worded s) };
 
     #[inline(always)]
     fn process<OM: OutputMode>(&mut self, input: I) -> PResult<I, I, F::Error> {

@@ -3,6 +3,7 @@ ghost use Rattle.std.specs.Prelude.{◌≡◌};
 ghost use Rattle.nom_error.specs.declared.kind.ErrorKind.TheVariants as Kind;
 ghost use Rattle.nom_internal.specs.Prelude.{modes, ShowsMeaning, IsPinned};
 ghost use Rattle.nom_multi_length.specs.Values.{SettlesResult, settled_meaning, values_by_length, length_value_of};
+ghost use Rattle.nom_multi_length.specs.Words as Words;
 
 use crate::cut::cut;
 use nom_error::answer::{Err, PResult};
@@ -93,6 +94,10 @@ impl<I: Input, F: Parser<I, Output: ToUsize> + Drop, G: Parser<I, Error = F::Err
     ghost Tree = { G.Tree };
 
     ghost grammar = { λ s. length_value_of I.model F.Error.errors F.Output.size (F.grammar s.0) (G.grammar s.1) };
+
+    ghost word = { λ s. Words.length_value_of I.model F.Error.errors F.Output.size (F.word s.0) (G.word s.1) };
+
+    ghost worded = { λ s. Words.length_value_worded I.model F.Error.errors F.Output.size (F.worded s.0) (G.worded s.1) };
 
     // The second needn't be a stream parser, which alone has a law of what it pins.
 

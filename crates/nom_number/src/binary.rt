@@ -3,7 +3,9 @@ ghost use Rattle.std.specs.Prelude.{◌≡◌, ◌<◌, ◌∷◌, ℕ, List, le
 ghost use Rattle.nom_internal.specs.Prelude.{Built, value_pinned, value_of, valued};
 ghost use Rattle.nom_internal.specs.laws.CaseLaws.{labelled_lawful, labelled_steady};
 ghost use Rattle.nom_bytes.specs.laws.TakeLaws.{take_lawful, take_steady};
+ghost use Rattle.nom_number.specs.declared.order.Endianness.{Endianness};
 ghost use Rattle.nom_number.specs.Numbers.{bytes_lack, number_meaning};
+ghost use Rattle.nom_number.specs.Words as Words;
 
 use nom_error::answer::{Err, Needed, PResult};
 use nom_error::kind::ErrorKind;
@@ -44,6 +46,10 @@ impl<I: Input<Item = u8>, E: ParseError<I>> Parser<I> for BeU8<I, E> {
     ghost Tree = { ℕ };
 
     ghost grammar = { λ _. valued (number_meaning I.model E.errors (value_of 256) 1) };
+
+    ghost word = { λ _. Words.number_of I.model E.errors (λ n. n) Endianness.Big 1 };
+
+    ghost worded = { λ _. Words.number_worded I.model E.errors (λ n. n) Endianness.Big 1 };
 
     #[inline(always)]
     fn process<OM: OutputMode>(&mut self, input: I) -> PResult<I, u8, E> {

@@ -5,6 +5,7 @@ ghost use Rattle.nom_internal.specs.laws.CaseLaws.{labelled_lawful, labelled_ste
 ghost use Rattle.nom_bytes.specs.laws.TakeLaws.{take_lawful, take_steady};
 ghost use Rattle.nom_number.specs.declared.order.Endianness.{Endianness};
 ghost use Rattle.nom_number.specs.Numbers.{bytes_lack, number_meaning, binary_number};
+ghost use Rattle.nom_number.specs.Words as Words;
 
 use crate::layout::Layout;
 use crate::order::Endianness;
@@ -118,6 +119,10 @@ impl<F: Layout, I: Input<Item = u8>, E: ParseError<I>> Parser<I> for Binary<F, I
     ghost Tree = { F.Number };
 
     ghost grammar = { λ endian. valued (number_meaning I.model E.errors (λ bytes. F.of_bits (binary_number endian bytes)) F.BYTES) };
+
+    ghost word = { λ endian. Words.number_of I.model E.errors F.of_bits endian F.BYTES };
+
+    ghost worded = { λ endian. Words.number_worded I.model E.errors F.of_bits endian F.BYTES };
 
     #[inline(always)]
     fn process<OM: OutputMode>(&mut self, input: I) -> PResult<I, F::Number, E> {

@@ -12,7 +12,7 @@ use Rattle.nom_character.specs.ClassRuns.{class_meaning}
 use Rattle.nom_sequence.specs.Sequences.{preceded_meaning}
 use Rattle.nom_character_integer.specs.Integers.{integer_meaning}
 use Rattle.nom_number_text.specs.Parts.{Both, parts_meaning, IsRaw}
-use Rattle.nom_number_text.specs.Words.{as_float_meaning}
+use Rattle.nom_number_text.specs.Exceptions.{as_float_meaning}
 use Rattle.nom_number_text.specs.Floats.{either_char_meaning, digits_meaning, float_meaning}
 
 -- what the parsers of one shape want

@@ -14,7 +14,7 @@ use Rattle.nom_character.specs.LineMatches.{Match, at_end, one_more}
 use Rattle.nom_character.specs.LineMatches.Match.{Full, Absent, Partial}
 use Rattle.nom_character.proofs.Lines.{after_head, before_rest}
 use Rattle.nom_number_text.specs.declared.word.WordAt.TheVariants as Found
-use Rattle.nom_number_text.specs.Words.{word_in, word_meaning, IsWordAt}
+use Rattle.nom_number_text.specs.Exceptions.{word_in, word_meaning, IsWordAt}
 
 -- that many items before
 abbrev pub later : ℕ → Match → Match

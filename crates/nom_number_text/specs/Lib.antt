@@ -1,3 +1,4 @@
+pub mod Exceptions
 pub mod Floats
 pub mod Hex
 pub mod Parts

@@ -11,7 +11,7 @@ use Rattle.nom_combinator.specs.Verdicts.{cut_meaning, opt_meaning, OptOutput}
 use Rattle.nom_sequence.specs.Sequences.{preceded_meaning}
 use Rattle.nom_character_integer.specs.Integers.{signed_meaning}
 use Rattle.nom_number_text.specs.Floats.{either_char_meaning, digits_meaning}
-use Rattle.nom_number_text.specs.Words.{as_float_meaning}
+use Rattle.nom_number_text.specs.Exceptions.{as_float_meaning}
 
 -- Lists of digits.
 module _ {A : Type 0} (code : A → ℕ) where

@@ -1,60 +1,88 @@
--- Words without the case of ASCII letters.
-use Rattle.std.specs.Prelude.{◌≡◌, ◌⊎◌, ℕ, ◌+◌, ◌<◌, ◌==◌, Bool, cond, List, [], ◌∷◌, length, codes, Some}
-use Rattle.std.specs.Char.{to_ascii_lowercase}
-use Rattle.nom_error.specs.declared.kind.ErrorKind.TheVariants as Kind
-use Rattle.nom_internal.specs.Prelude.{Errors, Model, IsSuffixOf, Slice, renamed_meaning, Meaning, Grammar, sliced}
-use Rattle.nom_branch.specs.Alternatives.{next_meaning, choice_meaning, alt_of, or_of}
-use Rattle.nom_character.specs.LineMatches.{Match, at_end, one_more, match_meaning}
-use Rattle.nom_character.specs.LineMatches.Match.{Full, Absent}
-use Rattle.nom_number_text.specs.declared.word.WordAt.{WordAt}
-use Rattle.nom_number_text.specs.declared.word.WordAt.TheVariants as Found
+-- The words of this crate's parsers. `code` is the code point of an item.
+use Rattle.std.specs.Prelude.{◌≡◌, ℕ, ℤ, Bool}
+use Rattle.std.proofs.Common.{refl, ap}
+use Rattle.nom_internal.specs.Prelude.{Errors, Model, sliced, valued}
+use Rattle.nom_internal.specs.Word.{Word, word}
 use Rattle.nom_number_text.specs.declared.word.Exception.{Exception}
-use Rattle.nom_number_text.specs.declared.word.Exception.TheVariants as Named
+use Rattle.nom_number_text.specs.Exceptions as Exceptions
+use Rattle.nom_number_text.specs.Exceptions.{letters_of, word_meaning}
+use Rattle.nom_number_text.specs.Floats.{float_meaning}
+use Rattle.nom_number_text.specs.Hex.{hex_meaning}
+use Rattle.nom_number_text.specs.Parts.{IsParts, parts_meaning}
 
--- A word is a list of code points in lower case. It stands at the first items where their code points, in lower case, are the word's, in turn.
--- Where the items end before it does, as many items lack as letters are left.
-module _ {A : Type 0} (code : A → ℕ) where
-  abbrev pub word_in : (word : List ℕ) → (streaming : Bool) → List A → Match
-  word_in [] streaming xs = Full 0
-  word_in (c ∷ cs) streaming [] = at_end streaming (Some (length cs + 1)) Absent
-  word_in (c ∷ cs) streaming (x ∷ xs) = cond (to_ascii_lowercase (code x) == c) (one_more (word_in cs streaming xs)) Absent
+module _ {I A E : Type 0} (w : Model I A) (errs : Errors I E) (code : A → ℕ) where
+  abbrev hex_u32_meant : Word I ℕ E
+  hex_u32_meant = word (valued (hex_meaning w code errs))
 
--- a word, refused with `Float`
-abbrev pub word_meaning : {I A E : Type 0} (w : Model I A) → (code : A → ℕ) → Errors I E → List ℕ → Meaning I (Slice w) E
-word_meaning w code errs word = match_meaning w (word_in code word) errs Kind.Float
+  pub hex_u32_of : Word I ℕ E
+  hex_u32_of = hex_u32_meant
 
--- what stands at the start of an input, in either mode: all of the word, something else, or a beginning of it, with the number of letters that are missing
-abbrev pub IsWordAt : {I A : Type 0} (w : Model I A) → (code : A → ℕ) → List ℕ → I → WordAt I → Type 0
-IsWordAt w code word i (Found.Stands j) = (n : ℕ) × (r : IsSuffixOf w i n j) × ((s : Bool) → word_in code word s (w.elements i) ≡ Full (length r.front))
-IsWordAt w code word i Found.Differs = (s : Bool) → word_in code word s (w.elements i) ≡ Absent
-IsWordAt w code word i (Found.Lacks k) = (0 < k) × ((s : Bool) → word_in code word s (w.elements i) ≡ at_end s (Some k) Absent)
+  pub hex_u32_worded : hex_u32_of ≡ hex_u32_meant
+  unfolding hex_u32_of
+  hex_u32_worded = refl
 
--- the letters of the words for what is no fraction
-abbrev pub letters_of : Exception → List ℕ
-letters_of Named.Nan = codes "nan"
-letters_of Named.Infinity = codes "infinity"
-letters_of Named.Inf = codes "inf"
+  abbrev recognize_float_meant : Word I I E
+  recognize_float_meant = word (sliced w (float_meaning w code errs))
 
--- a part, and where it refuses `nan`, `infinity` or `inf`, the first that isn't refused
-abbrev pub exceptions_meaning : {I A P E : Type 0} (w : Model I A) → (code : A → ℕ) → Errors I E → Meaning I P E →
-    Meaning I (((P ⊎ Slice w) ⊎ Slice w) ⊎ Slice w) E
-exceptions_meaning w code errs first =
-    choice_meaning errs (next_meaning errs
-    (next_meaning errs (next_meaning errs first (word_meaning w code errs (codes "nan"))) (word_meaning w code errs (codes "infinity")))
-    (word_meaning w code errs (codes "inf")))
+  pub recognize_float_of : Word I I E
+  recognize_float_of = recognize_float_meant
+
+  pub recognize_float_worded : recognize_float_of ≡ recognize_float_meant
+  unfolding recognize_float_of
+  recognize_float_worded = refl
+
+  abbrev float_parts_meant : Word I (Bool × I × I × ℤ) E
+  float_parts_meant = word (record { meaning = parts_meaning w code errs; IsOutput = IsParts w code })
+
+  -- the parts of a decimal fraction
+  pub float_parts_of : Word I (Bool × I × I × ℤ) E
+  float_parts_of = float_parts_meant
+
+  pub float_parts_worded : float_parts_of ≡ float_parts_meant
+  unfolding float_parts_of
+  float_parts_worded = refl
+
+  abbrev exception_meant : Exception → Word I I E
+  exception_meant which = word (sliced w (word_meaning w code errs (letters_of which)))
+
+  -- one of `nan`, `infinity` and `inf`
+  pub exception_of : Exception → Word I I E
+  exception_of which = exception_meant which
+
+  pub exception_worded : (which : Exception) → exception_of which ≡ exception_meant which
+  unfolding exception_of
+  exception_worded which = refl
+
+  pub exception_same : {a b : Exception} → a ≡ b → exception_of a ≡ exception_of b
+  exception_same p = ap exception_of p
+
+  abbrev exceptions_meant : Word I I E → Word I I E
+  exceptions_meant g = word (Exceptions.exceptions_of w code errs g.grammar)
+
+  -- a part, and each of these in turn where it refuses
+  pub exceptions_of : Word I I E → Word I I E
+  exceptions_of g = exceptions_meant g
+
+  module _ {g h : Word I I E} where
+    pub exceptions_worded : g ≡ h → exceptions_of g ≡ exceptions_meant h
+    unfolding exceptions_of
+    exceptions_worded p = ap exceptions_meant p
+
+    pub exceptions_same : g ≡ h → exceptions_of g ≡ exceptions_of h
+    exceptions_same p = ap exceptions_of p
 
 -- a part whose errors become those of `Float` at the start
-abbrev pub as_float_meaning : {I P E : Type 0} → Errors I E → Meaning I P E → Meaning I P E
-as_float_meaning errs = renamed_meaning (λ i _. errs.of_kind i Kind.Float) errs.grows
+module _ {I O E : Type 0} (errs : Errors I E) where
+  abbrev as_float_meant : Word I O E → Word I O E
+  as_float_meant g = word (Exceptions.as_float_of errs g.grammar)
 
--- a grammar, and where it refuses `nan`, `infinity` or `inf`
-abbrev pub exceptions_of : {I A V E : Type 0} (w : Model I A) → (code : A → ℕ) → Errors I E → Grammar I V I E →
-    Grammar I (((V ⊎ Slice w) ⊎ Slice w) ⊎ Slice w) I E
-exceptions_of w code errs g =
-    alt_of errs (or_of errs (or_of errs (or_of errs g (sliced w (word_meaning w code errs (codes "nan")))) (sliced w (word_meaning w code errs
-    (codes "infinity"))))
-    (sliced w (word_meaning w code errs (codes "inf"))))
+  pub as_float_of : Word I O E → Word I O E
+  as_float_of g = as_float_meant g
 
--- a grammar whose errors become those of `Float` at the start
-abbrev pub as_float_of : {I V O E : Type 0} → Errors I E → Grammar I V O E → Grammar I V O E
-as_float_of errs g = record { meaning = as_float_meaning errs g.meaning; IsOutput = g.IsOutput }
+  module _ {g h : Word I O E} where
+    pub as_float_worded : g ≡ h → as_float_of g ≡ as_float_meant h
+    unfolding as_float_of
+    as_float_worded p = ap as_float_meant p
+
+    pub as_float_same : g ≡ h → as_float_of g ≡ as_float_of h
+    as_float_same p = ap as_float_of p

@@ -1,8 +1,9 @@
 //! Words in place of a decimal fraction.
 ghost use Rattle.std.specs.Prelude.{◌⊎◌};
 ghost use Rattle.nom_internal.specs.Prelude.{Slice};
-ghost use Rattle.nom_number_text.specs.Words.{exceptions_of};
+ghost use Rattle.nom_number_text.specs.Exceptions.{exceptions_of};
 ghost use Rattle.nom_number_text.specs.laws.WordLaws.{exceptions_lawful, exceptions_steady, exceptions_pinned};
+ghost use Rattle.nom_number_text.specs.Words as Words;
 
 use crate::word::{Exception, Word};
 use nom_error::answer::PResult;
@@ -38,6 +39,10 @@ where
     ghost Tree = { ((F.Tree ⊎ Slice I.model) ⊎ Slice I.model) ⊎ Slice I.model };
 
     ghost grammar = { λ s. exceptions_of I.model I.Item.code F.Error.errors (F.grammar s) };
+
+    ghost word = { λ s. Words.exceptions_of I.model F.Error.errors I.Item.code (F.word s) };
+
+    ghost worded = { λ s. Words.exceptions_worded I.model F.Error.errors I.Item.code (F.worded s) };
 
     #[inline(always)]
     fn process<OM: OutputMode>(&mut self, input: I) -> PResult<I, I, F::Error> {

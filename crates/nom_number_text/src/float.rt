@@ -3,6 +3,7 @@ ghost use Rattle.std.specs.Prelude.{◌≡◌};
 ghost use Rattle.nom_internal.specs.Prelude.{Slice, slice_pinned, sliced};
 ghost use Rattle.nom_number_text.specs.Floats.{float_meaning};
 ghost use Rattle.nom_number_text.specs.laws.FloatLaws.{float_stream};
+ghost use Rattle.nom_number_text.specs.Words as Words;
 
 use nom_branch::{Choice, alt};
 use nom_character::{Char, char, digit1};
@@ -46,6 +47,10 @@ where
     ghost Tree = { Slice I.model };
 
     ghost grammar = { λ _. sliced I.model (float_meaning I.model I.Item.code E.errors) };
+
+    ghost word = { λ _. Words.recognize_float_of I.model E.errors I.Item.code };
+
+    ghost worded = { λ _. Words.recognize_float_worded I.model E.errors I.Item.code };
 
     #[inline(always)]
     fn process<OM: OutputMode>(&mut self, input: I) -> PResult<I, I, E> {

@@ -3,6 +3,7 @@ ghost use Rattle.std.specs.Prelude.{◌≡◌, ◌≤◌, ◌<◌, ℕ, length, 
 ghost use Rattle.nom_internal.specs.Prelude.{Built, value_pinned, valued};
 ghost use Rattle.nom_number_text.specs.Hex.{hex_value, hex_number, hex_meaning};
 ghost use Rattle.nom_number_text.specs.laws.HexLaws.{hex_stream};
+ghost use Rattle.nom_number_text.specs.Words as Words;
 
 use nom_character::ClassRun;
 use nom_error::answer::PResult;
@@ -94,6 +95,10 @@ where
     ghost Tree = { ℕ };
 
     ghost grammar = { λ _. valued (hex_meaning I.model I.Item.code E.errors) };
+
+    ghost word = { λ _. Words.hex_u32_of I.model E.errors I.Item.code };
+
+    ghost worded = { λ _. Words.hex_u32_worded I.model E.errors I.Item.code };
 
     #[inline(always)]
     fn process<OM: OutputMode>(&mut self, input: I) -> PResult<I, u32, E> {

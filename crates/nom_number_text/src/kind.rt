@@ -1,8 +1,9 @@
 //! A parser that replaces the errors of its part by errors of one kind.
 ghost use Rattle.nom_error.specs.declared.kind.ErrorKind.TheVariants as Kind;
 ghost use Rattle.nom_combinator.specs.Contexts.{IsRenamed};
-ghost use Rattle.nom_number_text.specs.Words.{as_float_of};
+ghost use Rattle.nom_number_text.specs.Exceptions.{as_float_of};
 ghost use Rattle.nom_internal.specs.laws.MappedLaws.{renamed_lawful, renamed_steady};
+ghost use Rattle.nom_number_text.specs.Words as Words;
 
 use nom_error::answer::{Err, PResult};
 use nom_error::kind::ErrorKind;
@@ -49,6 +50,10 @@ impl<I: Items, F: Parser<I> + Drop> Parser<I> for AsFloat<F> {
     ghost Tree = { F.Tree };
 
     ghost grammar = { λ s. as_float_of F.Error.errors (F.grammar s) };
+
+    ghost word = { λ s. Words.as_float_of F.Error.errors (F.word s) };
+
+    ghost worded = { λ s. Words.as_float_worded F.Error.errors (F.worded s) };
 
     #[inline(always)]
     fn process<OM: OutputMode>(&mut self, input: I) -> PResult<I, Self::Output, Self::Error> {

@@ -3,6 +3,7 @@ ghost use Rattle.std.specs.Prelude.{◌≡◌, ◌⊎◌, ℕ, Option, ℤ};
 ghost use Rattle.nom_internal.specs.Prelude.{modes, items_len, Slice, IsModelledBy, ShowsMeaning};
 ghost use Rattle.nom_number_text.specs.Parts.{zeros_of, fraction_of, integer_slice, fraction_slice, is_plus, power_read, Both, parts_meaning, IsParts, IsRaw};
 ghost use Rattle.nom_number_text.specs.laws.PartLaws.{parts_stream, parts_pinned};
+ghost use Rattle.nom_number_text.specs.Words as Words;
 
 use crate::float::either;
 use crate::kind::AsFloat;
@@ -175,6 +176,10 @@ where
     ghost Tree = { (Option (ℕ ⊎ ℕ) × Both I.model) × Option ℤ };
 
     ghost grammar = { λ _. record { meaning = parts_meaning I.model I.Item.code E.errors; IsOutput = IsParts I.model I.Item.code } };
+
+    ghost word = { λ _. Words.float_parts_of I.model E.errors I.Item.code };
+
+    ghost worded = { λ _. Words.float_parts_worded I.model E.errors I.Item.code };
 
     #[inline(always)]
     fn process<OM: OutputMode>(&mut self, input: I) -> PResult<I, Self::Output, E> {

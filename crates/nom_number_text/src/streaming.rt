@@ -5,7 +5,7 @@ ghost use Rattle.nom_func.specs.Func.{StreamsBy};
 ghost use Rattle.nom_number_text.specs.Floats.{float_meaning};
 ghost use Rattle.nom_number_text.specs.Hex.{hex_meaning};
 ghost use Rattle.nom_number_text.specs.Parts.{IsParts, parts_meaning};
-ghost use Rattle.nom_number_text.specs.Words.{as_float_meaning, exceptions_meaning};
+ghost use Rattle.nom_number_text.specs.Exceptions.{as_float_meaning, exceptions_meaning};
 
 use crate::exceptions::OrExceptions;
 use crate::float::RecognizeFloat;

@@ -2,8 +2,9 @@
 ghost use Rattle.std.specs.Prelude.{◌≡◌};
 ghost use Rattle.nom_internal.specs.Prelude.{Slice, slice_pinned, sliced};
 ghost use Rattle.nom_number_text.specs.declared.word.Exception.{Exception};
-ghost use Rattle.nom_number_text.specs.Words.{IsWordAt, letters_of, word_meaning};
+ghost use Rattle.nom_number_text.specs.Exceptions.{IsWordAt, letters_of, word_meaning};
 ghost use Rattle.nom_number_text.specs.laws.WordLaws.{word_stream};
+ghost use Rattle.nom_number_text.specs.Words as Words;
 
 use nom_character_first::first::first;
 use nom_error::answer::{Err, Needed, PResult};
@@ -95,6 +96,10 @@ where
     ghost Tree = { Slice I.model };
 
     ghost grammar = { λ word. sliced I.model (word_meaning I.model I.Item.code E.errors (letters_of word)) };
+
+    ghost word = { λ which. Words.exception_of I.model E.errors I.Item.code which };
+
+    ghost worded = { λ which. Words.exception_worded I.model E.errors I.Item.code which };
 
     #[inline(always)]
     fn process<OM: OutputMode>(&mut self, input: I) -> PResult<I, I, E> {

@@ -6,3 +6,4 @@ pub mod Permutation
 pub mod Rounds
 pub mod laws
 pub mod Tries
+pub mod Words

@@ -2,6 +2,8 @@
 ghost use Rattle.std.specs.Prelude.{◌≡◌, ◌+◌, ◌∷◌, [], ℕ, Bool, List, Option, Some, None, length};
 ghost use Rattle.nom_internal.specs.Prelude.{Built, modes};
 ghost use Rattle.nom_permutation.specs.Members.{Member, AllRun, IsOver, member, tried, with_last};
+ghost use Rattle.nom_permutation.specs.Words as Words;
+ghost use Rattle.nom_permutation.specs.Words.{Several};
 ghost use Rattle.nom_permutation.specs.laws.NestedLaws.{AreGood};
 ghost use Rattle.nom_permutation.specs.Rounds.{HasTried, SlotHolds, IsApplied, applies, waits};
 
@@ -42,6 +44,11 @@ pub trait Nested<I: Items>: Sized {
     ghost waiting: { Self.Slots → ℕ };
 
     ghost AreOutputs: { State → Tree → Self.Outputs → Type 0 };
+
+    /// The word of the members. `Parser.word` of a permutation is built of it.
+    ghost word: { State → Several I Self.Outputs Self.Error };
+
+    ghost worded: { (s : State) → word s ≡ record { Tree = Tree; none = none; members = members s; AreOutputs = AreOutputs s } };
 
     /// Returns places that all wait.
     fn slots() -> Self::Slots
@@ -105,6 +112,10 @@ impl<I: Items, A: Parser<I>> Nested<I> for One<A> {
 
     ghost AreOutputs = { λ s t o. IsApplied (A.grammar s).IsOutput t o.member };
 
+    ghost word = { λ s. Words.first_of (A.word s) };
+
+    ghost worded = { λ s. Words.first_worded (A.worded s) };
+
     #[inline(always)]
     fn slots() -> Self::Slots {
         Slot::Waiting
@@ -161,6 +172,10 @@ impl<I: Items, M: Nested<I>, A: Parser<I, Error = M::Error>> Nested<I> for More<
     ghost waiting = { λ slots. M.waiting slots.0 + waits slots.1 };
 
     ghost AreOutputs = { λ s t o. M.AreOutputs s.0 t.0 o.0 × IsApplied (A.grammar s.1).IsOutput t.1 o.1 };
+
+    ghost word = { λ s. Words.more_of (M.word s.0) (A.word s.1) };
+
+    ghost worded = { λ s. Words.more_worded (M.worded s.0) (A.worded s.1) };
 
     #[inline(always)]
     fn slots() -> Self::Slots {

@@ -1,6 +1,7 @@
 //! Permutations of six to eight parsers.
 ghost use Rattle.std.proofs.Common.{refl};
 ghost use Rattle.nom_permutation.specs.Permutation.{once_each_of};
+ghost use Rattle.nom_permutation.specs.Words as Words;
 
 use crate::members::Nested;
 use crate::nest::{Eight, Seven, Six};
@@ -44,6 +45,12 @@ impl<
     ghost grammar = { λ s. once_each_of I.model A.Error.errors (⟦<Six<A, B, C, D, E, F> as Nested<I>>⟧.members s)
         ⟦<Six<A, B, C, D, E, F> as Nested<I>>⟧.none (⟦<Six<A, B, C, D, E, F> as Nested<I>>⟧.AreOutputs s)
         (λ o. (((((record { member = o.0 }, o.1), o.2), o.3), o.4), o.5)) };
+
+    ghost word = { λ s. Words.permutation_of I.model A.Error.errors (λ o. (((((record { member = o.0 }, o.1), o.2), o.3), o.4), o.5))
+        (⟦<Six<A, B, C, D, E, F> as Nested<I>>⟧.word s) };
+
+    ghost worded = { λ s. Words.permutation_worded I.model A.Error.errors (λ o. (((((record { member = o.0 }, o.1), o.2), o.3), o.4), o.5))
+        (⟦<Six<A, B, C, D, E, F> as Nested<I>>⟧.worded s) };
 
     #[inline(always)]
     fn process<OM: OutputMode>(&mut self, input: I) -> PResult<I, Self::Output, Self::Error> {
@@ -125,6 +132,12 @@ impl<
     ghost grammar = { λ s. once_each_of I.model A.Error.errors (⟦<Seven<A, B, C, D, E, F, G> as Nested<I>>⟧.members s)
         ⟦<Seven<A, B, C, D, E, F, G> as Nested<I>>⟧.none (⟦<Seven<A, B, C, D, E, F, G> as Nested<I>>⟧.AreOutputs s)
         (λ o. ((((((record { member = o.0 }, o.1), o.2), o.3), o.4), o.5), o.6)) };
+
+    ghost word = { λ s. Words.permutation_of I.model A.Error.errors (λ o. ((((((record { member = o.0 }, o.1), o.2), o.3), o.4), o.5), o.6))
+        (⟦<Seven<A, B, C, D, E, F, G> as Nested<I>>⟧.word s) };
+
+    ghost worded = { λ s. Words.permutation_worded I.model A.Error.errors (λ o. ((((((record { member = o.0 }, o.1), o.2), o.3), o.4), o.5), o.6))
+        (⟦<Seven<A, B, C, D, E, F, G> as Nested<I>>⟧.worded s) };
 
     #[inline(always)]
     fn process<OM: OutputMode>(&mut self, input: I) -> PResult<I, Self::Output, Self::Error> {
@@ -212,6 +225,12 @@ impl<
     ghost grammar = { λ s. once_each_of I.model A.Error.errors (⟦<Eight<A, B, C, D, E, F, G, H> as Nested<I>>⟧.members s)
         ⟦<Eight<A, B, C, D, E, F, G, H> as Nested<I>>⟧.none (⟦<Eight<A, B, C, D, E, F, G, H> as Nested<I>>⟧.AreOutputs s)
         (λ o. (((((((record { member = o.0 }, o.1), o.2), o.3), o.4), o.5), o.6), o.7)) };
+
+    ghost word = { λ s. Words.permutation_of I.model A.Error.errors (λ o. (((((((record { member = o.0 }, o.1), o.2), o.3), o.4), o.5), o.6), o.7))
+        (⟦<Eight<A, B, C, D, E, F, G, H> as Nested<I>>⟧.word s) };
+
+    ghost worded = { λ s. Words.permutation_worded I.model A.Error.errors (λ o. (((((((record { member = o.0 }, o.1), o.2), o.3), o.4), o.5), o.6), o.7))
+        (⟦<Eight<A, B, C, D, E, F, G, H> as Nested<I>>⟧.worded s) };
 
     #[inline(always)]
     fn process<OM: OutputMode>(&mut self, input: I) -> PResult<I, Self::Output, Self::Error> {

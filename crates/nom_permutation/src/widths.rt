@@ -1,6 +1,7 @@
 //! Permutations of two to five parsers.
 ghost use Rattle.std.proofs.Common.{refl};
 ghost use Rattle.nom_permutation.specs.Permutation.{once_each_of};
+ghost use Rattle.nom_permutation.specs.Words as Words;
 
 use crate::members::Nested;
 use crate::nest::{Five, Four, Three, Two};
@@ -29,6 +30,12 @@ impl<I: Items, A: Parser<I>, B: Parser<I, Error = A::Error>> Parser<I> for OnceE
     ghost grammar = { λ s. once_each_of I.model A.Error.errors (⟦<Two<A, B> as Nested<I>>⟧.members s)
         ⟦<Two<A, B> as Nested<I>>⟧.none (⟦<Two<A, B> as Nested<I>>⟧.AreOutputs s)
         (λ o. (record { member = o.0 }, o.1)) };
+
+    ghost word = { λ s. Words.permutation_of I.model A.Error.errors (λ o. (record { member = o.0 }, o.1))
+        (⟦<Two<A, B> as Nested<I>>⟧.word s) };
+
+    ghost worded = { λ s. Words.permutation_worded I.model A.Error.errors (λ o. (record { member = o.0 }, o.1))
+        (⟦<Two<A, B> as Nested<I>>⟧.worded s) };
 
     #[inline(always)]
     fn process<OM: OutputMode>(&mut self, input: I) -> PResult<I, Self::Output, Self::Error> {
@@ -79,6 +86,12 @@ impl<I: Items, A: Parser<I>, B: Parser<I, Error = A::Error>, C: Parser<I, Error 
     ghost grammar = { λ s. once_each_of I.model A.Error.errors (⟦<Three<A, B, C> as Nested<I>>⟧.members s)
         ⟦<Three<A, B, C> as Nested<I>>⟧.none (⟦<Three<A, B, C> as Nested<I>>⟧.AreOutputs s)
         (λ o. ((record { member = o.0 }, o.1), o.2)) };
+
+    ghost word = { λ s. Words.permutation_of I.model A.Error.errors (λ o. ((record { member = o.0 }, o.1), o.2))
+        (⟦<Three<A, B, C> as Nested<I>>⟧.word s) };
+
+    ghost worded = { λ s. Words.permutation_worded I.model A.Error.errors (λ o. ((record { member = o.0 }, o.1), o.2))
+        (⟦<Three<A, B, C> as Nested<I>>⟧.worded s) };
 
     #[inline(always)]
     fn process<OM: OutputMode>(&mut self, input: I) -> PResult<I, Self::Output, Self::Error> {
@@ -139,6 +152,12 @@ impl<
     ghost grammar = { λ s. once_each_of I.model A.Error.errors (⟦<Four<A, B, C, D> as Nested<I>>⟧.members s)
         ⟦<Four<A, B, C, D> as Nested<I>>⟧.none (⟦<Four<A, B, C, D> as Nested<I>>⟧.AreOutputs s)
         (λ o. (((record { member = o.0 }, o.1), o.2), o.3)) };
+
+    ghost word = { λ s. Words.permutation_of I.model A.Error.errors (λ o. (((record { member = o.0 }, o.1), o.2), o.3))
+        (⟦<Four<A, B, C, D> as Nested<I>>⟧.word s) };
+
+    ghost worded = { λ s. Words.permutation_worded I.model A.Error.errors (λ o. (((record { member = o.0 }, o.1), o.2), o.3))
+        (⟦<Four<A, B, C, D> as Nested<I>>⟧.worded s) };
 
     #[inline(always)]
     fn process<OM: OutputMode>(&mut self, input: I) -> PResult<I, Self::Output, Self::Error> {
@@ -202,6 +221,12 @@ impl<
     ghost grammar = { λ s. once_each_of I.model A.Error.errors (⟦<Five<A, B, C, D, E> as Nested<I>>⟧.members s)
         ⟦<Five<A, B, C, D, E> as Nested<I>>⟧.none (⟦<Five<A, B, C, D, E> as Nested<I>>⟧.AreOutputs s)
         (λ o. ((((record { member = o.0 }, o.1), o.2), o.3), o.4)) };
+
+    ghost word = { λ s. Words.permutation_of I.model A.Error.errors (λ o. ((((record { member = o.0 }, o.1), o.2), o.3), o.4))
+        (⟦<Five<A, B, C, D, E> as Nested<I>>⟧.word s) };
+
+    ghost worded = { λ s. Words.permutation_worded I.model A.Error.errors (λ o. ((((record { member = o.0 }, o.1), o.2), o.3), o.4))
+        (⟦<Five<A, B, C, D, E> as Nested<I>>⟧.worded s) };
 
     #[inline(always)]
     fn process<OM: OutputMode>(&mut self, input: I) -> PResult<I, Self::Output, Self::Error> {

@@ -6,4 +6,5 @@ pub mod Steps
 pub mod Stuck
 pub mod Told
 pub mod Values
+pub mod Words
 pub mod laws

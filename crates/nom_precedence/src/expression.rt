@@ -7,6 +7,7 @@ ghost use Rattle.nom_precedence.specs.Values.{StandsFor, folding, precedence_by}
 ghost use Rattle.nom_operators.specs.Groups.{groups_left};
 ghost use Rattle.nom_operators.specs.declared.operation.Operation.{Operation};
 ghost use Rattle.nom_operators.specs.declared.operation.Assoc.{Assoc};
+ghost use Rattle.nom_precedence.specs.Words as Words;
 
 use crate::pairs::pairs;
 use crate::read::Read;
@@ -57,6 +58,12 @@ impl<
 
     ghost grammar = { λ s. precedence_by I.model F.Error.errors ((x : Operation P.Output Q.Output B F.Output) → G.pre s.5 x) (G.post s.5) s.4
         (P.grammar s.0) (F.grammar s.1) (Q.grammar s.2) (C.grammar s.3) };
+
+    ghost word = { λ s. Words.precedence_of I.model F.Error.errors ((x : Operation P.Output Q.Output B F.Output) → G.pre s.5 x) (G.post s.5) s.4
+        (P.word s.0) (F.word s.1) (Q.word s.2) (C.word s.3) };
+
+    ghost worded = { λ s. Words.precedence_worded I.model F.Error.errors ((x : Operation P.Output Q.Output B F.Output) → G.pre s.5 x) (G.post s.5) s.4
+        (P.worded s.0) (F.worded s.1) (Q.worded s.2) (C.worded s.3) };
 
     fn process<OM: OutputMode>(&mut self, input: I) -> PResult<I, F::Output, F::Error> {
         let (end, whole) = read::<OM, I, A, P, F, Q, B, C, G>(

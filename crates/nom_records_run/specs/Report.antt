@@ -2,7 +2,7 @@
 use Rattle.std.specs.Prelude.{ℕ, List, codes, Vec}
 use Rattle.nom_error.specs.declared.value.Error.{Error}
 use Rattle.nom_internal.specs.Prelude.{bytes_model, Slice, Meaning}
-use Rattle.nom.specs.Bytes.{Bytes, BytesGrammar, Big, length_data_of, many0_of, number_of, preceded_of, tag_of, terminated_of}
+use Rattle.nom.specs.grammars.Bytes.{Bytes, BytesGrammar, Big, length_data_of, many0_of, number_of, preceded_of, tag_of, terminated_of}
 use Rattle.nom_run.specs.Report.{IsReportBy}
 use Rattle.nom_run.specs.Texts.{bytes_text, lines_text}
 

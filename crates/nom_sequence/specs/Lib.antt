@@ -1,2 +1,3 @@
 pub mod Sequences
 pub mod laws
+pub mod Words

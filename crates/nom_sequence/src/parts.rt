@@ -3,6 +3,7 @@ ghost use Rattle.std.specs.Prelude.{false};
 ghost use Rattle.nom_internal.specs.Prelude.{with_outputs, ThenBesides};
 ghost use Rattle.nom_sequence.specs.Sequences.{preceded_of, terminated_of};
 ghost use Rattle.nom_sequence.specs.laws.SequenceLaws.{preceded_lawful, preceded_steady, terminated_lawful, terminated_steady};
+ghost use Rattle.nom_sequence.specs.Words as Words;
 
 use nom_error::answer::PResult;
 use nom_error::mode::{Check, OutputM, OutputMode};
@@ -29,6 +30,10 @@ impl<I: Items, F: Parser<I> + Drop, G: Parser<I, Error = F::Error> + Drop> Parse
     ghost Tree = { G.Tree };
 
     ghost grammar = { λ s. preceded_of I.model (F.grammar s.0) (G.grammar s.1) };
+
+    ghost word = { λ s. Words.preceded_of I.model (F.word s.0) (G.word s.1) };
+
+    ghost worded = { λ s. Words.preceded_worded I.model (F.worded s.0) (G.worded s.1) };
 
     ghost Besides = { λ mode old new i. ThenBesides (F.Besides (with_outputs false mode) old.first new.first i) (G.Besides mode old.second new.second) };
 
@@ -73,6 +78,10 @@ impl<I: Items, F: Parser<I> + Drop, G: Parser<I, Error = F::Error> + Drop> Parse
     ghost Tree = { F.Tree };
 
     ghost grammar = { λ s. terminated_of I.model (F.grammar s.0) (G.grammar s.1) };
+
+    ghost word = { λ s. Words.terminated_of I.model (F.word s.0) (G.word s.1) };
+
+    ghost worded = { λ s. Words.terminated_worded I.model (F.worded s.0) (G.worded s.1) };
 
     ghost Besides = { λ mode old new i. ThenBesides (F.Besides mode old.first new.first i) (G.Besides (with_outputs false mode) old.second new.second) };
 

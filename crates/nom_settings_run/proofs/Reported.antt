@@ -7,7 +7,7 @@ use Rattle.nom_error.specs.declared.answer.Err as Answer
 use Rattle.nom_error.specs.declared.value.Error.{Error}
 use Rattle.nom_combinator.specs.Verdicts.{complete_outcome}
 use Rattle.nom_run.proofs.Told.{lines-same}
-use Rattle.nom.specs.Grammar.{Parses}
+use Rattle.nom.specs.grammars.Grammar.{Parses}
 use Rattle.nom_settings_run.specs.Settings.{SectionTree, SettingTree, section_of, setting_of, settings_of}
 use Rattle.nom_located.specs.Located.{place}
 use Rattle.nom_settings_run.specs.Report.{IsReport, IsTold, IsToldBytes, OfText, place_of, Says, Text, bytes_of, entry_text, line_text, place_text, seen_there}

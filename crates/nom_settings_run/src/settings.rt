@@ -1,6 +1,6 @@
 //! Settings in sections, as INI files have them.
 ghost use Rattle.std.specs.Prelude.{◌≡◌, false};
-ghost use Rattle.nom.specs.Grammar.{Parses};
+ghost use Rattle.nom.specs.grammars.Grammar.{Parses};
 ghost use Rattle.nom_settings_run.specs.Settings.{in_value, settings_of};
 
 use nom::bytes::{is_not, take_while};

@@ -7,7 +7,7 @@ use Rattle.nom_traits.specs.Rests.{items_len-ones}
 use Rattle.nom_traits.specs.Slices.{IsCount}
 use Rattle.nom_traits.specs.Bits.{all_bits, AreBytes, bits_model}
 use Rattle.nom_traits.specs.BitLists.{length-all_bits}
-use Rattle.nom_traits.specs.BitPlaces.{passes_bits}
+use Rattle.nom_traits.specs.BitPlaces.{BeginsLater, passes_bits}
 
 module _ {I : Type 0} (w : Model I ℕ) where
   pub bits_len : (i : I × ℕ) → input_len (bits_model w) i ≡ 8 * length (w.elements i.0) - i.1
@@ -44,3 +44,17 @@ module _ {I : Type 0} (w : Model I ℕ) where
       let counted = subst (λ m. IsCount w i.0 (m / 8) k) (sym there) count in
       let passed = passes_bits w l values i.0 j i.1 n k known place counted rest in
       (n, record { length_is = omega (arith, less); place = place }, subst (λ m. IsSuffixOf (bits_model w) i n (j, m % 8)) there passed)
+
+  -- whole bytes on: the bits left begin in the first byte left
+  pub bits_later : InputLaws w → ((x : I) → w.IsKnown x → AreBytes (w.elements x)) → (i left : I × ℕ) (j : I) (k have kept : ℕ) → w.IsKnown i.0 →
+      have ≡ length (w.elements i.0) → kept ≡ length (w.elements left.0) → BeginsLater have i.1 kept left.1 → IsCount w i.0 (have - kept) k →
+      IsSuffixOf w i.0 k j → (n : ℕ) × CutsAs (bits_model w) i n left × IsSuffixOf (bits_model w) i n (j, left.1)
+  bits_later l values i left j k have kept known e f later count rest =
+      let p = 8 * (have - kept) + left.1 in
+      let less : input_len (bits_model w) left < input_len (bits_model w) i = omega (arith, bits_len i, bits_len left, e, f, later.fewer) in
+      let place : p ≡ 8 * length (w.elements i.0) - input_len (bits_model w) left =
+      omega (arith, bits_len left, e, f, later.some, later.within, later.left_in) in
+      let byte : have - kept ≡ p / 8 = omega (arith, later.left_in) in
+      let bit : p % 8 ≡ left.1 = omega (arith, later.left_in) in
+      let found = bits_rest l values i left j p k known less place (subst (λ m. IsCount w i.0 m k) byte count) rest in
+      (found.0, found.1, subst (λ m. IsSuffixOf (bits_model w) i found.0 (j, m)) bit found.2)

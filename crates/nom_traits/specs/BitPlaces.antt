@@ -1,5 +1,5 @@
 -- Places among bits.
-use Rattle.std.specs.Prelude.{◌≡◌, ℕ, ◌+◌, ◌*◌, ◌/◌, ◌%◌, ◌<◌, ◌≤◌, Bool, List, [], ◌++◌, length}
+use Rattle.std.specs.Prelude.{◌≡◌, ℕ, ◌+◌, ◌-◌, ◌*◌, ◌/◌, ◌%◌, ◌<◌, ◌≤◌, Bool, List, [], ◌++◌, length}
 use Rattle.std.proofs.Common.{arith, sym, ◌∙◌, ap, subst, lit<, drop, take, append_assoc, length-append, length-take}
 use Rattle.std.proofs.Math.Nat.{mod-lt}
 use Rattle.std.proofs.Math.Path.{fun_ext}
@@ -10,6 +10,14 @@ use Rattle.nom_traits.specs.Rests.{same_cut, items_len-ones}
 use Rattle.nom_traits.specs.Slices.{IsCount}
 use Rattle.nom_traits.specs.Bits.{all_bits, whole_bytes, bits_over, AreBytes, HasMarks, BitPlace, past_bits, bits_model}
 use Rattle.nom_traits.specs.BitLists.{whole-all_bits, over-all_bits, few_bits, take-all_bits, drop-all_bits, bytes_taken}
+
+-- Kept bytes from a bit of their first on have fewer bits than whole bytes from a bit of their first on.
+pub record BeginsLater (whole position kept left : ℕ) : Type 0 where
+  pub position_in : position < 8
+  pub left_in : left < 8
+  pub some : 0 < kept
+  pub within : kept ≤ whole
+  pub fewer : 8 * kept - left < 8 * whole - position
 
 module _ {I : Type 0} (w : Model I ℕ) where
   -- the mark of x without its first o / 8 bytes, or without all where there are fewer

@@ -2,9 +2,9 @@
 //!
 //! A pair of an input of bytes and a position is the list of the input's bits from that position on. The most
 //! significant bit of each byte comes first, and each bit has length 1. Past the end the list is empty.
-ghost use Rattle.std.specs.Prelude.{◌≡◌};
+ghost use Rattle.std.specs.Prelude.{◌≡◌, true};
 ghost use Rattle.nom_traits.specs.Bits.{bits_model, bits_lawful, bits_are_values};
-ghost use Rattle.nom_traits.specs.BitPlaces.{GrowsByBytes, PassesBits, TellsMarks, AreBitsAlone};
+ghost use Rattle.nom_traits.specs.BitPlaces.{AreBitsAlone, BeginsLater, GrowsByBytes, PassesBits, TellsMarks};
 ghost use Rattle.nom_traits.specs.Bytes.{bytes_model};
 ghost use Rattle.nom_traits.specs.Input.{input_len};
 
@@ -36,11 +36,33 @@ fn bit_count<I: CountItems + Items<Item = u8>>(input: (I, usize)) -> u128
     whole.saturating_sub(position as u128)
 }
 
+/// Tells whether `kept` bytes from a bit on have fewer bits than `whole` bytes from another on, where both bits
+/// stand in the first byte.
+#[inline(always)]
+fn begins_later(whole: usize, position: usize, kept: usize, left_position: usize) -> bool
+    ensures { result ≡ true → BeginsLater whole position kept left_position }
+{
+    position < 8
+        && left_position < 8
+        && 0 < kept
+        && (kept < whole || (kept == whole && position < left_position))
+}
+
 impl<I: Input<Item = u8> + CountItems> CutRest for (I, usize) {
     #[inline(always)]
     fn cut_rest(self, left: Self) -> Option<Self> {
-        let (bytes, _position) = self;
+        let (bytes, position) = self;
+        let (left_bytes, left_position) = left;
         bytes.prove_known();
+        // Mostly both begin in a first byte. Then the bytes between them are counted, and not the bits.
+        let have = bytes.item_count();
+        let kept = left_bytes.item_count();
+        if begins_later(have, position, kept, left_position) {
+            return match bytes.slice_index(have - kept) {
+                Ok(end) => Some((bytes.take_from(end), left_position)),
+                Err(_) => unreachable!(),
+            };
+        }
         let whole = bit_count(self);
         let rest = bit_count(left);
         if rest > whole {

@@ -8,6 +8,8 @@ ghost use Rattle.nom_internal.specs.Grammar.{GivesAt};
 ghost use Rattle.nom_internal.specs.Results.{MadeBesides, ThenBesides};
 ghost use Rattle.nom_sink.specs.Parts.{Meets};
 ghost use Rattle.nom_write.specs.FlatMaps.{FlatMapFails, FlatMapForm, OfEachSecond};
+ghost use Rattle.nom_internal.specs.Word.{keyed};
+ghost use Rattle.nom_internal.specs.Words as Words;
 
 use crate::map::mapped_back;
 use crate::writer::Writer;
@@ -66,6 +68,10 @@ impl<
     ghost Tree = { H.State × H.Tree };
 
     ghost grammar = { λ s. flat_map_by I.model (maker (G.pre s.1) (G.post s.1) H.state) (F.grammar s.0) H.grammar };
+
+    ghost word = { λ s. Words.flat_map_of I.model (maker (G.pre s.1) (G.post s.1) H.state) (keyed H.grammar) (F.word s.0) };
+
+    ghost worded = { λ s. Words.flat_map_worded I.model (maker (G.pre s.1) (G.post s.1) H.state) (keyed H.grammar) (F.worded s.0) };
 
     ghost Besides = { λ mode old new i. ThenBesides (F.Besides (with_outputs true mode) old.flat.first new.flat.first i)
         (MadeBesides (GivesAt (F.grammar (F.state old.flat.first)) mode.streaming i) (G.post old.flat.make) (H.Besides mode)) };

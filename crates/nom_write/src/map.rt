@@ -7,6 +7,7 @@ ghost use Rattle.std.specs.Fn.{FnReturnsAt};
 ghost use Rattle.nom_internal.specs.Prelude.{SeesAlike, map_by};
 ghost use Rattle.nom_internal.specs.laws.MappedLaws.{given_pinned, map_lawful, map_steady};
 ghost use Rattle.nom_write.specs.laws.ChoiceReads.{map_back_reads};
+ghost use Rattle.nom_internal.specs.Words as Words;
 
 use crate::writer::Writer;
 use nom_error::answer::PResult;
@@ -52,6 +53,10 @@ impl<I: Items, F: Parser<I> + Drop, O: Drop, G: Fn(F::Output) -> O, H> Parser<I>
     ghost Tree = { F.Tree };
 
     ghost grammar = { λ s. map_by (G.pre s.1) (G.post s.1) (F.grammar s.0) };
+
+    ghost word = { λ s. Words.map_of (G.pre s.1) (G.post s.1) (F.word s.0) };
+
+    ghost worded = { λ s. Words.map_worded (G.pre s.1) (G.post s.1) (F.worded s.0) };
 
     ghost Besides = { λ mode old new. F.Besides mode old.map.parser new.map.parser };
 

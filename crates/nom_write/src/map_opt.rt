@@ -10,6 +10,7 @@ ghost use Rattle.nom_internal.specs.laws.JudgedLaws.{judged_lawful, judged_stead
 ghost use Rattle.nom_internal.specs.laws.MappedLaws.{given_pinned};
 ghost use Rattle.nom_sink.specs.declared.error.WriteError.{WriteError};
 ghost use Rattle.nom_write.specs.laws.JudgedReads.{map_opt_back_leads, map_opt_back_reads};
+ghost use Rattle.nom_internal.specs.Words as Words;
 
 use crate::map::mapped_back;
 use crate::writer::Writer;
@@ -56,6 +57,10 @@ impl<I: Items, F: Parser<I> + Drop, O: Drop, G: Fn(F::Output) -> Option<O>, H> P
     ghost Tree = { F.Tree };
 
     ghost grammar = { λ s. map_opt_by F.Error.errors (G.pre s.1) (G.post s.1) (F.grammar s.0) };
+
+    ghost word = { λ s. Words.map_opt_of F.Error.errors (G.pre s.1) (G.post s.1) (F.word s.0) };
+
+    ghost worded = { λ s. Words.map_opt_worded F.Error.errors (G.pre s.1) (G.post s.1) (F.worded s.0) };
 
     ghost Besides = { λ mode old new i. JudgedBesides (F.Besides (with_outputs true mode) old.map.parser new.map.parser i) };
 

@@ -10,6 +10,7 @@ ghost use Rattle.nom_internal.specs.laws.JudgedLaws.{judged_lawful, judged_stead
 ghost use Rattle.nom_internal.specs.laws.MappedLaws.{given_pinned};
 ghost use Rattle.nom_sink.specs.declared.error.WriteError.{WriteError};
 ghost use Rattle.nom_write.specs.laws.JudgedReads.{map_res_back_leads, map_res_back_reads};
+ghost use Rattle.nom_internal.specs.Words as Words;
 
 use crate::map::mapped_back;
 use crate::writer::Writer;
@@ -60,6 +61,10 @@ where
     ghost Tree = { F.Tree };
 
     ghost grammar = { λ s. map_res_by F.Error.externals (G.pre s.1) (G.post s.1) (F.grammar s.0) };
+
+    ghost word = { λ s. Words.map_res_of F.Error.externals (G.pre s.1) (G.post s.1) (F.word s.0) };
+
+    ghost worded = { λ s. Words.map_res_worded F.Error.externals (G.pre s.1) (G.post s.1) (F.worded s.0) };
 
     ghost Besides = { λ mode old new i. JudgedBesides (F.Besides (with_outputs true mode) old.map.parser new.map.parser i) };
 

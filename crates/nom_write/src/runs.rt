@@ -1,5 +1,7 @@
 //! Runs of items that pass a test. An item that doesn't pass it must follow.
 ghost use Rattle.std.specs.Prelude.{◌≡◌, ◌≤◌, ◌<◌, None, Some, MatchBool};
+ghost use Rattle.std.proofs.Common.{refl};
+ghost use Rattle.nom_bytes.specs.Tests.{free};
 ghost use Rattle.nom_error.specs.declared.kind.ErrorKind.TheVariants as Kind;
 ghost use Rattle.nom_traits.specs.declared.character.AsciiClass.TheVariants as Class;
 ghost use Rattle.nom_bytes.specs.laws.RunLaws.{run_lawful};
@@ -156,6 +158,10 @@ impl<T: AsChar> Predicate<T> for OfClass {
     ghost Runs = { λ _. Unit {0} };
 
     ghost IsSound = { λ _. Unit {0} };
+
+    ghost word = { λ class. free (IsOf T.code class) };
+
+    ghost worded = { λ class. refl };
 
     #[inline(always)]
     fn meets(&self, item: T) -> bool {

@@ -1,6 +1,6 @@
 //! Options, conditions, final refusals and errors with a name.
 ghost use Rattle.nom_write.specs.laws.LeadLaws.{context_leads, no_lead};
-ghost use Rattle.nom_write.specs.Options.{CondFails, CondForm, OfPart, OptFails, OptForm};
+ghost use Rattle.nom_write.specs.Options.{CondFails, CondForm, OptFails, OptForm, WhereRun};
 ghost use Rattle.nom_write.specs.Reads.{NoItem};
 ghost use Rattle.nom_write.specs.laws.ChoiceReads.{cond_reads, context_reads, cut_reads, opt_reads};
 
@@ -61,13 +61,13 @@ impl<I: Items, F: Writer<I> + Drop> Writer<I> for Opt<F> {
 /// If the parser runs, writes the value of `Some`; `None` is a mismatch. If it doesn't run, it is the other way round: `None` is
 /// written as nothing, and `Some` is a mismatch.
 impl<I: Items, F: Writer<I> + Drop> Writer<I> for Cond<F> {
-    ghost Form = { λ p. CondForm F.Form p.parser };
+    ghost Form = { λ p. CondForm p.condition (F.Form p.parser) };
 
-    ghost Fails = { λ p. CondFails F.Fails p.parser };
+    ghost Fails = { λ p. CondFails p.condition (F.Fails p.parser) };
 
-    ghost MayFollow = { λ p rest. OfPart (λ f. F.MayFollow f rest) p.parser };
+    ghost MayFollow = { λ p rest. WhereRun p.condition (F.MayFollow p.parser rest) };
 
-    ghost CanWrite = { λ p. OfPart F.CanWrite p.parser };
+    ghost CanWrite = { λ p. WhereRun p.condition (F.CanWrite p.parser) };
 
     #[inline]
     fn write<S: Sink<I::Item>>(
@@ -75,19 +75,21 @@ impl<I: Items, F: Writer<I> + Drop> Writer<I> for Cond<F> {
         value: &Option<F::Output>,
         out: &mut S,
     ) -> Result<(), WriteError> {
-        match &self.parser {
-            Some(parser) => match value {
-                Some(value) => parser.write(value, out),
+        if self.condition {
+            match value {
+                Some(output) => self.parser.write(output, out),
                 None => Err(WriteError::Mismatch(out.len())),
-            },
-            None => match value {
+            }
+        } else {
+            match value {
                 Some(_) => Err(WriteError::Mismatch(out.len())),
                 None => Ok(()),
-            },
+            }
         }
     }
 
-    ghost reads = { λ p k c. cond_reads I.model F.state F.grammar F.Form F.MayFollow F.CanWrite F.reads p.parser k c };
+    ghost reads = { λ p k c. cond_reads I.model (F.grammar (F.state p.parser)) (F.Form p.parser) (F.MayFollow p.parser) (F.CanWrite p.parser)
+        (F.reads p.parser) p.condition k c };
 
     ghost leads = { λ p. no_lead };
 }

@@ -1,24 +1,28 @@
 -- The laws of a part that runs on a condition.
-use Rattle.std.specs.Prelude.{Option, Some, None}
-use Rattle.std.proofs.Common.{sym, ◌∙◌, ap}
-use Rattle.nom_internal.specs.Prelude.{Model, View, option_view, IsLawful, IsSteady, success_lawful, success_steady, IsPinned, Grammar}
+use Rattle.std.specs.Prelude.{◌≡◌, Bool, true, false}
+use Rattle.std.proofs.Common.{refl, sym, ◌∙◌, ap}
+use Rattle.nom_internal.specs.Prelude.{Model, View, option_view, Meaning, IsLawful, IsSteady, success_lawful, success_steady, IsPinned}
+use Rattle.nom_internal.specs.Prelude.{premised_lawful, premised_steady}
 use Rattle.nom_internal.specs.laws.CaseLaws.{labelled_lawful, labelled_steady}
-use Rattle.nom_combinator.specs.Conditions.{state_of, cond_of, CondPins}
+use Rattle.nom_combinator.specs.Conditions.{on_condition, cond_meaning, CondOutput}
 use Rattle.nom_combinator.specs.laws.VerdictLaws.{opt_pinned}
 
-module _ {I A S P O E : Type 0} {w : Model I A} (grammar : S → Grammar I P O E) where
-  pub cond_lawful : ((s : S) → (grammar s).meaning.IsSound → IsLawful w (grammar s).meaning) → (o : Option S) → (cond_of grammar o).meaning.IsSound →
-      IsLawful w (cond_of grammar o).meaning
-  cond_lawful l (Some s) k = labelled_lawful (l s k)
-  cond_lawful l None k = success_lawful
+module _ {I A P E : Type 0} {w : Model I A} {m : Meaning I P E} where
+  on_condition_lawful : (b : Bool) → (b ≡ true → IsLawful w m) → IsLawful w (on_condition b m)
+  on_condition_lawful true l = labelled_lawful (l refl)
+  on_condition_lawful false l = success_lawful
 
-  pub cond_steady : ((s : S) → (grammar s).meaning.IsSound → IsSteady w (grammar s).meaning) → (o : Option S) → (cond_of grammar o).meaning.IsSound →
-      IsSteady w (cond_of grammar o).meaning
-  cond_steady l (Some s) k = labelled_steady (l s k)
-  cond_steady l None k = success_steady
+  pub cond_lawful : (b : Bool) → (b ≡ true → IsLawful w m) → IsLawful w (cond_meaning b m)
+  cond_lawful b l = premised_lawful (on_condition_lawful b l)
 
-module _ {I F S P O E : Type 0} (state : F → S) (grammar : S → Grammar I P O E) (Pins : F → Type 0) {view : View O} where
-  pub cond_pinned : ((f : F) → (grammar (state f)).meaning.IsSound → Pins f → IsPinned view (grammar (state f)).IsOutput) → (o : Option F) →
-      (cond_of grammar (state_of state o)).meaning.IsSound → CondPins Pins o → IsPinned (option_view view) (cond_of grammar (state_of state o)).IsOutput
-  cond_pinned f (Some p) k h = opt_pinned (f p k h)
-  cond_pinned f None k h = record { one_view = λ t a b x y. ap (option_view view).value (x ∙ sym y) }
+  on_condition_steady : (b : Bool) → (b ≡ true → IsSteady w m) → IsSteady w (on_condition b m)
+  on_condition_steady true l = labelled_steady (l refl)
+  on_condition_steady false l = success_steady
+
+  pub cond_steady : (b : Bool) → (b ≡ true → IsSteady w m) → IsSteady w (cond_meaning b m)
+  cond_steady b l = premised_steady (on_condition_steady b l)
+
+module _ {P O : Type 0} {view : View O} {IsOutput : P → O → Type 0} where
+  pub cond_pinned : (b : Bool) → (b ≡ true → IsPinned view IsOutput) → IsPinned (option_view view) (CondOutput b IsOutput)
+  cond_pinned true f = opt_pinned (f refl)
+  cond_pinned false f = record { one_view = λ t a b x y. ap (option_view view).value (x ∙ sym y) }

@@ -11,7 +11,7 @@ use Rattle.nom_character.specs.LineMatches.{Match, one_more}
 use Rattle.nom_character.specs.LineMatches.Match.{Full, Absent, Partial}
 use Rattle.nom_character.specs.laws.LineMatchLaws.{IsSettled, LineMatchLaws, match_lawful, match_steady}
 use Rattle.nom_number_text.specs.laws.FloatLaws.{IsStream}
-use Rattle.nom_number_text.specs.Words.{word_in, word_meaning, exceptions_meaning, as_float_meaning}
+use Rattle.nom_number_text.specs.Exceptions.{word_in, word_meaning, exceptions_meaning, as_float_meaning}
 
 settled_less : (a : Match) → IsSettled (one_more a) → IsSettled a
 settled_less (Full n) h = tt

@@ -1,17 +1,17 @@
 -- What is read of choices, and of a part whose outcome becomes another.
-use Rattle.std.specs.Prelude.{◌≡◌, ℕ, Bool, false, List, [], ◌++◌, ◌⊎◌, Option, Some, None, refl}
+use Rattle.std.specs.Prelude.{◌≡◌, ℕ, Bool, false, List, [], ◌++◌, ◌⊎◌, Option, Some, None, refl, true}
 use Rattle.std.proofs.Common.{sym, ◌∙◌, ap, subst, inl, inr}
 use Rattle.nom_internal.specs.Prelude.{Errors, Model, items_len, Grammar, Outcome, Accept, Refuse, GoesOnRefused, EitherOutput, Meaning}
 use Rattle.nom_internal.specs.Prelude.{OnPart, labelled, either_meaning, either_of, map_by}
 use Rattle.nom_branch.specs.Alternatives.{alt_of}
-use Rattle.nom_combinator.specs.Conditions.{cond_of, state_of}
+use Rattle.nom_combinator.specs.Conditions.{cond_of}
 use Rattle.nom_combinator.specs.Contexts.{context_of}
 use Rattle.nom_error.specs.Errors.{Contexts}
 use Rattle.nom_combinator.specs.Verdicts.{OptOutput, cut_of, opt_of, opt_outcome}
 use Rattle.nom_sink.specs.declared.error.WriteError.{WriteError}
 use Rattle.nom_sink.specs.Choices.{Either, EitherFails}
 use Rattle.nom_write.specs.Choices.{Apart, Refuses}
-use Rattle.nom_write.specs.Options.{CondForm, OfPart, OptForm}
+use Rattle.nom_write.specs.Options.{CondForm, OptForm, WhereRun}
 use Rattle.nom_write.specs.Reads.{Anything, IsEnd, NoItem, NoItemIn, Reads, ReadsAtEnd, ReadsBefore}
 use Rattle.nom_write.specs.laws.LeafReads.{success_reads}
 use Rattle.nom_write.specs.laws.SequenceReads.{as_whole}
@@ -181,20 +181,19 @@ module _ {I A V O E : Type 0} {w : Model I A} {g : Grammar I V O E} {Form : O �
   }
 
 -- a part on a condition
-pub cond_reads : {F I A S V O E : Type 0} (w : Model I A) (state : F → S) (g : S → Grammar I V O E) (Form : F → O → List A → Type 0)
-    (Follow : F → List A → Type 0) (Can : F → Type 0) → ((f : F) → (g (state f)).meaning.IsSound → Can f → Reads w (g (state f)) (Form f) (Follow f)) →
-    (part : Option F) → (cond_of g (state_of state part)).meaning.IsSound → OfPart Can part →
-    Reads w (cond_of g (state_of state part)) (CondForm Form part) (λ rest. OfPart (λ f. Follow f rest) part)
-cond_reads {A = A} {O = O} w state g Form Follow Can p (Some f) k c = record { reads = reads }
+pub cond_reads : {I A V O E : Type 0} (w : Model I A) (g : Grammar I V O E) (Form : O → List A → Type 0) (Follow : List A → Type 0) (Can : Type 0) →
+    (g.meaning.IsSound → Can → Reads w g Form Follow) → (b : Bool) → (cond_of b g).meaning.IsSound → WhereRun b Can →
+    Reads w (cond_of b g) (CondForm b Form) (λ rest. WhereRun b (Follow rest))
+cond_reads {A = A} {O = O} w g Form Follow Can p true k c = record { reads = reads }
   where
-    reads : (v : Option O) (xs : List A) → CondForm Form (Some f) v xs → (s : Bool) →
-        ReadsBefore w ((cond_of g (Some (state f))).meaning.answers s) (λ t. OptOutput (g (state f)).IsOutput t v) (Follow f) xs
-    reads (Some v) xs h s = become_reads w (labelled Some) Some (λ n u. refl) ((g (state f)).meaning.answers s) (λ u. (g (state f)).IsOutput u v)
-        (λ t. OptOutput (g (state f)).IsOutput t (Some v)) (Follow f) (Follow f) xs (λ rest k. k) (λ u k. (v, refl, k)) ((p f k c).reads v xs h s)
+    reads : (v : Option O) (xs : List A) → CondForm true Form v xs → (s : Bool) →
+        ReadsBefore w ((cond_of true g).meaning.answers s) (λ t. OptOutput g.IsOutput t v) Follow xs
+    reads (Some v) xs h s = become_reads w (labelled Some) Some (λ n u. refl) (g.meaning.answers s) (λ u. g.IsOutput u v)
+        (λ t. OptOutput g.IsOutput t (Some v)) Follow Follow xs (λ rest k. k) (λ u k. (v, refl, k)) ((p (k refl) c).reads v xs h s)
     reads None xs h s = absurd h
-cond_reads {A = A} {O = O} {E} w state g Form Follow Can p None k c = record { reads = reads }
+cond_reads {A = A} {O = O} {E} w g Form Follow Can p false k c = record { reads = reads }
   where
-    reads : (v : Option O) (xs : List A) → CondForm Form None v xs → (s : Bool) →
-        ReadsBefore w ((cond_of g None).meaning.answers s) (λ t. v ≡ None) Anything xs
+    reads : (v : Option O) (xs : List A) → CondForm false Form v xs → (s : Bool) →
+        ReadsBefore w ((cond_of false g).meaning.answers s) (λ t. v ≡ None) Anything xs
     reads (Some v) xs h s = absurd h
     reads None xs h s = as_whole w h (success_reads E w None s (λ t. ◌≡◌ {A = Option O} None None) Anything refl)

@@ -1,5 +1,5 @@
 use Rattle.std.proofs.Common.{false, ◌∙◌, ap}
-use Rattle.nom.specs.Texts.{Parses}
+use Rattle.nom.specs.grammars.Texts.{Parses}
 use Rattle.example_formats.proofs.WrittenSections.{by_its_parts}
 use Rattle.example_formats.proofs.ini.sections.Goals as goal
 

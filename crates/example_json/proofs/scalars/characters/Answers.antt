@@ -1,5 +1,5 @@
 use Rattle.std.proofs.Common.{false, ◌∙◌, ap}
-use Rattle.nom.specs.Texts.{Parses}
+use Rattle.nom.specs.grammars.Texts.{Parses}
 use Rattle.example_json.proofs.Written.{characters_by_parts}
 use Rattle.example_json.proofs.scalars.characters.Goals as goal
 

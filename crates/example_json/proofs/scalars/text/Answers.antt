@@ -1,5 +1,5 @@
 use Rattle.std.proofs.Common.{refl}
-use Rattle.nom.specs.Texts.{char_of}
+use Rattle.nom.specs.grammars.Texts.{char_of}
 use Rattle.nom_internal.proofs.Shown.{err_from_residual}
 use Rattle.example_json.specs.Scalars.{characters_of, token_of}
 use Rattle.example_json.proofs.Between.{body_stops, close_stops, closed, open_stops}

@@ -1,5 +1,5 @@
 use Rattle.std.proofs.Common.{false, ◌∙◌, ap, subst}
-use Rattle.nom.specs.Texts.{Parses}
+use Rattle.nom.specs.grammars.Texts.{Parses}
 use Rattle.example_json.specs.Strings.{unescaped_by}
 use Rattle.example_json.proofs.Written.{signs_told}
 use Rattle.example_json.proofs.strings.unescaped.Goals as goal

@@ -1,7 +1,7 @@
 use Rattle.std.proofs.Common.{◌++◌, ◌∷◌, [], sym, ◌∙◌, ap, refl, subst}
 use Rattle.std.specs.Prelude.{IfOk, ◌<◌}
 use Rattle.nom_internal.specs.Prelude.{input_len, text_model}
-use Rattle.nom.specs.Texts.{delimited_of}
+use Rattle.nom.specs.grammars.Texts.{delimited_of}
 use Rattle.nom_internal.proofs.Shown.{err_from_residual}
 use Rattle.example_json.specs.Json.{array_of, list_of, member_of, scalar_of, value_of}
 use Rattle.example_json.specs.Scalars.{text_of, token_of}

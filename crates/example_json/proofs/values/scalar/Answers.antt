@@ -1,5 +1,5 @@
 use Rattle.std.proofs.Common.{sym, ◌∙◌, refl}
-use Rattle.nom.specs.Texts.{or_of}
+use Rattle.nom.specs.grammars.Texts.{or_of}
 use Rattle.nom_internal.proofs.Shown.{err_from_residual}
 use Rattle.example_json.specs.Json.{string_of}
 use Rattle.example_json.specs.Scalars.{number_of, text_of, word_of}

@@ -3,7 +3,7 @@ use Rattle.nom_internal.specs.Prelude.{bytes_model}
 use Rattle.nom_internal.specs.laws.CaseLaws.{labelled_lawful}
 use Rattle.nom_bytes.specs.laws.TakeLaws.{take_lawful}
 use Rattle.nom_number.specs.Numbers.{bytes_lack}
-use Rattle.nom.specs.Bytes.{plain_errors}
+use Rattle.nom.specs.grammars.Bytes.{plain_errors}
 use Rattle.nom_write_stream.proofs.Members.{length_count_outcome, number_outcome}
 use Rattle.example_streams.proofs.PipeForms.{of_frames}
 use Rattle.example_streams.proofs.pipes.frames_of_pipe.Goals as goal

@@ -7,10 +7,9 @@ use Rattle.nom_json_run.proofs.check.key.Goals as goal
 
 pub returns-in-Array-clause-ok : goal.returns-in-Array-clause-ok
 returns-in-Array-clause-ok c =
-    let i = drop c.args.at c.args.bytes.now in
     let e : c.args.bracket ≡ Array = cc in
     record {
       begins = omega arith;
       within = c.requires;
-      same = λ r. subst (λ o. JsonItem o i r ↔ JsonValue i r) (sym e) (element_same i r);
+      same = λ bs s r. let i = drop c.args.at bs in subst (λ o. JsonItem o i r ↔ JsonValue i r) (sym e) (element_same i r);
     }

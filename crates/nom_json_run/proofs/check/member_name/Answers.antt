@@ -1,27 +1,58 @@
-use Rattle.std.proofs.Common.{◌≡◌, ◌==◌, ◌∙◌, true, false, drop, arith, ap, sym}
-use Rattle.nom_json_run.specs.Json.{after_spaces, begins}
+use Rattle.std.proofs.Common.{◌≡◌, ◌==◌, ◌≤◌, ◌∙◌, true, false, drop, arith, ap, sym}
+use Rattle.nom_json_run.specs.Json.{JsonItem, JsonString, after_spaces, begins}
+use Rattle.nom_json_run.specs.Scans.{EndsNowhere}
+use Rattle.nom_json_run.specs.declared.bracket.Bracket.TheVariants.{Object}
+use Rattle.nom_json_run.proofs.Alike.{before, fails_map, first_there}
 use Rattle.nom_json_run.proofs.Firsts.{rest_at}
-use Rattle.nom_json_run.proofs.Values.{member_no_colon, member_no_name, member_same}
+use Rattle.nom_json_run.proofs.Values.{member_no_colon, member_no_name, member_same, string_no}
 use Rattle.nom_json_run.proofs.check.member_name.Goals as goal
+
+pub returns-then-not-byte_is-clause-err : goal.returns-then-not-byte_is-clause-err
+returns-then-not-byte_is-clause-err c =
+    let bytes = c.args.bytes.now in
+    let at = c.args.at in
+    let e : begins 34 (drop at bytes) ≡ false = cc in
+    let le : at ≤ at = omega arith in
+    record {
+      begins = le;
+      within = c.requires;
+      fails = λ bs s. member_no_name (drop at bs) (string_no (drop at bs) (first_there (λ b. b == 34) bytes bs at at false le s e));
+    }
 
 pub returns-then-byte_is-clause-ok : goal.returns-then-byte_is-clause-ok
 returns-then-byte_is-clause-ok c =
-    let bs = c.args.bytes.now in
+    let bytes = c.args.bytes.now in
+    let at = c.args.at in
     let colon = c.in-Ok.colon in
     let found = c.in-Ok.ensures.ok in
-    let e : begins 58 (drop colon bs) ≡ true = cc in
+    let e : begins 58 (drop colon bytes) ≡ true = cc in
+    let le : colon ≤ c.spaces.result = omega (arith, c.spaces.ensures.begins) in
     record {
       begins = omega (arith, found.begins, c.spaces.ensures.begins);
       within = c.spaces.ensures.within;
-      same = member_same (drop c.args.at bs) (drop colon bs) (drop c.spaces.result bs) found.ends e
-          (c.spaces.ensures.follows ∙ ap after_spaces (sym (rest_at (λ b. b == 58) bs colon e)));
+      same = λ bs s.
+          let f = first_there (λ b. b == 58) bytes bs colon c.spaces.result true le s e in
+          member_same (drop at bs) (drop colon bs) (drop c.spaces.result bs) (found.ends bs (before bytes bs colon c.spaces.result le s)) f
+          (c.spaces.ensures.follows bs s ∙ ap after_spaces (sym (rest_at (λ b. b == 58) bs colon f)));
     }
 
 pub returns-else-byte_is-clause-err : goal.returns-else-byte_is-clause-err
 returns-else-byte_is-clause-err c =
-    let bs = c.args.bytes.now in
-    let e : begins 58 (drop c.in-Ok.colon bs) ≡ false = cc in
-    (member_no_colon (drop c.args.at bs) (drop c.in-Ok.colon bs) c.in-Ok.ensures.ok.ends e, c.in-Ok.ensures.ok.within)
+    let bytes = c.args.bytes.now in
+    let at = c.args.at in
+    let colon = c.in-Ok.colon in
+    let found = c.in-Ok.ensures.ok in
+    let e : begins 58 (drop colon bytes) ≡ false = cc in
+    let le : colon ≤ colon = omega arith in
+    record {
+      begins = omega (arith, found.begins);
+      within = found.within;
+      fails = λ bs s. member_no_colon (drop at bs) (drop colon bs) (found.ends bs s) (first_there (λ b. b == 58) bytes bs colon colon false le s e);
+    }
 
 pub returns-in-Err-clause-err : goal.returns-in-Err-clause-err
-returns-in-Err-clause-err c = (member_no_name (drop c.args.at c.args.bytes.now) c.in-Err.ensures.err.0, c.in-Err.ensures.err.1)
+returns-in-Err-clause-err c =
+    let at = c.args.at in
+    let le : at ≤ at = omega arith in
+    fails_map c.args.bytes.now (λ i. EndsNowhere (JsonString i)) (λ i. EndsNowhere (JsonItem Object i)) at at c.in-Err.fault le
+    (λ bs s h. member_no_name (drop at bs) h) c.in-Err.ensures.err

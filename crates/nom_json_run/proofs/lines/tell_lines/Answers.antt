@@ -28,11 +28,12 @@ returns-in-Err-list-clause-error g c =
     let d = subst (λ f. Decides g.R.Read.remaining json_line_of c.loop-turn.stream c.next_item.new.self (Ok f)) c.in-Ok-Some.field-0-is
     c.in-Ok-Some.ensures.decides in
     on_list g.R.Read.remaining c.args.stream.now c.loop-turn.stream c.next_item.new.self g.W.Sink.held g.W.Sink.failures g.W.Sink.stalls
-    c.args.sink.now c.loop-turn.sink c.list.new.sink c.loop-turn.turn c.loop-turn.wrong i.going i.writes c.in-Ok-Some.used c.in-Ok-Some._length d
+    c.args.sink.now c.loop-turn.sink c.list.new.sink c.loop-turn.turn c.loop-turn.wrong i.going i.writes c.in-Ok-Some.used c.in-Ok-Some.inside d
     c.in-Err-list.error (
-    subst (λ z. MatchRunError c.in-Err-list.error ⊥ (BeginsLine (g.W.Sink.held c.loop-turn.sink) (g.W.Sink.held c.list.new.sink) (c.loop-turn.turn + 1)
-    z c.loop-turn.wrong × WriteFailed (g.W.Sink.failures c.loop-turn.sink) (g.W.Sink.failures c.list.new.sink) (g.W.Sink.stalls c.loop-turn.sink)
-    (g.W.Sink.stalls c.list.new.sink)) (c.list.new.sink ≡ c.loop-turn.sink) ⊥) c.last.ensures c.in-Err-list.ensures.error)
+    subst (λ z. MatchRunError c.in-Err-list.error ⊥ (BeginsLine (g.W.Sink.held c.loop-turn.sink) (g.W.Sink.held c.list.new.sink)
+    (c.loop-turn.turn + 1) c.in-Ok-Some.inside z c.loop-turn.wrong × WriteFailed (g.W.Sink.failures c.loop-turn.sink)
+    (g.W.Sink.failures c.list.new.sink) (g.W.Sink.stalls c.loop-turn.sink) (g.W.Sink.stalls c.list.new.sink))
+    (c.list.new.sink ≡ c.loop-turn.sink) ⊥) c.last.ensures c.in-Err-list.ensures.error)
 
 pub returns-in-Err-clause-status : goal.returns-in-Err-clause-status
 returns-in-Err-clause-status g c =
@@ -54,12 +55,13 @@ loop-turn-preserved g c =
     let wrote = c.in-Ok.ensures.wrote in
     let d = subst (λ f. Decides g.R.Read.remaining json_line_of c.loop-turn.stream c.next_item.new.self (Ok f)) c.in-Ok-Some.field-0-is
     c.in-Ok-Some.ensures.decides in
-    let listed = subst (λ z. ListsLine (g.W.Sink.held c.loop-turn.sink) (g.W.Sink.held c.list.new.sink) (c.loop-turn.turn + 1) z c.loop-turn.wrong c.in-Ok.next)
+    let listed = subst (λ z. ListsLine (g.W.Sink.held c.loop-turn.sink) (g.W.Sink.held c.list.new.sink) (c.loop-turn.turn + 1)
+    c.in-Ok-Some.inside z c.loop-turn.wrong c.in-Ok.next)
     c.last.ensures wrote.0 in
     record {
       opened = c.in-Ok-Some.ensures.open;
       going = going_on g.R.Read.remaining c.args.stream.now c.loop-turn.stream c.next_item.new.self (g.W.Sink.held c.args.sink.now)
-          (g.W.Sink.held c.loop-turn.sink) (g.W.Sink.held c.list.new.sink) c.loop-turn.turn c.in-Ok-Some.used c.in-Ok-Some._length c.loop-turn.wrong
+          (g.W.Sink.held c.loop-turn.sink) (g.W.Sink.held c.list.new.sink) c.loop-turn.turn c.in-Ok-Some.used c.in-Ok-Some.inside c.loop-turn.wrong
           c.in-Ok.next i.going d listed;
       writes = none_then _ _ _ _ _ _ i.writes wrote.1;
     }

@@ -1,31 +1,52 @@
 use Rattle.std.proofs.Common.{◌≡◌, ◌+◌, ◌==◌, None, Some, true, false, drop, arith, ◌∙◌}
 use Rattle.nom_json_run.specs.Json.{after_escape, after_hex, after_letter, begins, first_is, is_letter, rest}
-use Rattle.nom_json_run.proofs.Firsts.{fail_map, first_within, passed_over, reach_map, taken}
+use Rattle.nom_json_run.proofs.Alike.{fail_map, first_there, reach_map}
+use Rattle.nom_json_run.proofs.Firsts.{first_within, passed_over, taken}
 use Rattle.nom_json_run.proofs.scan.escape.Goals as goal
 
 pub returns-then-byte_is-clause-ok : goal.returns-then-byte_is-clause-ok
 returns-then-byte_is-clause-ok c =
-    let bs = c.args.bytes.now in
-    let e : begins 117 (drop c.args.start bs) ≡ true = cc in
-    let f = taken (λ b. b == 117) bs c.args.start (after_hex 4) (after_letter (drop c.args.start bs)) e in
-    reach_map bs c.hexes.result (after_hex 4 (drop (c.args.start + 1) bs)) (after_escape (drop c.args.start bs)) c.args.start (c.args.start + 1)
-    (omega arith) f c.hexes.ensures.ok
+    let bytes = c.args.bytes.now in
+    let start = c.args.start in
+    let e : begins 117 (drop start bytes) ≡ true = cc in
+    reach_map bytes c.hexes.result (after_hex 4) after_escape start (start + 1) (omega arith)
+    (λ bs s. taken (λ b. b == 117) bs start (after_hex 4) (after_letter (drop start bs))
+    (first_there (λ b. b == 117) bytes bs start (start + 1) true (omega arith) s e)) c.hexes.ensures.ok
 
 pub returns-then-byte_is-clause-err : goal.returns-then-byte_is-clause-err
 returns-then-byte_is-clause-err c =
-    let bs = c.args.bytes.now in
-    let e : begins 117 (drop c.args.start bs) ≡ true = cc in
-    let f = taken (λ b. b == 117) bs c.args.start (after_hex 4) (after_letter (drop c.args.start bs)) e in
-    fail_map bs c.hexes.result (after_hex 4 (drop (c.args.start + 1) bs)) (after_escape (drop c.args.start bs)) f c.hexes.ensures.err
+    let bytes = c.args.bytes.now in
+    let start = c.args.start in
+    let e : begins 117 (drop start bytes) ≡ true = cc in
+    fail_map bytes c.hexes.result (after_hex 4) after_escape start (start + 1) (omega arith)
+    (λ bs s. taken (λ b. b == 117) bs start (after_hex 4) (after_letter (drop start bs))
+    (first_there (λ b. b == 117) bytes bs start (start + 1) true (omega arith) s e)) c.hexes.ensures.err
 
 pub returns-then-letter_at-clause-ok : goal.returns-then-letter_at-clause-ok
 returns-then-letter_at-clause-ok c =
-    let bs = c.args.bytes.now in
-    let no : begins 117 (drop c.args.start bs) ≡ false = cc in
-    let e : first_is is_letter (drop c.args.start bs) ≡ true = cc in
+    let bytes = c.args.bytes.now in
+    let start = c.args.start in
+    let no : begins 117 (drop start bytes) ≡ false = cc in
+    let e : first_is is_letter (drop start bytes) ≡ true = cc in
     record {
       begins = omega arith;
-      within = omega (arith, first_within is_letter bs c.args.start e);
-      follows = passed_over (after_hex 4 (rest (drop c.args.start bs))) (after_letter (drop c.args.start bs)) (begins 117 (drop c.args.start bs)) no
-          ∙ taken is_letter bs c.args.start Some None e;
+      within = omega (arith, first_within is_letter bytes start e);
+      follows = λ bs s. passed_over (after_hex 4 (rest (drop start bs))) (after_letter (drop start bs)) (begins 117 (drop start bs))
+          (first_there (λ b. b == 117) bytes bs start _ false (omega arith) s no)
+          ∙ taken is_letter bs start Some None (first_there is_letter bytes bs start _ true (omega arith) s e);
+    }
+
+pub returns-else-letter_at-clause-err : goal.returns-else-letter_at-clause-err
+returns-else-letter_at-clause-err c =
+    let bytes = c.args.bytes.now in
+    let start = c.args.start in
+    let no : begins 117 (drop start bytes) ≡ false = cc in
+    let e : first_is is_letter (drop start bytes) ≡ false = cc in
+    record {
+      begins = omega arith;
+      within = c.requires;
+      fails = λ bs s. passed_over (after_hex 4 (rest (drop start bs))) (after_letter (drop start bs)) (begins 117 (drop start bs))
+          (first_there (λ b. b == 117) bytes bs start start false (omega arith) s no)
+          ∙ passed_over (Some (rest (drop start bs))) None (first_is is_letter (drop start bs))
+          (first_there is_letter bytes bs start start false (omega arith) s e);
     }

@@ -1,19 +1,32 @@
-use Rattle.std.proofs.Common.{◌≡◌, ◌+◌, ◌==◌, Some, true, drop, arith}
-use Rattle.nom_json_run.specs.Json.{after_digits1, after_fraction, begins}
-use Rattle.nom_json_run.proofs.Firsts.{fail_map, reach_map, taken}
+use Rattle.std.proofs.Common.{◌≡◌, ◌+◌, ◌==◌, Some, true, false, drop, arith}
+use Rattle.nom_json_run.specs.Json.{after_digits1, after_fraction, begins, rest}
+use Rattle.nom_json_run.proofs.Alike.{fail_map, first_there, reach_map}
+use Rattle.nom_json_run.proofs.Firsts.{passed_over, taken}
 use Rattle.nom_json_run.proofs.scan.fraction.Goals as goal
 
 pub returns-then-byte_is-clause-ok : goal.returns-then-byte_is-clause-ok
 returns-then-byte_is-clause-ok c =
-    let bs = c.args.bytes.now in
-    let e : begins 46 (drop c.args.start bs) ≡ true = cc in
-    let f = taken (λ b. b == 46) bs c.args.start after_digits1 (Some (drop c.args.start bs)) e in
-    reach_map bs c.digits1.result (after_digits1 (drop (c.args.start + 1) bs)) (after_fraction (drop c.args.start bs)) c.args.start (c.args.start + 1)
-    (omega arith) f c.digits1.ensures.ok
+    let start = c.args.start in
+    let e : begins 46 (drop start c.args.bytes.now) ≡ true = cc in
+    reach_map c.args.bytes.now c.digits1.result after_digits1 after_fraction start (start + 1) (omega arith)
+    (λ bs s. taken (λ b. b == 46) bs start after_digits1 (Some (drop start bs))
+    (first_there (λ b. b == 46) c.args.bytes.now bs start (start + 1) true (omega arith) s e)) c.digits1.ensures.ok
 
 pub returns-then-byte_is-clause-err : goal.returns-then-byte_is-clause-err
 returns-then-byte_is-clause-err c =
-    let bs = c.args.bytes.now in
-    let e : begins 46 (drop c.args.start bs) ≡ true = cc in
-    let f = taken (λ b. b == 46) bs c.args.start after_digits1 (Some (drop c.args.start bs)) e in
-    fail_map bs c.digits1.result (after_digits1 (drop (c.args.start + 1) bs)) (after_fraction (drop c.args.start bs)) f c.digits1.ensures.err
+    let start = c.args.start in
+    let e : begins 46 (drop start c.args.bytes.now) ≡ true = cc in
+    fail_map c.args.bytes.now c.digits1.result after_digits1 after_fraction start (start + 1) (omega arith)
+    (λ bs s. taken (λ b. b == 46) bs start after_digits1 (Some (drop start bs))
+    (first_there (λ b. b == 46) c.args.bytes.now bs start (start + 1) true (omega arith) s e)) c.digits1.ensures.err
+
+pub returns-else-byte_is-clause-ok : goal.returns-else-byte_is-clause-ok
+returns-else-byte_is-clause-ok c =
+    let start = c.args.start in
+    let e : begins 46 (drop start c.args.bytes.now) ≡ false = cc in
+    record {
+      begins = omega arith;
+      within = c.requires;
+      follows = λ bs s. passed_over (after_digits1 (rest (drop start bs))) (Some (drop start bs)) (begins 46 (drop start bs))
+          (first_there (λ b. b == 46) c.args.bytes.now bs start start false (omega arith) s e);
+    }

@@ -1,8 +1,9 @@
-use Rattle.std.proofs.Common.{arith, ◌≡◌, ◌++◌, Some, None, Ok, Err, ◌∙◌, subst, string_bytes}
+use Rattle.std.proofs.Common.{arith, ◌≡◌, ◌++◌, Some, None, Ok, Err, ◌∙◌, refl, subst}
 use Rattle.nom_stream.specs.Streams.{Decides}
-use Rattle.nom_messages_run.specs.Pipe.{Wrote, WroteFront, WroteLines, received_text}
-use Rattle.nom_messages_run.proofs.Piped.{all_written, end_begun, ended, ending_some, goes_on, line_begun, none_then, received_some, some_written}
-use Rattle.nom_messages_run.proofs.Piped.{on_err, on_error, on_failed_write, on_ok}
+use Rattle.nom_run.specs.Pieces.{BeganText, WroteBut}
+use Rattle.nom_messages_run.specs.Pipe.{WroteLines, received_text}
+use Rattle.nom_messages_run.proofs.Piped.{all_written, end_begun, ended, goes_on, has_room, lacks_end, lacks_line, line_begun, none_then, none_yet}
+use Rattle.nom_messages_run.proofs.Piped.{on_err, on_error, on_failed_write, on_ok, some_written}
 use Rattle.nom_messages_run.proofs.pipe.tell_items.Goals as goal
 
 pub returns-in-Err-list-clause-error : goal.returns-in-Err-list-clause-error
@@ -12,11 +13,15 @@ returns-in-Err-list-clause-error g c =
     let d = subst (λ z. Decides g.R.Read.remaining (g.G.Grammar.grammar z) c.loop-turn.stream c.next_item.new.self
     (Ok c.in-Ok-Some.field-0))
     i.kept c.in-Ok-Some.ensures.decides in
-    on_error g.W.Sink.held g.W.Sink.failures g.W.Sink.stalls c.args.sink.now c.loop-turn.sink c.list.new.sink i.writes _ _ _
+    on_error g.W.Sink.held g.W.Sink.failures g.W.Sink.stalls c.args.sink.now c.loop-turn.sink c.list.new.sink i.writes _ _ _ _
     (λ w. line_begun g.R.Read.remaining grammar _ _ _ _ _ _ i.going c.next_item.new.self c.in-Ok-Some.used c.in-Ok-Some.message c.in-Ok-Some.field-0
-    c.in-Ok-Some.field-0-is d _ (subst (λ z. WroteFront (g.W.Sink.held c.loop-turn.sink) (g.W.Sink.held c.list.new.sink)
-    (string_bytes c.loop-turn.text ++ received_text c.in-Ok-Some.message z)) c.last.ensures w))
-    (received_some _ _ _) c.in-Err-list.error c.in-Err-list.ensures.error
+    c.in-Ok-Some.field-0-is d _ (subst (λ z. BeganText (g.W.Sink.held c.loop-turn.sink) (g.W.Sink.held c.list.new.sink)
+    (c.loop-turn.room.items ++ received_text c.in-Ok-Some.message z)) c.last.ensures w))
+    (λ h. let first = i.fresh h.1 in (
+      h.0 ∙ first.1,
+      lacks_line g.R.Read.remaining grammar _ _ _ _ _ _ i.going c.next_item.new.self c.in-Ok-Some.used c.in-Ok-Some.message c.in-Ok-Some.field-0
+          c.in-Ok-Some.field-0-is d first.0,
+    )) c.in-Err-list.error c.in-Err-list.ensures.error
 
 pub returns-in-Ok-None-clause-status : goal.returns-in-Ok-None-clause-status
 returns-in-Ok-None-clause-status g c =
@@ -37,9 +42,10 @@ returns-in-Ok-None-clause-error g c =
     i.kept (subst (λ f. Decides g.R.Read.remaining (g.G.Grammar.grammar (g.G.Grammar.state c.loop-turn.grammar)) c.loop-turn.stream c.next_item.new.self
     (Ok f)) c.in-Ok-None.field-0-is
     c.in-Ok-None.ensures.decides) in
-    on_err g.W.Sink.held g.W.Sink.failures g.W.Sink.stalls c.args.sink.now c.loop-turn.sink c.end.new.sink i.writes _ _ _
+    on_err g.W.Sink.held g.W.Sink.failures g.W.Sink.stalls c.args.sink.now c.loop-turn.sink c.end.new.sink i.writes _ _ _ _
     (λ w. end_begun _ _ _ _ _ _ _ _ i.going c.next_item.new.self None d _ w)
-    (ending_some (string_bytes c.loop-turn.text) None c.next_item.new.self.offset) c.end.result c.end.ensures.error
+    (λ h. let first = i.fresh h.1 in (h.0 ∙ first.1, lacks_end _ _ _ _ _ _ _ _ i.going c.next_item.new.self None d first.0))
+    c.end.result c.end.ensures.error
 
 pub returns-in-Err-clause-status : goal.returns-in-Err-clause-status
 returns-in-Err-clause-status g c =
@@ -59,10 +65,10 @@ returns-in-Err-clause-error g c =
     let d = subst (λ z. Decides g.R.Read.remaining (g.G.Grammar.grammar z) c.loop-turn.stream c.next_item.new.self
     (Err c.in-Err.why))
     i.kept c.in-Err.ensures.decides in
-    on_err g.W.Sink.held g.W.Sink.failures g.W.Sink.stalls c.args.sink.now c.loop-turn.sink c.end-in-Err.new.sink i.writes _ _ _
+    on_err g.W.Sink.held g.W.Sink.failures g.W.Sink.stalls c.args.sink.now c.loop-turn.sink c.end-in-Err.new.sink i.writes _ _ _ _
     (λ w. end_begun _ _ _ _ _ _ _ _ i.going c.next_item.new.self (Some c.in-Err.why) d _ w)
-    (ending_some (string_bytes c.loop-turn.text) (Some c.in-Err.why) c.next_item.new.self.offset) c.end-in-Err.result
-    c.end-in-Err.ensures.error
+    (λ h. let first = i.fresh h.1 in (h.0 ∙ first.1, lacks_end _ _ _ _ _ _ _ _ i.going c.next_item.new.self (Some c.in-Err.why) d first.0))
+    c.end-in-Err.result c.end-in-Err.ensures.error
 
 pub loop-turn-preserved : goal.loop-turn-preserved
 loop-turn-preserved g c =
@@ -70,9 +76,11 @@ loop-turn-preserved g c =
     let d = subst (λ z. Decides g.R.Read.remaining (g.G.Grammar.grammar z) c.loop-turn.stream c.next_item.new.self
     (Ok c.in-Ok-Some.field-0))
     i.kept c.in-Ok-Some.ensures.decides in
-    let wrote = subst (λ z. Wrote (g.W.Sink.held c.loop-turn.sink) (g.W.Sink.held c.list.new.sink)
-    (string_bytes c.loop-turn.text ++ received_text c.in-Ok-Some.message z) (string_bytes c.list.new.text)) c.last.ensures c.in-Ok.ensures.wrote.0 in
+    let wrote = subst (λ z. WroteBut (g.W.Sink.held c.loop-turn.sink) (g.W.Sink.held c.list.new.sink)
+    (c.loop-turn.room.items ++ received_text c.in-Ok-Some.message z) c.list.new.room.items) c.last.ensures c.in-Ok.ensures.wrote.0 in
     record {
+      few = c.in-Ok.ensures.room.0;
+      fresh = λ h. absurd (omega (arith, h, c.in-Ok.ensures.room.1));
       writes = none_then _ _ _ _ _ _ i.writes c.in-Ok.ensures.wrote.1;
       kept = c.in-Ok-Some.ensures.kept ∙ i.kept;
       opened = c.in-Ok-Some.ensures.open;
@@ -92,6 +100,22 @@ returns-in-Ok-flush-clause-error g c =
 
 pub returns-clause-error : goal.returns-clause-error
 returns-clause-error g c =
-    on_failed_write g.W.Sink.held g.W.Sink.failures g.W.Sink.stalls c.args.sink.now c.loop-turn.sink c.flush.new.sink c.loop-turn.invariant.writes _ _ _
+    on_failed_write g.W.Sink.held g.W.Sink.failures g.W.Sink.stalls c.args.sink.now c.loop-turn.sink c.flush.new.sink c.loop-turn.invariant.writes _ _ _ _
     (λ w. some_written _ _ _ _ _ _ _ _ c.loop-turn.invariant.going (omega (arith, c.loop-turn-test.false)) _ w) c.in-Err-flush.error
     c.in-Err-flush.ensures.error
+
+pub flush-requires : goal.flush-requires
+flush-requires g c =
+    let i = c.loop-turn.invariant in
+    let all : c.loop-turn._turn ≡ 18446744073709551615 = omega (arith, c.loop-turn-test.false) in
+    has_room c.loop-turn.room i.few (λ h. absurd (omega (arith, all, (i.fresh h).0)))
+
+pub loop-turn-init : goal.loop-turn-init
+loop-turn-init g c = record {
+  few = omega (arith, c.new-room.ensures.len);
+  fresh = λ h. (refl, refl);
+  writes = (refl, refl);
+  kept = refl;
+  opened = c.requires.open;
+  going = none_yet _ _ _ _ _ c.new-room.ensures.items;
+}

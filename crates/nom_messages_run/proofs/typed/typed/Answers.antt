@@ -1,5 +1,5 @@
 use Rattle.std.proofs.Common.{◌∙◌, ap, false}
-use Rattle.nom.specs.Bytes.{Parses}
+use Rattle.nom.specs.grammars.Bytes.{Parses}
 use Rattle.nom_messages_run.proofs.Lacks.{none_lacks}
 use Rattle.nom_messages_run.proofs.TypedParts.{typed_by_parts}
 use Rattle.nom_messages_run.proofs.typed.typed.Goals as goal

@@ -12,6 +12,7 @@ loop-turn-init g c = record {
   reads = c.requires.stream;
   writes = c.requires.open;
   going = none_yet g.R.Read.remaining g.W.Write.contents c.args.stream.now c.args.outgoing.now _;
+  flushes = refl;
 }
 
 pub returns-in-Some-clause-sent : goal.returns-in-Some-clause-sent
@@ -29,6 +30,7 @@ returns-in-Some-clause-sent g c =
           (c.in-Ok-Some.used, c.in-Ok-Some.length, d, c.inside-line.ensures ∙ ap (λ z. take c.in-Ok-Some.length z) c.last.ensures) before.within
           (subst (λ n. HaltsLine (vec_capacity c.loop-turn.room) c.loop-turn.outgoing c.write_line.new.outgoing c.inside-line.result.now (n + 1)
           c.in-Some.halt) (sym before.counted) c.in-Some.ensures.sent.1);
+      flushes = c.in-Some.ensures.flushes ∙ c.loop-turn.invariant.flushes;
     }
 
 pub returns-in-Ok-None-clause-sent : goal.returns-in-Ok-None-clause-sent
@@ -40,6 +42,7 @@ returns-in-Ok-None-clause-sent g c = record {
   nothing = sends_none g.W.Write.contents c.loop-turn.outgoing c.loop-turn.outgoing refl refl;
   why = HaltsAt.Ended (subst (λ f. Decides g.R.Read.remaining json_line_of c.loop-turn.stream c.next_item.new.self (Ok f)) c.in-Ok-None.field-0-is
       c.in-Ok-None.ensures.decides) (refl, refl) refl;
+  flushes = c.loop-turn.invariant.flushes;
 }
 
 pub returns-in-Err-clause-sent : goal.returns-in-Err-clause-sent
@@ -51,6 +54,7 @@ returns-in-Err-clause-sent g c = record {
   nothing = sends_none g.W.Write.contents c.loop-turn.outgoing c.loop-turn.outgoing refl refl;
   why = HaltsAt.Stopped c.in-Err.why c.in-Err.ensures.decides (refl, refl)
       (c.stopped.ensures ∙ ap (λ n. halt_by (n + 1) c.in-Err.why) (sym c.loop-turn.invariant.going.counted));
+  flushes = c.loop-turn.invariant.flushes;
 }
 
 pub loop-turn-preserved : goal.loop-turn-preserved
@@ -64,6 +68,7 @@ loop-turn-preserved g c =
       going = one_more g.R.Read.remaining g.W.Write.contents _ _ _ _ _ _ _ _ _ c.loop-turn.invariant.going c.inside-line.result.now sent.0
           (c.in-Ok-Some.used, c.in-Ok-Some.length, d, c.inside-line.ensures ∙ ap (λ z. take c.in-Ok-Some.length z) c.last.ensures)
           sent.1 sent.2 c.in-None.ensures.room sent.3;
+      flushes = c.in-None.ensures.flushes ∙ c.loop-turn.invariant.flushes;
     }
 
 pub returns-clause-sent : goal.returns-clause-sent
@@ -74,4 +79,5 @@ returns-clause-sent g c = record {
   lines = c.loop-turn.invariant.going.lines;
   nothing = sends_none g.W.Write.contents c.loop-turn.outgoing c.loop-turn.outgoing refl refl;
   why = HaltsAt.Full (omega (arith, c.loop-turn.invariant.going.counted, c.loop-turn-test.false)) refl (refl, refl) refl;
+  flushes = c.loop-turn.invariant.flushes;
 }

@@ -1,20 +1,38 @@
-use Rattle.std.proofs.Common.{inl, inr, refl}
+use Rattle.std.proofs.Common.{◌≡◌, true, false, refl}
+use Rattle.nom_write_stream.proofs.Sending.{sends_none}
+use Rattle.nom_messages_run.specs.Sent.{Finishes, is_failed_write}
 use Rattle.nom_messages_run.proofs.write.write_lines.Goals as goal
 
+pub returns-then-is_failed_write-clause-sent : goal.returns-then-is_failed_write-clause-sent
+returns-then-is_failed_write-clause-sent g c =
+    let there = c.write_each-halt.new.outgoing in
+    let failed : is_failed_write c.write_each-halt.result ≡ true = cc in
+    record {
+      halt = c.write_each-halt.result;
+      outgoing = there;
+      until = c.write_each-halt.ensures.sent;
+      nothing = sends_none g.W.Write.contents there there refl refl;
+      finishes = Finishes.Left failed refl refl;
+    }
+
 pub returns-in-Ok-clause-sent : goal.returns-in-Ok-clause-sent
-returns-in-Ok-clause-sent g c = record {
-  halt = c.write_each-halt.result;
-  outgoing = c.write_each-halt.new.outgoing;
-  until = c.write_each-halt.ensures.sent;
-  nothing = c.in-Ok.ensures.sends;
-  flushed = inl (refl, c.in-Ok.ensures.none, c.in-Ok.ensures.counts);
-}
+returns-in-Ok-clause-sent g c =
+    let other : is_failed_write c.write_each-halt.result ≡ false = cc in
+    record {
+      halt = c.write_each-halt.result;
+      outgoing = c.write_each-halt.new.outgoing;
+      until = c.write_each-halt.ensures.sent;
+      nothing = c.in-Ok.ensures.sends;
+      finishes = Finishes.Flushed other refl c.in-Ok.ensures.none c.in-Ok.ensures.counts c.in-Ok.ensures.flushed;
+    }
 
 pub returns-in-Err-clause-sent : goal.returns-in-Err-clause-sent
-returns-in-Err-clause-sent g c = record {
-  halt = c.write_each-halt.result;
-  outgoing = c.write_each-halt.new.outgoing;
-  until = c.write_each-halt.ensures.sent;
-  nothing = c.in-Err.ensures.sends;
-  flushed = inr (refl, (_, c.in-Err.ensures.counts));
-}
+returns-in-Err-clause-sent g c =
+    let other : is_failed_write c.write_each-halt.result ≡ false = cc in
+    record {
+      halt = c.write_each-halt.result;
+      outgoing = c.write_each-halt.new.outgoing;
+      until = c.write_each-halt.ensures.sent;
+      nothing = c.in-Err.ensures.sends;
+      finishes = Finishes.Failed _ other refl c.in-Err.ensures.counts c.in-Err.ensures.flushed;
+    }

@@ -1,5 +1,5 @@
 use Rattle.std.proofs.Common.{false, ◌∙◌, ap}
-use Rattle.nom.specs.Grammar.{Parses}
+use Rattle.nom.specs.grammars.Grammar.{Parses}
 use Rattle.nom_settings_run.proofs.Written.{by_its_parts}
 use Rattle.nom_settings_run.proofs.settings.settings.Goals as goal
 

@@ -1,8 +1,12 @@
+use Rattle.nom_internal.specs.Word.{answers_by}
 use Rattle.nom_internal.proofs.Shown.{parsed, same_rest}
 use Rattle.nom_internal.proofs.parser.Parser.parse.Goals as goal
 
 pub returns-clause-shown : goal.returns-clause-shown
 returns-clause-shown g c = parsed c.full.ensures c.process.ensures.shown
+
+pub returns-clause-written : goal.returns-clause-written
+returns-clause-written g c = answers_by _ (g.Self.Parser.worded _) (parsed c.full.ensures c.process.ensures.shown)
 
 pub returns-clause-besides : goal.returns-clause-besides
 returns-clause-besides g c = rw (same_rest _ _ c.full.ensures) at c.process.ensures.besides

@@ -2,7 +2,7 @@ use Rattle.std.specs.Prelude.{codes}
 use Rattle.nom_internal.specs.Prelude.{modes, IsModelledBy, EitherOutput}
 use Rattle.nom_branch.specs.Alternatives.{next_meaning}
 use Rattle.nom_branch.proofs.Alternatives.{next_shown, choice_shown}
-use Rattle.nom_number_text.specs.Words.{word_meaning}
+use Rattle.nom_number_text.specs.Exceptions.{word_meaning}
 use Rattle.nom_number_text.proofs.exceptions.OrExceptionsParser.process.Goals as goal
 
 pub returns-clause-shown : goal.returns-clause-shown

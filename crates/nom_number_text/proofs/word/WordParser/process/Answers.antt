@@ -1,5 +1,5 @@
 use Rattle.std.proofs.Common.{sym, ◌∙◌}
-use Rattle.nom_number_text.specs.Words.{letters_of}
+use Rattle.nom_number_text.specs.Exceptions.{letters_of}
 use Rattle.nom_number_text.proofs.WordShown.{word_stands, word_absent, word_lacks, word_ends}
 use Rattle.nom_number_text.proofs.word.WordParser.process.Goals as goal
 

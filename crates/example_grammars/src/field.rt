@@ -1,0 +1,196 @@
+//! Grammars of formats and protocols in use: each function is a contract and a body, and nothing else is written.
+//!
+//! A contract says the grammar: whatever the function answers, it answers by that grammar, with the place of each refusal.
+ghost use Rattle.std.specs.Prelude.{◌≡◌, codes, false, true};
+ghost use Rattle.nom.specs.Bytes as Bytes;
+ghost use Rattle.nom.specs.Texts.{Parses, alpha1_of, alt_of, char_of, crlf_of, decimal_of, delimited_of, digit1_of, hex_digit1_of};
+ghost use Rattle.nom.specs.Texts.{escaped_of, is_not_of, line_ending_of, many0_of, not_line_ending_of, one_of_of, opt_of, or_of, pair_of, preceded_of};
+ghost use Rattle.nom.specs.Texts.{recognize_of, separated_list0_of, separated_list1_of, separated_pair_of, space0_of, tag_of, terminated_of};
+ghost use Rattle.nom.specs.Texts.{tuple_of_four, tuple_of_three};
+ghost use Rattle.example_grammars.specs.Field.{is_more};
+
+use nom::branch::alt;
+use nom::bytes::{escaped, is_not, tag, take, take_while_m_n};
+use nom::character::{
+    alpha1, char, crlf, digit1, hex_digit1, line_ending, not_line_ending, one_of, space0, u32, u64,
+};
+use nom::combinator::{opt, recognize};
+use nom::multi::{length_data, many_till, many0, separated_list0, separated_list1};
+use nom::number::{be_u8, be_u16, be_u32};
+use nom::sequence::{delimited, pair, preceded, separated_pair, terminated};
+use nom::{IResult, Parser};
+use std::alloc::Global;
+
+/// The numbers of a semantic version, as `1.0.12`.
+pub fn version(input: &str) -> IResult<&str, (u64, u64, u64)>
+    ensures { Parses (tuple_of_three (terminated_of (decimal_of 64) (char_of 46)) (terminated_of (decimal_of 64) (char_of 46)) (decimal_of 64))
+        false input.entry result }
+{
+    (
+        terminated(u64(), char('.')),
+        terminated(u64(), char('.')),
+        u64(),
+    )
+        .parse_complete(input)
+}
+
+/// The zone of a time: `Z`, or an offset as `+02:00`.
+pub fn zone(input: &str) -> IResult<&str, &str>
+    ensures { Parses (alt_of (or_of (tag_of (codes "Z"))
+        (recognize_of (pair_of (one_of_of (codes "+-")) (separated_pair_of digit1_of (char_of 58) digit1_of))))) false input.entry result }
+{
+    let offset = pair(one_of("+-"), separated_pair(digit1(), char(':'), digit1()));
+    alt((tag("Z"), recognize(offset))).parse_complete(input)
+}
+
+/// A colour in hexadecimal digits, as `#2f14df`.
+pub fn hex_colour(input: &str) -> IResult<&str, &str>
+    ensures { Parses (preceded_of (char_of 35) hex_digit1_of) false input.entry result }
+{
+    preceded(char('#'), hex_digit1()).parse_complete(input)
+}
+
+/// The parts of a URI before its fragment: scheme, authority, path and query.
+pub fn uri(input: &str) -> IResult<&str, (&str, Option<&str>, Option<&str>, Option<&str>)>
+    ensures { Parses (tuple_of_four (terminated_of (is_not_of (codes ":/?#")) (char_of 58))
+        (opt_of (preceded_of (tag_of (codes "//")) (is_not_of (codes "/?#")))) (opt_of (is_not_of (codes "?#")))
+        (opt_of (preceded_of (char_of 63) (is_not_of (codes "#"))))) false input.entry result }
+{
+    let scheme = terminated(is_not(":/?#"), char(':'));
+    let authority = opt(preceded(tag("//"), is_not("/?#")));
+    let query = opt(preceded(char('?'), is_not("#")));
+    (scheme, authority, opt(is_not("?#")), query).parse_complete(input)
+}
+
+/// The request line of HTTP/1.1: method, target, and the two numbers of the version. More input may come.
+pub fn request_line(input: &[u8]) -> IResult<&[u8], (&[u8], &[u8], (&[u8], &[u8]))>
+    ensures { Bytes.Parses (Bytes.tuple_of_three (Bytes.terminated_of Bytes.alpha1_of (Bytes.char_of 32))
+        (Bytes.terminated_of (Bytes.is_not_of (codes " ")) (Bytes.char_of 32))
+        (Bytes.delimited_of (Bytes.tag_of (codes "HTTP/")) (Bytes.separated_pair_of Bytes.digit1_of (Bytes.char_of 46) Bytes.digit1_of) Bytes.crlf_of))
+        true input.entry result }
+{
+    let version = separated_pair(digit1(), char('.'), digit1());
+    (
+        terminated(alpha1(), char(' ')),
+        terminated(is_not(" "), char(' ')),
+        delimited(tag("HTTP/"), version, crlf()),
+    )
+        .parse(input)
+}
+
+/// A header field: its name, and its value up to the end of the line.
+pub fn header_field(input: &str) -> IResult<&str, (&str, &str)>
+    ensures { Parses (separated_pair_of (is_not_of (codes ":\r\n")) (pair_of (char_of 58) space0_of) (terminated_of not_line_ending_of crlf_of))
+        true input.entry result }
+{
+    let colon = pair(char(':'), space0());
+    let value = terminated(not_line_ending(), crlf());
+    separated_pair(is_not(":\r\n"), colon, value).parse(input)
+}
+
+/// The line before a chunk of a chunked body: its size in hexadecimal digits, and an extension where there is one.
+pub fn chunk_line(input: &[u8]) -> IResult<&[u8], (&[u8], Option<&[u8]>)>
+    ensures { Bytes.Parses (Bytes.terminated_of (Bytes.pair_of Bytes.hex_digit1_of
+        (Bytes.opt_of (Bytes.preceded_of (Bytes.char_of 59) (Bytes.is_not_of (codes "\r\n"))))) Bytes.crlf_of) true input.entry result }
+{
+    let extension = preceded(char(';'), is_not("\r\n"));
+    terminated(pair(hex_digit1(), opt(extension)), crlf()).parse(input)
+}
+
+/// Whether another byte of a length follows.
+fn more(byte: u8) -> bool
+    ensures { result ≡ is_more byte }
+{
+    byte > 127
+}
+
+/// The fixed header of MQTT: the kind with its flags, and the bytes of the remaining length.
+pub fn fixed_header(input: &[u8]) -> IResult<&[u8], (u8, &[u8])>
+    ensures { Bytes.Parses (Bytes.pair_of (Bytes.number_of Bytes.Big 1)
+        (Bytes.recognize_of (Bytes.pair_of (Bytes.take_while_m_n_of 0 3 is_more) (Bytes.number_of Bytes.Big 1)))) true input.entry result }
+{
+    let length = pair(take_while_m_n(0usize, 3usize, more), be_u8());
+    pair(be_u8(), recognize(length)).parse(input)
+}
+
+/// A question of DNS: the labels of a name, the type and the class.
+pub fn question(alloc: Global, input: &[u8]) -> IResult<&[u8], ((Vec<&[u8]>, &[u8]), u16, u16)>
+    ensures { Bytes.Parses (Bytes.tuple_of_three
+        (Bytes.many_till_of (Bytes.length_data_of (Bytes.number_of Bytes.Big 1)) (Bytes.tag_of (codes "\0")))
+        (Bytes.number_of Bytes.Big 2) (Bytes.number_of Bytes.Big 2)) true input.entry result }
+{
+    let name = many_till(alloc, length_data(be_u8()), tag("\0"));
+    (name, be_u16(), be_u16()).parse(input)
+}
+
+/// A record of TLS: its type, its version and its fragment.
+pub fn record(input: &[u8]) -> IResult<&[u8], (u8, u16, &[u8])>
+    ensures { Bytes.Parses (Bytes.tuple_of_three (Bytes.number_of Bytes.Big 1) (Bytes.number_of Bytes.Big 2)
+        (Bytes.length_data_of (Bytes.number_of Bytes.Big 2))) true input.entry result }
+{
+    (be_u8(), be_u16(), length_data(be_u16())).parse(input)
+}
+
+/// A netstring, as `5:hello,`.
+pub fn netstring(input: &[u8]) -> IResult<&[u8], &[u8]>
+    ensures { Bytes.Parses (Bytes.terminated_of (Bytes.length_data_of (Bytes.terminated_of (Bytes.decimal_of 32) (Bytes.char_of 58))) (Bytes.char_of 44))
+        true input.entry result }
+{
+    terminated(length_data(terminated(u32(), char(':'))), char(',')).parse(input)
+}
+
+/// A record of a CSV file, with quoted fields and bare ones.
+pub fn csv_record(alloc: Global, input: &str) -> IResult<&str, Vec<&str>>
+    ensures { Parses (terminated_of (separated_list0_of (char_of 44)
+        (alt_of (or_of (delimited_of (char_of 34) (is_not_of (codes "\"")) (char_of 34)) (is_not_of (codes ",\"\r\n"))))) line_ending_of)
+        false input.entry result }
+{
+    let quoted = delimited(char('"'), is_not("\""), char('"'));
+    let field = alt((quoted, is_not(",\"\r\n")));
+    terminated(separated_list0(alloc, char(','), field), line_ending()).parse_complete(input)
+}
+
+/// A section of an INI file: its name, and its settings.
+pub fn section(alloc: Global, input: &str) -> IResult<&str, (&str, Vec<(&str, &str)>)>
+    ensures { Parses (pair_of (delimited_of (char_of 91) (is_not_of (codes "]\r\n")) (pair_of (char_of 93) line_ending_of))
+        (many0_of (separated_pair_of (is_not_of (codes "[=\r\n")) (char_of 61) (terminated_of not_line_ending_of line_ending_of)))) false input.entry result }
+{
+    let header = delimited(char('['), is_not("]\r\n"), pair(char(']'), line_ending()));
+    let value = terminated(not_line_ending(), line_ending());
+    let setting = separated_pair(is_not("[=\r\n"), char('='), value);
+    pair(header, many0(alloc, setting)).parse_complete(input)
+}
+
+/// A line of a log, as `level=info msg=started`.
+pub fn log_line(alloc: Global, input: &str) -> IResult<&str, Vec<(&str, &str)>>
+    ensures { Parses (separated_list1_of (char_of 32) (separated_pair_of (is_not_of (codes "= \n")) (char_of 61) (is_not_of (codes " \n"))))
+        false input.entry result }
+{
+    let entry = separated_pair(is_not("= \n"), char('='), is_not(" \n"));
+    separated_list1(alloc, char(' '), entry).parse_complete(input)
+}
+
+/// A quoted string, in which a backslash escapes a quote, a backslash or an `n`.
+pub fn quoted(input: &str) -> IResult<&str, &str>
+    ensures { Parses (delimited_of (char_of 34) (escaped_of (is_not_of (codes "\\\"")) 92 (one_of_of (codes "\\\"n"))) (char_of 34)) false input.entry result }
+{
+    let inside = escaped(is_not("\\\""), '\\', one_of("\\\"n"));
+    delimited(char('"'), inside, char('"')).parse_complete(input)
+}
+
+/// A line of Git's protocol: its length in four hexadecimal digits, and what stands up to its end.
+pub fn pkt_line(input: &[u8]) -> IResult<&[u8], (&[u8], &[u8])>
+    ensures { Bytes.Parses (Bytes.pair_of (Bytes.take_of 4) (Bytes.terminated_of Bytes.not_line_ending_of Bytes.line_ending_of)) true input.entry result }
+{
+    pair(take(4usize), terminated(not_line_ending(), line_ending())).parse(input)
+}
+
+/// The first chunk of a PNG file: width, height, and five bytes that say how its pixels are stored.
+pub fn image_header(input: &[u8]) -> IResult<&[u8], (u32, u32, &[u8], u32)>
+    ensures { Bytes.Parses (Bytes.preceded_of (Bytes.pair_of (Bytes.number_of Bytes.Big 4) (Bytes.tag_of (codes "IHDR")))
+        (Bytes.tuple_of_four (Bytes.number_of Bytes.Big 4) (Bytes.number_of Bytes.Big 4) (Bytes.take_of 5) (Bytes.number_of Bytes.Big 4)))
+        true input.entry result }
+{
+    let fields = (be_u32(), be_u32(), take(5usize), be_u32());
+    preceded(pair(be_u32(), tag("IHDR")), fields).parse(input)
+}
