@@ -7,6 +7,7 @@ use Rattle.nom_internal.specs.Words as Internal
 use Rattle.nom_combinator.specs.Words as Combinator
 use Rattle.nom_multi_length.specs.Words as Length
 pub use Rattle.nom_internal.specs.Word.{Answers, Word, Words, answers_by, answers_same, keyed, parses_by, word}
+pub use Rattle.nom_internal.specs.TupleWords.{tuple_of_two, tuple_of_three, tuple_of_four, tuple_of_five, tuple_of_six, tuple_of_seven, tuple_of_eight}
 pub use Rattle.nom_internal.specs.Words.{and_then_of, either_of, fixed_of, flat_map_of, into_of, map_res_of, pair_of, tuple_of}
 pub use Rattle.nom_func.specs.Words.{called, called_with, given_of, stream_called, stream_called_with, stream_given_of}
 pub use Rattle.nom_sequence.specs.Words.{delimited_of, preceded_of, separated_pair_of, terminated_of}
@@ -57,32 +58,3 @@ module _ {I A E : Type 0} (w : Model I A) (errs : Errors I E) where
   -- a length, and that many outputs of another word
   abbrev pub length_count_of : {P M : Type 0} → Word I ℕ E → Word I P E → Word I (Vec P M) E
   length_count_of = Length.length_count_of w errs (λ n. n)
-
--- several parsers in turn, as a tuple of them
-module _ {I T E : Type 0} (w : Model I T) where
-  abbrev pub tuple_of_two : {A B : Type 0} → Word I A E → Word I B E → Word I (A × B) E
-  tuple_of_two a b = tuple_of (λ o. (o.0, o.1)) (pair_of w a b)
-
-  abbrev pub tuple_of_three : {A B C : Type 0} → Word I A E → Word I B E → Word I C E → Word I (A × B × C) E
-  tuple_of_three a b c = tuple_of (λ o. ((o.0, o.1), o.2)) (pair_of w (pair_of w a b) c)
-
-  abbrev pub tuple_of_four : {A B C D : Type 0} → Word I A E → Word I B E → Word I C E → Word I D E → Word I (A × B × C × D) E
-  tuple_of_four a b c d = tuple_of (λ o. (((o.0, o.1), o.2), o.3)) (pair_of w (pair_of w (pair_of w a b) c) d)
-
-  abbrev pub tuple_of_five : {A B C D F : Type 0} → Word I A E → Word I B E → Word I C E → Word I D E → Word I F E → Word I (A × B × C × D × F) E
-  tuple_of_five a b c d f = tuple_of (λ o. ((((o.0, o.1), o.2), o.3), o.4)) (pair_of w (pair_of w (pair_of w (pair_of w a b) c) d) f)
-
-  abbrev pub tuple_of_six : {A B C D F G : Type 0} → Word I A E → Word I B E → Word I C E → Word I D E → Word I F E → Word I G E →
-      Word I (A × B × C × D × F × G) E
-  tuple_of_six a b c d f g = tuple_of (λ o. (((((o.0, o.1), o.2), o.3), o.4), o.5))
-      (pair_of w (pair_of w (pair_of w (pair_of w (pair_of w a b) c) d) f) g)
-
-  abbrev pub tuple_of_seven : {A B C D F G H : Type 0} → Word I A E → Word I B E → Word I C E → Word I D E → Word I F E → Word I G E → Word I H E →
-      Word I (A × B × C × D × F × G × H) E
-  tuple_of_seven a b c d f g h = tuple_of (λ o. ((((((o.0, o.1), o.2), o.3), o.4), o.5), o.6))
-      (pair_of w (pair_of w (pair_of w (pair_of w (pair_of w (pair_of w a b) c) d) f) g) h)
-
-  abbrev pub tuple_of_eight : {A B C D F G H J : Type 0} → Word I A E → Word I B E → Word I C E → Word I D E → Word I F E → Word I G E → Word I H E →
-      Word I J E → Word I (A × B × C × D × F × G × H × J) E
-  tuple_of_eight a b c d f g h j = tuple_of (λ o. (((((((o.0, o.1), o.2), o.3), o.4), o.5), o.6), o.7))
-      (pair_of w (pair_of w (pair_of w (pair_of w (pair_of w (pair_of w (pair_of w a b) c) d) f) g) h) j)

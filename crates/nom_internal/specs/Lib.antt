@@ -18,6 +18,7 @@ pub mod Recognized
 pub mod Results
 pub mod Sequence
 pub mod Success
+pub mod TupleWords
 pub mod Tuples
 pub mod Word
 pub mod Words

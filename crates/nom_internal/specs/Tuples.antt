@@ -1,6 +1,6 @@
--- Tuples of parsers: members in sequence, each on the rest that those before it leave. A tuple is the pair of the members
--- before its last and of its last, by `pair_of`: so trees are nested pairs, and outputs alone are flat. The outputs of
--- the members are built in every mode; where none is asked for, the tuple drops them.
+-- Tuples of parsers: members in sequence, each on the rest that those before it leave. A tuple is the pair of its first member and of
+-- the others, by `pair_of`: so trees are nested pairs, and outputs alone are flat. The outputs of the members are built in every mode;
+-- where none is asked for, the tuple drops them.
 use Rattle.std.specs.Prelude.{true}
 use Rattle.nom_error.specs.Modes.{with_outputs}
 use Rattle.nom_internal.specs.Meaning.{Meaning}

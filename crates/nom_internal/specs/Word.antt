@@ -1,7 +1,7 @@
 -- Words: grammars by closed names. `Answers` and the words of each parser, in the modules `Words`, don't unfold by themselves. So
 -- what a parser answers by its word is found to be what a contract says, as terms are compared: with nothing written.
 use Rattle.std.specs.Prelude.{◌≡◌, Bool}
-use Rattle.std.proofs.Common.{refl, subst, sym}
+use Rattle.std.proofs.Common.{subst, sym}
 use Rattle.nom_error.specs.Answers.{IResult}
 use Rattle.nom_traits.specs.Input.{Model}
 use Rattle.nom_internal.specs.Grammar.{Grammar, Parses}

@@ -15,7 +15,7 @@ use Rattle.nom_internal.specs.Tuples as Tuples
 use Rattle.nom_internal.specs.Word.{Word, Words, word}
 
 module _ {I A E : Type 0} (w : Model I A) {O P : Type 0} where
-  abbrev pair_meant : Word I O E → Word I P E → Word I (O × P) E
+  abbrev pub pair_meant : Word I O E → Word I P E → Word I (O × P) E
   pair_meant g h = word (Sequence.pair_of w g.grammar h.grammar)
 
   pub pair_of : Word I O E → Word I P E → Word I (O × P) E
@@ -31,7 +31,7 @@ module _ {I A E : Type 0} (w : Model I A) {O P : Type 0} where
 
 -- a tuple, by the nested pairs of its outputs
 module _ {I E F O : Type 0} (pairs : F → O) where
-  abbrev tuple_meant : Word I O E → Word I F E
+  abbrev pub tuple_meant : Word I O E → Word I F E
   tuple_meant g = word (Tuples.tuple_of pairs g.grammar)
 
   pub tuple_of : Word I O E → Word I F E

@@ -1,7 +1,7 @@
 //! Parsers.
-ghost use Rattle.std.specs.Prelude.{◌≡◌, true, false, IfOk, Option};
+ghost use Rattle.std.specs.Prelude.{◌≡◌, true, false, Option};
 ghost use Rattle.nom_error.specs.Modes.{Modes, modes};
-ghost use Rattle.nom_internal.specs.Grammar.{GivesAt, Grammar, Parses, Shows};
+ghost use Rattle.nom_internal.specs.Grammar.{Grammar, Parses, Shows};
 ghost use Rattle.nom_internal.specs.Meaning.{IsLawful, IsSteady};
 ghost use Rattle.nom_internal.specs.Pinned.{IsPinned};
 ghost use Rattle.nom_internal.specs.Results.{IsFull, HoldsSame, rest_of};
@@ -79,8 +79,6 @@ pub trait Parser<I: Items>: Sized {
         requires runs { (grammar (state self.old)).meaning.Runs }
         ensures written { Answers I.model (word (state self.old)) true input result }
         ensures shown { Parses I.model (grammar (state self.old)) true input result }
-        // So what is accepted tells of the output, as how long a slice is, without a proof.
-        ensures output { IfOk result (λ accepted. GivesAt (grammar (state self.old)) true input accepted.1) }
         ensures kept { state self.new ≡ state self.old }
         ensures besides { Besides (modes true true true) self.old self.new input (rest_of result) }
     {
@@ -93,7 +91,6 @@ pub trait Parser<I: Items>: Sized {
         requires runs { (grammar (state self.old)).meaning.Runs }
         ensures written { Answers I.model (word (state self.old)) false input result }
         ensures shown { Parses I.model (grammar (state self.old)) false input result }
-        ensures output { IfOk result (λ accepted. GivesAt (grammar (state self.old)) false input accepted.1) }
         ensures kept { state self.new ≡ state self.old }
         ensures besides { Besides (modes true true false) self.old self.new input (rest_of result) }
     {

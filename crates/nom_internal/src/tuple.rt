@@ -11,7 +11,8 @@ ghost use Rattle.nom_internal.specs.Results.{rest_of, with_output, ThenBesides};
 ghost use Rattle.nom_internal.specs.Tuples.{tuple_of};
 ghost use Rattle.nom_internal.specs.Pinned.{pair_pinned};
 ghost use Rattle.nom_internal.specs.laws.TupleLaws.{built_lawful, pair_lawful, built_steady, pair_steady, flat_pinned, single_pinned};
-ghost use Rattle.nom_internal.specs.Words as Words;
+ghost use Rattle.nom_internal.specs.TupleWords as Words;
+ghost use Rattle.nom_internal.specs.Words as Plain;
 
 use crate::built::built;
 use crate::parser::{Parser, StreamParser};
@@ -51,9 +52,9 @@ impl<I: Items, A: Parser<I>> Parser<I> for (A,) {
 
     ghost grammar = { λ s. tuple_of (λ o. o.0) (A.grammar s) };
 
-    ghost word = { λ s. Words.tuple_of (λ o. o.0) (A.word s) };
+    ghost word = { λ s. Plain.tuple_of (λ o. o.0) (A.word s) };
 
-    ghost worded = { λ s. Words.tuple_worded (λ o. o.0) (A.worded s) };
+    ghost worded = { λ s. Plain.tuple_worded (λ o. o.0) (A.worded s) };
 
     ghost Besides = { λ mode old new i. A.Besides (with_outputs true mode) old.0 new.0 i };
 
@@ -87,11 +88,12 @@ impl<I: Items, A: Parser<I>, B: Parser<I, Error = A::Error>> Parser<I> for (A, B
 
     ghost grammar = { λ s. tuple_of (λ o. (o.0, o.1)) (pair_of I.model (A.grammar s.0) (B.grammar s.1)) };
 
-    ghost word = { λ s. Words.tuple_of (λ o. (o.0, o.1)) (Words.pair_of I.model (A.word s.0) (B.word s.1)) };
+    ghost word = { λ s. Words.tuple_of_two I.model (A.word s.0) (B.word s.1) };
 
-    ghost worded = { λ s. Words.tuple_worded (λ o. (o.0, o.1)) (Words.pair_worded I.model (A.worded s.0) (B.worded s.1)) };
+    ghost worded = { λ s. Words.tuple_of_two_worded I.model (A.worded s.0) (B.worded s.1) };
 
-    ghost Besides = { λ mode old new i. ThenBesides (A.Besides (with_outputs true mode) old.0 new.0 i) (B.Besides (with_outputs true mode) old.1 new.1) };
+    ghost Besides = { λ mode old new i. ThenBesides (A.Besides (with_outputs true mode) old.0 new.0 i) (B.Besides (with_outputs true mode) old.1
+        new.1) };
 
     #[inline(always)]
     fn process<OM: OutputMode>(&mut self, input: I) -> PResult<I, Self::Output, Self::Error> {
@@ -107,8 +109,7 @@ impl<I: Items, A: StreamParser<I>, B: StreamParser<I, Error = A::Error>> StreamP
     for (A, B) {
     ghost Pins = { λ p. A.Pins p.0 × B.Pins p.1 };
 
-    ghost pinned = { λ p k h. flat_pinned (λ v. v) (λ o. (o.0, o.1)) (λ _. refl)
-        (pair_pinned (A.pinned p.0 k.0 h.0) (B.pinned p.1 k.1 h.1)) };
+    ghost pinned = { λ p k h. flat_pinned (λ v. v) (λ o. (o.0, o.1)) (λ _. refl) (pair_pinned (A.pinned p.0 k.0 h.0) (B.pinned p.1 k.1 h.1)) };
 
     ghost steady = { λ s k. built_steady (pair_steady I.lawful (A.steady s.0 k.0) (B.steady s.1 k.1)) };
 }
@@ -124,18 +125,16 @@ impl<I: Items, A: Parser<I>, B: Parser<I, Error = A::Error>, C: Parser<I, Error 
 
     ghost state = { λ p. (A.state p.0, B.state p.1, C.state p.2) };
 
-    ghost Tree = { (A.Tree × B.Tree) × C.Tree };
+    ghost Tree = { A.Tree × (B.Tree × C.Tree) };
 
-    ghost grammar = { λ s. tuple_of (λ o. ((o.0, o.1), o.2)) (pair_of I.model (pair_of I.model (A.grammar s.0) (B.grammar s.1)) (C.grammar s.2)) };
+    ghost grammar = { λ s. tuple_of (λ o. (o.0, (o.1, o.2))) (pair_of I.model (A.grammar s.0) (pair_of I.model (B.grammar s.1) (C.grammar s.2))) };
 
-    ghost word = { λ s. Words.tuple_of (λ o. ((o.0, o.1), o.2)) (Words.pair_of I.model (Words.pair_of I.model (A.word s.0) (B.word s.1)) (C.word
-        s.2)) };
+    ghost word = { λ s. Words.tuple_of_three I.model (A.word s.0) (B.word s.1) (C.word s.2) };
 
-    ghost worded = { λ s. Words.tuple_worded (λ o. ((o.0, o.1), o.2)) (Words.pair_worded I.model (Words.pair_worded I.model (A.worded s.0) (B.worded
-        s.1)) (C.worded s.2)) };
+    ghost worded = { λ s. Words.tuple_of_three_worded I.model (A.worded s.0) (B.worded s.1) (C.worded s.2) };
 
-    ghost Besides = { λ mode old new i. ThenBesides (ThenBesides (A.Besides (with_outputs true mode) old.0 new.0 i)
-        (B.Besides (with_outputs true mode) old.1 new.1)) (C.Besides (with_outputs true mode) old.2 new.2) };
+    ghost Besides = { λ mode old new i. ThenBesides (A.Besides (with_outputs true mode) old.0 new.0 i) (λ j. ThenBesides (B.Besides (with_outputs
+        true mode) old.1 new.1 j) (C.Besides (with_outputs true mode) old.2 new.2)) };
 
     #[inline(always)]
     fn process<OM: OutputMode>(&mut self, input: I) -> PResult<I, Self::Output, Self::Error> {
@@ -145,7 +144,7 @@ impl<I: Items, A: Parser<I>, B: Parser<I, Error = A::Error>, C: Parser<I, Error 
         Ok((rest, built::<OM::Output, _>((a, b, c))))
     }
 
-    ghost lawful = { λ s k. built_lawful (pair_lawful I.lawful (pair_lawful I.lawful (A.lawful s.0 k.0.0) (B.lawful s.1 k.0.1)) (C.lawful s.2 k.1)) };
+    ghost lawful = { λ s k. built_lawful (pair_lawful I.lawful (A.lawful s.0 k.0) (pair_lawful I.lawful (B.lawful s.1 k.1.0) (C.lawful s.2 k.1.1))) };
 }
 
 impl<
@@ -156,10 +155,10 @@ impl<
 > StreamParser<I> for (A, B, C) {
     ghost Pins = { λ p. A.Pins p.0 × B.Pins p.1 × C.Pins p.2 };
 
-    ghost pinned = { λ p k h. flat_pinned (λ v. (v.0.0, v.0.1, v.1)) (λ o. ((o.0, o.1), o.2)) (λ _. refl)
-        (pair_pinned (pair_pinned (A.pinned p.0 k.0.0 h.0) (B.pinned p.1 k.0.1 h.1)) (C.pinned p.2 k.1 h.2)) };
+    ghost pinned = { λ p k h. flat_pinned (λ v. (v.0, v.1.0, v.1.1)) (λ o. (o.0, (o.1, o.2))) (λ _. refl) (pair_pinned (A.pinned p.0 k.0 h.0)
+        (pair_pinned (B.pinned p.1 k.1.0 h.1) (C.pinned p.2 k.1.1 h.2))) };
 
-    ghost steady = { λ s k. built_steady (pair_steady I.lawful (pair_steady I.lawful (A.steady s.0 k.0.0) (B.steady s.1 k.0.1)) (C.steady s.2 k.1)) };
+    ghost steady = { λ s k. built_steady (pair_steady I.lawful (A.steady s.0 k.0) (pair_steady I.lawful (B.steady s.1 k.1.0) (C.steady s.2 k.1.1))) };
 }
 
 impl<
@@ -177,20 +176,18 @@ impl<
 
     ghost state = { λ p. (A.state p.0, B.state p.1, C.state p.2, D.state p.3) };
 
-    ghost Tree = { ((A.Tree × B.Tree) × C.Tree) × D.Tree };
+    ghost Tree = { A.Tree × (B.Tree × (C.Tree × D.Tree)) };
 
-    ghost grammar = { λ s. tuple_of (λ o. (((o.0, o.1), o.2), o.3))
-        (pair_of I.model (pair_of I.model (pair_of I.model (A.grammar s.0) (B.grammar s.1)) (C.grammar s.2)) (D.grammar s.3)) };
+    ghost grammar = { λ s. tuple_of (λ o. (o.0, (o.1, (o.2, o.3)))) (pair_of I.model (A.grammar s.0) (pair_of I.model (B.grammar s.1) (pair_of
+        I.model (C.grammar s.2) (D.grammar s.3)))) };
 
-    ghost word = { λ s. Words.tuple_of (λ o. (((o.0, o.1), o.2), o.3)) (Words.pair_of I.model (Words.pair_of I.model (Words.pair_of I.model (A.word
-        s.0) (B.word s.1)) (C.word s.2)) (D.word s.3)) };
+    ghost word = { λ s. Words.tuple_of_four I.model (A.word s.0) (B.word s.1) (C.word s.2) (D.word s.3) };
 
-    ghost worded = { λ s. Words.tuple_worded (λ o. (((o.0, o.1), o.2), o.3)) (Words.pair_worded I.model (Words.pair_worded I.model (Words.pair_worded
-        I.model (A.worded s.0) (B.worded s.1)) (C.worded s.2)) (D.worded s.3)) };
+    ghost worded = { λ s. Words.tuple_of_four_worded I.model (A.worded s.0) (B.worded s.1) (C.worded s.2) (D.worded s.3) };
 
-    ghost Besides = { λ mode old new i. ThenBesides (ThenBesides (ThenBesides (A.Besides (with_outputs true mode) old.0 new.0 i)
-        (B.Besides (with_outputs true mode) old.1 new.1)) (C.Besides (with_outputs true mode) old.2 new.2))
-        (D.Besides (with_outputs true mode) old.3 new.3) };
+    ghost Besides = { λ mode old new i. ThenBesides (A.Besides (with_outputs true mode) old.0 new.0 i) (λ j. ThenBesides (B.Besides (with_outputs
+        true mode) old.1 new.1 j) (λ k. ThenBesides (C.Besides (with_outputs true mode) old.2 new.2 k) (D.Besides (with_outputs true mode) old.3
+        new.3))) };
 
     #[inline(always)]
     fn process<OM: OutputMode>(&mut self, input: I) -> PResult<I, Self::Output, Self::Error> {
@@ -201,8 +198,8 @@ impl<
         Ok((rest, built::<OM::Output, _>((a, b, c, d))))
     }
 
-    ghost lawful = { λ s k. built_lawful (pair_lawful I.lawful
-        (pair_lawful I.lawful (pair_lawful I.lawful (A.lawful s.0 k.0.0.0) (B.lawful s.1 k.0.0.1)) (C.lawful s.2 k.0.1)) (D.lawful s.3 k.1)) };
+    ghost lawful = { λ s k. built_lawful (pair_lawful I.lawful (A.lawful s.0 k.0) (pair_lawful I.lawful (B.lawful s.1 k.1.0) (pair_lawful I.lawful
+        (C.lawful s.2 k.1.1.0) (D.lawful s.3 k.1.1.1)))) };
 }
 
 impl<
@@ -214,9 +211,9 @@ impl<
 > StreamParser<I> for (A, B, C, D) {
     ghost Pins = { λ p. A.Pins p.0 × B.Pins p.1 × C.Pins p.2 × D.Pins p.3 };
 
-    ghost pinned = { λ p k h. flat_pinned (λ v. (v.0.0.0, v.0.0.1, v.0.1, v.1)) (λ o. (((o.0, o.1), o.2), o.3)) (λ _. refl)
-        (pair_pinned (pair_pinned (pair_pinned (A.pinned p.0 k.0.0.0 h.0) (B.pinned p.1 k.0.0.1 h.1)) (C.pinned p.2 k.0.1 h.2)) (D.pinned p.3 k.1 h.3)) };
+    ghost pinned = { λ p k h. flat_pinned (λ v. (v.0, v.1.0, v.1.1.0, v.1.1.1)) (λ o. (o.0, (o.1, (o.2, o.3)))) (λ _. refl) (pair_pinned (A.pinned
+        p.0 k.0 h.0) (pair_pinned (B.pinned p.1 k.1.0 h.1) (pair_pinned (C.pinned p.2 k.1.1.0 h.2) (D.pinned p.3 k.1.1.1 h.3)))) };
 
-    ghost steady = { λ s k. built_steady (pair_steady I.lawful (pair_steady I.lawful (pair_steady I.lawful (A.steady s.0 k.0.0.0) (B.steady s.1 k.0.0.1))
-        (C.steady s.2 k.0.1)) (D.steady s.3 k.1)) };
+    ghost steady = { λ s k. built_steady (pair_steady I.lawful (A.steady s.0 k.0) (pair_steady I.lawful (B.steady s.1 k.1.0) (pair_steady I.lawful
+        (C.steady s.2 k.1.1.0) (D.steady s.3 k.1.1.1)))) };
 }

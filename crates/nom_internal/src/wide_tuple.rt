@@ -7,7 +7,7 @@ ghost use Rattle.nom_internal.specs.Sequence.{pair_of};
 ghost use Rattle.nom_internal.specs.Tuples.{tuple_of};
 ghost use Rattle.nom_internal.specs.Pinned.{pair_pinned};
 ghost use Rattle.nom_internal.specs.laws.TupleLaws.{built_lawful, pair_lawful, built_steady, pair_steady, flat_pinned};
-ghost use Rattle.nom_internal.specs.Words as Words;
+ghost use Rattle.nom_internal.specs.TupleWords as Words;
 
 use crate::built::built;
 use crate::parser::{Parser, StreamParser};
@@ -32,21 +32,18 @@ impl<
 
     ghost state = { λ p. (A.state p.0, B.state p.1, C.state p.2, D.state p.3, E.state p.4) };
 
-    ghost Tree = { (((A.Tree × B.Tree) × C.Tree) × D.Tree) × E.Tree };
+    ghost Tree = { A.Tree × (B.Tree × (C.Tree × (D.Tree × E.Tree))) };
 
-    ghost grammar = { λ s. tuple_of (λ o. ((((o.0, o.1), o.2), o.3), o.4))
-        (pair_of I.model (pair_of I.model (pair_of I.model (pair_of I.model (A.grammar s.0) (B.grammar s.1)) (C.grammar s.2)) (D.grammar s.3))
-        (E.grammar s.4)) };
+    ghost grammar = { λ s. tuple_of (λ o. (o.0, (o.1, (o.2, (o.3, o.4))))) (pair_of I.model (A.grammar s.0) (pair_of I.model (B.grammar s.1) (pair_of
+        I.model (C.grammar s.2) (pair_of I.model (D.grammar s.3) (E.grammar s.4))))) };
 
-    ghost word = { λ s. Words.tuple_of (λ o. ((((o.0, o.1), o.2), o.3), o.4)) (Words.pair_of I.model (Words.pair_of I.model (Words.pair_of I.model
-        (Words.pair_of I.model (A.word s.0) (B.word s.1)) (C.word s.2)) (D.word s.3)) (E.word s.4)) };
+    ghost word = { λ s. Words.tuple_of_five I.model (A.word s.0) (B.word s.1) (C.word s.2) (D.word s.3) (E.word s.4) };
 
-    ghost worded = { λ s. Words.tuple_worded (λ o. ((((o.0, o.1), o.2), o.3), o.4)) (Words.pair_worded I.model (Words.pair_worded I.model
-        (Words.pair_worded I.model (Words.pair_worded I.model (A.worded s.0) (B.worded s.1)) (C.worded s.2)) (D.worded s.3)) (E.worded s.4)) };
+    ghost worded = { λ s. Words.tuple_of_five_worded I.model (A.worded s.0) (B.worded s.1) (C.worded s.2) (D.worded s.3) (E.worded s.4) };
 
-    ghost Besides = { λ mode old new i. ThenBesides (ThenBesides (ThenBesides (ThenBesides (A.Besides (with_outputs true mode) old.0 new.0 i)
-        (B.Besides (with_outputs true mode) old.1 new.1)) (C.Besides (with_outputs true mode) old.2 new.2))
-        (D.Besides (with_outputs true mode) old.3 new.3)) (E.Besides (with_outputs true mode) old.4 new.4) };
+    ghost Besides = { λ mode old new i. ThenBesides (A.Besides (with_outputs true mode) old.0 new.0 i) (λ j. ThenBesides (B.Besides (with_outputs
+        true mode) old.1 new.1 j) (λ k. ThenBesides (C.Besides (with_outputs true mode) old.2 new.2 k) (λ l. ThenBesides (D.Besides (with_outputs
+        true mode) old.3 new.3 l) (E.Besides (with_outputs true mode) old.4 new.4)))) };
 
     #[inline(always)]
     fn process<OM: OutputMode>(&mut self, input: I) -> PResult<I, Self::Output, Self::Error> {
@@ -58,9 +55,8 @@ impl<
         Ok((rest, built::<OM::Output, _>((a, b, c, d, e))))
     }
 
-    ghost lawful = { λ s k. built_lawful (pair_lawful I.lawful
-        (pair_lawful I.lawful (pair_lawful I.lawful (pair_lawful I.lawful (A.lawful s.0 k.0.0.0.0) (B.lawful s.1 k.0.0.0.1)) (C.lawful s.2 k.0.0.1))
-        (D.lawful s.3 k.0.1)) (E.lawful s.4 k.1)) };
+    ghost lawful = { λ s k. built_lawful (pair_lawful I.lawful (A.lawful s.0 k.0) (pair_lawful I.lawful (B.lawful s.1 k.1.0) (pair_lawful I.lawful
+        (C.lawful s.2 k.1.1.0) (pair_lawful I.lawful (D.lawful s.3 k.1.1.1.0) (E.lawful s.4 k.1.1.1.1))))) };
 }
 
 impl<
@@ -73,12 +69,12 @@ impl<
 > StreamParser<I> for (A, B, C, D, E) {
     ghost Pins = { λ p. A.Pins p.0 × B.Pins p.1 × C.Pins p.2 × D.Pins p.3 × E.Pins p.4 };
 
-    ghost pinned = { λ p k h. flat_pinned (λ v. (v.0.0.0.0, v.0.0.0.1, v.0.0.1, v.0.1, v.1)) (λ o. ((((o.0, o.1), o.2), o.3), o.4)) (λ _. refl)
-        (pair_pinned (pair_pinned (pair_pinned (pair_pinned (A.pinned p.0 k.0.0.0.0 h.0) (B.pinned p.1 k.0.0.0.1 h.1)) (C.pinned p.2 k.0.0.1 h.2))
-        (D.pinned p.3 k.0.1 h.3)) (E.pinned p.4 k.1 h.4)) };
+    ghost pinned = { λ p k h. flat_pinned (λ v. (v.0, v.1.0, v.1.1.0, v.1.1.1.0, v.1.1.1.1)) (λ o. (o.0, (o.1, (o.2, (o.3, o.4))))) (λ _. refl)
+        (pair_pinned (A.pinned p.0 k.0 h.0) (pair_pinned (B.pinned p.1 k.1.0 h.1) (pair_pinned (C.pinned p.2 k.1.1.0 h.2) (pair_pinned (D.pinned p.3
+        k.1.1.1.0 h.3) (E.pinned p.4 k.1.1.1.1 h.4))))) };
 
-    ghost steady = { λ s k. built_steady (pair_steady I.lawful (pair_steady I.lawful (pair_steady I.lawful (pair_steady I.lawful (A.steady s.0 k.0.0.0.0)
-        (B.steady s.1 k.0.0.0.1)) (C.steady s.2 k.0.0.1)) (D.steady s.3 k.0.1)) (E.steady s.4 k.1)) };
+    ghost steady = { λ s k. built_steady (pair_steady I.lawful (A.steady s.0 k.0) (pair_steady I.lawful (B.steady s.1 k.1.0) (pair_steady I.lawful
+        (C.steady s.2 k.1.1.0) (pair_steady I.lawful (D.steady s.3 k.1.1.1.0) (E.steady s.4 k.1.1.1.1))))) };
 }
 
 impl<
@@ -105,23 +101,20 @@ impl<
 
     ghost state = { λ p. (A.state p.0, B.state p.1, C.state p.2, D.state p.3, E.state p.4, F.state p.5) };
 
-    ghost Tree = { ((((A.Tree × B.Tree) × C.Tree) × D.Tree) × E.Tree) × F.Tree };
+    ghost Tree = { A.Tree × (B.Tree × (C.Tree × (D.Tree × (E.Tree × F.Tree)))) };
 
-    ghost grammar = { λ s. tuple_of (λ o. (((((o.0, o.1), o.2), o.3), o.4), o.5))
-        (pair_of I.model (pair_of I.model (pair_of I.model (pair_of I.model (pair_of I.model (A.grammar s.0) (B.grammar s.1)) (C.grammar s.2))
-        (D.grammar s.3)) (E.grammar s.4)) (F.grammar s.5)) };
+    ghost grammar = { λ s. tuple_of (λ o. (o.0, (o.1, (o.2, (o.3, (o.4, o.5)))))) (pair_of I.model (A.grammar s.0) (pair_of I.model (B.grammar s.1)
+        (pair_of I.model (C.grammar s.2) (pair_of I.model (D.grammar s.3) (pair_of I.model (E.grammar s.4) (F.grammar s.5)))))) };
 
-    ghost word = { λ s. Words.tuple_of (λ o. (((((o.0, o.1), o.2), o.3), o.4), o.5)) (Words.pair_of I.model (Words.pair_of I.model (Words.pair_of
-        I.model (Words.pair_of I.model (Words.pair_of I.model (A.word s.0) (B.word s.1)) (C.word s.2)) (D.word s.3)) (E.word s.4)) (F.word s.5)) };
+    ghost word = { λ s. Words.tuple_of_six I.model (A.word s.0) (B.word s.1) (C.word s.2) (D.word s.3) (E.word s.4) (F.word s.5) };
 
-    ghost worded = { λ s. Words.tuple_worded (λ o. (((((o.0, o.1), o.2), o.3), o.4), o.5)) (Words.pair_worded I.model (Words.pair_worded I.model
-        (Words.pair_worded I.model (Words.pair_worded I.model (Words.pair_worded I.model (A.worded s.0) (B.worded s.1)) (C.worded s.2)) (D.worded
-        s.3)) (E.worded s.4)) (F.worded s.5)) };
+    ghost worded = { λ s. Words.tuple_of_six_worded I.model (A.worded s.0) (B.worded s.1) (C.worded s.2) (D.worded s.3) (E.worded s.4) (F.worded s.5)
+        };
 
-    ghost Besides = { λ mode old new i. ThenBesides (ThenBesides (ThenBesides (ThenBesides (ThenBesides (A.Besides (with_outputs true mode) old.0 new.0 i)
-        (B.Besides (with_outputs true mode) old.1 new.1)) (C.Besides (with_outputs true mode) old.2 new.2))
-        (D.Besides (with_outputs true mode) old.3 new.3)) (E.Besides (with_outputs true mode) old.4 new.4))
-        (F.Besides (with_outputs true mode) old.5 new.5) };
+    ghost Besides = { λ mode old new i. ThenBesides (A.Besides (with_outputs true mode) old.0 new.0 i) (λ j. ThenBesides (B.Besides (with_outputs
+        true mode) old.1 new.1 j) (λ k. ThenBesides (C.Besides (with_outputs true mode) old.2 new.2 k) (λ l. ThenBesides (D.Besides (with_outputs
+        true mode) old.3 new.3 l) (λ m. ThenBesides (E.Besides (with_outputs true mode) old.4 new.4 m) (F.Besides (with_outputs true mode) old.5
+        new.5))))) };
 
     #[inline(always)]
     fn process<OM: OutputMode>(&mut self, input: I) -> PResult<I, Self::Output, Self::Error> {
@@ -134,10 +127,9 @@ impl<
         Ok((rest, built::<OM::Output, _>((a, b, c, d, e, f))))
     }
 
-    ghost lawful = { λ s k. built_lawful (pair_lawful I.lawful
-        (pair_lawful I.lawful (pair_lawful I.lawful
-        (pair_lawful I.lawful (pair_lawful I.lawful (A.lawful s.0 k.0.0.0.0.0) (B.lawful s.1 k.0.0.0.0.1)) (C.lawful s.2 k.0.0.0.1))
-        (D.lawful s.3 k.0.0.1)) (E.lawful s.4 k.0.1)) (F.lawful s.5 k.1)) };
+    ghost lawful = { λ s k. built_lawful (pair_lawful I.lawful (A.lawful s.0 k.0) (pair_lawful I.lawful (B.lawful s.1 k.1.0) (pair_lawful I.lawful
+        (C.lawful s.2 k.1.1.0) (pair_lawful I.lawful (D.lawful s.3 k.1.1.1.0) (pair_lawful I.lawful (E.lawful s.4 k.1.1.1.1.0) (F.lawful s.5
+        k.1.1.1.1.1)))))) };
 }
 
 impl<
@@ -151,14 +143,13 @@ impl<
 > StreamParser<I> for (A, B, C, D, E, F) {
     ghost Pins = { λ p. A.Pins p.0 × B.Pins p.1 × C.Pins p.2 × D.Pins p.3 × E.Pins p.4 × F.Pins p.5 };
 
-    ghost pinned = { λ p k h. flat_pinned (λ v. (v.0.0.0.0.0, v.0.0.0.0.1, v.0.0.0.1, v.0.0.1, v.0.1, v.1)) (λ o.
-        (((((o.0, o.1), o.2), o.3), o.4), o.5)) (λ _. refl)
-        (pair_pinned (pair_pinned (pair_pinned (pair_pinned (pair_pinned (A.pinned p.0 k.0.0.0.0.0 h.0) (B.pinned p.1 k.0.0.0.0.1 h.1))
-        (C.pinned p.2 k.0.0.0.1 h.2)) (D.pinned p.3 k.0.0.1 h.3)) (E.pinned p.4 k.0.1 h.4)) (F.pinned p.5 k.1 h.5)) };
+    ghost pinned = { λ p k h. flat_pinned (λ v. (v.0, v.1.0, v.1.1.0, v.1.1.1.0, v.1.1.1.1.0, v.1.1.1.1.1)) (λ o. (o.0, (o.1, (o.2, (o.3, (o.4,
+        o.5)))))) (λ _. refl) (pair_pinned (A.pinned p.0 k.0 h.0) (pair_pinned (B.pinned p.1 k.1.0 h.1) (pair_pinned (C.pinned p.2 k.1.1.0 h.2)
+        (pair_pinned (D.pinned p.3 k.1.1.1.0 h.3) (pair_pinned (E.pinned p.4 k.1.1.1.1.0 h.4) (F.pinned p.5 k.1.1.1.1.1 h.5)))))) };
 
-    ghost steady = { λ s k. built_steady (pair_steady I.lawful (pair_steady I.lawful (pair_steady I.lawful (pair_steady I.lawful (pair_steady I.lawful
-        (A.steady s.0 k.0.0.0.0.0) (B.steady s.1 k.0.0.0.0.1)) (C.steady s.2 k.0.0.0.1)) (D.steady s.3 k.0.0.1)) (E.steady s.4 k.0.1))
-        (F.steady s.5 k.1)) };
+    ghost steady = { λ s k. built_steady (pair_steady I.lawful (A.steady s.0 k.0) (pair_steady I.lawful (B.steady s.1 k.1.0) (pair_steady I.lawful
+        (C.steady s.2 k.1.1.0) (pair_steady I.lawful (D.steady s.3 k.1.1.1.0) (pair_steady I.lawful (E.steady s.4 k.1.1.1.1.0) (F.steady s.5
+        k.1.1.1.1.1)))))) };
 }
 
 impl<
@@ -187,25 +178,21 @@ impl<
 
     ghost state = { λ p. (A.state p.0, B.state p.1, C.state p.2, D.state p.3, E.state p.4, F.state p.5, G.state p.6) };
 
-    ghost Tree = { (((((A.Tree × B.Tree) × C.Tree) × D.Tree) × E.Tree) × F.Tree) × G.Tree };
+    ghost Tree = { A.Tree × (B.Tree × (C.Tree × (D.Tree × (E.Tree × (F.Tree × G.Tree))))) };
 
-    ghost grammar = { λ s. tuple_of (λ o. ((((((o.0, o.1), o.2), o.3), o.4), o.5), o.6))
-        (pair_of I.model (pair_of I.model (pair_of I.model (pair_of I.model (pair_of I.model (pair_of I.model (A.grammar s.0) (B.grammar s.1))
-        (C.grammar s.2)) (D.grammar s.3)) (E.grammar s.4)) (F.grammar s.5)) (G.grammar s.6)) };
+    ghost grammar = { λ s. tuple_of (λ o. (o.0, (o.1, (o.2, (o.3, (o.4, (o.5, o.6))))))) (pair_of I.model (A.grammar s.0) (pair_of I.model (B.grammar
+        s.1) (pair_of I.model (C.grammar s.2) (pair_of I.model (D.grammar s.3) (pair_of I.model (E.grammar s.4) (pair_of I.model (F.grammar s.5)
+        (G.grammar s.6))))))) };
 
-    ghost word = { λ s. Words.tuple_of (λ o. ((((((o.0, o.1), o.2), o.3), o.4), o.5), o.6)) (Words.pair_of I.model (Words.pair_of I.model
-        (Words.pair_of I.model (Words.pair_of I.model (Words.pair_of I.model (Words.pair_of I.model (A.word s.0) (B.word s.1)) (C.word s.2)) (D.word
-        s.3)) (E.word s.4)) (F.word s.5)) (G.word s.6)) };
+    ghost word = { λ s. Words.tuple_of_seven I.model (A.word s.0) (B.word s.1) (C.word s.2) (D.word s.3) (E.word s.4) (F.word s.5) (G.word s.6) };
 
-    ghost worded = { λ s. Words.tuple_worded (λ o. ((((((o.0, o.1), o.2), o.3), o.4), o.5), o.6)) (Words.pair_worded I.model (Words.pair_worded
-        I.model (Words.pair_worded I.model (Words.pair_worded I.model (Words.pair_worded I.model (Words.pair_worded I.model (A.worded s.0) (B.worded
-        s.1)) (C.worded s.2)) (D.worded s.3)) (E.worded s.4)) (F.worded s.5)) (G.worded s.6)) };
+    ghost worded = { λ s. Words.tuple_of_seven_worded I.model (A.worded s.0) (B.worded s.1) (C.worded s.2) (D.worded s.3) (E.worded s.4) (F.worded
+        s.5) (G.worded s.6) };
 
-    ghost Besides = { λ mode old new i.
-        ThenBesides (ThenBesides (ThenBesides (ThenBesides (ThenBesides (ThenBesides (A.Besides (with_outputs true mode) old.0 new.0 i)
-        (B.Besides (with_outputs true mode) old.1 new.1)) (C.Besides (with_outputs true mode) old.2 new.2))
-        (D.Besides (with_outputs true mode) old.3 new.3)) (E.Besides (with_outputs true mode) old.4 new.4))
-        (F.Besides (with_outputs true mode) old.5 new.5)) (G.Besides (with_outputs true mode) old.6 new.6) };
+    ghost Besides = { λ mode old new i. ThenBesides (A.Besides (with_outputs true mode) old.0 new.0 i) (λ j. ThenBesides (B.Besides (with_outputs
+        true mode) old.1 new.1 j) (λ k. ThenBesides (C.Besides (with_outputs true mode) old.2 new.2 k) (λ l. ThenBesides (D.Besides (with_outputs
+        true mode) old.3 new.3 l) (λ m. ThenBesides (E.Besides (with_outputs true mode) old.4 new.4 m) (λ n. ThenBesides (F.Besides (with_outputs
+        true mode) old.5 new.5 n) (G.Besides (with_outputs true mode) old.6 new.6)))))) };
 
     #[inline(always)]
     fn process<OM: OutputMode>(&mut self, input: I) -> PResult<I, Self::Output, Self::Error> {
@@ -219,10 +206,9 @@ impl<
         Ok((rest, built::<OM::Output, _>((a, b, c, d, e, f, g))))
     }
 
-    ghost lawful = { λ s k. built_lawful (pair_lawful I.lawful
-        (pair_lawful I.lawful (pair_lawful I.lawful
-        (pair_lawful I.lawful (pair_lawful I.lawful (pair_lawful I.lawful (A.lawful s.0 k.0.0.0.0.0.0) (B.lawful s.1 k.0.0.0.0.0.1))
-        (C.lawful s.2 k.0.0.0.0.1)) (D.lawful s.3 k.0.0.0.1)) (E.lawful s.4 k.0.0.1)) (F.lawful s.5 k.0.1)) (G.lawful s.6 k.1)) };
+    ghost lawful = { λ s k. built_lawful (pair_lawful I.lawful (A.lawful s.0 k.0) (pair_lawful I.lawful (B.lawful s.1 k.1.0) (pair_lawful I.lawful
+        (C.lawful s.2 k.1.1.0) (pair_lawful I.lawful (D.lawful s.3 k.1.1.1.0) (pair_lawful I.lawful (E.lawful s.4 k.1.1.1.1.0) (pair_lawful I.lawful
+        (F.lawful s.5 k.1.1.1.1.1.0) (G.lawful s.6 k.1.1.1.1.1.1))))))) };
 }
 
 impl<
@@ -237,15 +223,14 @@ impl<
 > StreamParser<I> for (A, B, C, D, E, F, G) {
     ghost Pins = { λ p. A.Pins p.0 × B.Pins p.1 × C.Pins p.2 × D.Pins p.3 × E.Pins p.4 × F.Pins p.5 × G.Pins p.6 };
 
-    ghost pinned = { λ p k h. flat_pinned (λ v. (v.0.0.0.0.0.0, v.0.0.0.0.0.1, v.0.0.0.0.1, v.0.0.0.1, v.0.0.1, v.0.1, v.1)) (λ o.
-        ((((((o.0, o.1), o.2), o.3), o.4), o.5), o.6)) (λ _. refl)
-        (pair_pinned (pair_pinned (pair_pinned (pair_pinned (pair_pinned (pair_pinned (A.pinned p.0 k.0.0.0.0.0.0 h.0)
-        (B.pinned p.1 k.0.0.0.0.0.1 h.1)) (C.pinned p.2 k.0.0.0.0.1 h.2)) (D.pinned p.3 k.0.0.0.1 h.3)) (E.pinned p.4 k.0.0.1 h.4))
-        (F.pinned p.5 k.0.1 h.5)) (G.pinned p.6 k.1 h.6)) };
+    ghost pinned = { λ p k h. flat_pinned (λ v. (v.0, v.1.0, v.1.1.0, v.1.1.1.0, v.1.1.1.1.0, v.1.1.1.1.1.0, v.1.1.1.1.1.1)) (λ o. (o.0, (o.1, (o.2,
+        (o.3, (o.4, (o.5, o.6))))))) (λ _. refl) (pair_pinned (A.pinned p.0 k.0 h.0) (pair_pinned (B.pinned p.1 k.1.0 h.1) (pair_pinned (C.pinned p.2
+        k.1.1.0 h.2) (pair_pinned (D.pinned p.3 k.1.1.1.0 h.3) (pair_pinned (E.pinned p.4 k.1.1.1.1.0 h.4) (pair_pinned (F.pinned p.5 k.1.1.1.1.1.0
+        h.5) (G.pinned p.6 k.1.1.1.1.1.1 h.6))))))) };
 
-    ghost steady = { λ s k. built_steady (pair_steady I.lawful (pair_steady I.lawful (pair_steady I.lawful (pair_steady I.lawful (pair_steady I.lawful
-        (pair_steady I.lawful (A.steady s.0 k.0.0.0.0.0.0) (B.steady s.1 k.0.0.0.0.0.1)) (C.steady s.2 k.0.0.0.0.1)) (D.steady s.3 k.0.0.0.1))
-        (E.steady s.4 k.0.0.1)) (F.steady s.5 k.0.1)) (G.steady s.6 k.1)) };
+    ghost steady = { λ s k. built_steady (pair_steady I.lawful (A.steady s.0 k.0) (pair_steady I.lawful (B.steady s.1 k.1.0) (pair_steady I.lawful
+        (C.steady s.2 k.1.1.0) (pair_steady I.lawful (D.steady s.3 k.1.1.1.0) (pair_steady I.lawful (E.steady s.4 k.1.1.1.1.0) (pair_steady I.lawful
+        (F.steady s.5 k.1.1.1.1.1.0) (G.steady s.6 k.1.1.1.1.1.1))))))) };
 }
 
 impl<
@@ -276,27 +261,23 @@ impl<
 
     ghost state = { λ p. (A.state p.0, B.state p.1, C.state p.2, D.state p.3, E.state p.4, F.state p.5, G.state p.6, H.state p.7) };
 
-    ghost Tree = { ((((((A.Tree × B.Tree) × C.Tree) × D.Tree) × E.Tree) × F.Tree) × G.Tree) × H.Tree };
+    ghost Tree = { A.Tree × (B.Tree × (C.Tree × (D.Tree × (E.Tree × (F.Tree × (G.Tree × H.Tree)))))) };
 
-    ghost grammar = { λ s. tuple_of (λ o. (((((((o.0, o.1), o.2), o.3), o.4), o.5), o.6), o.7))
-        (pair_of I.model (pair_of I.model (pair_of I.model (pair_of I.model (pair_of I.model (pair_of I.model (pair_of I.model (A.grammar s.0)
-        (B.grammar s.1)) (C.grammar s.2)) (D.grammar s.3)) (E.grammar s.4)) (F.grammar s.5)) (G.grammar s.6)) (H.grammar s.7)) };
+    ghost grammar = { λ s. tuple_of (λ o. (o.0, (o.1, (o.2, (o.3, (o.4, (o.5, (o.6, o.7)))))))) (pair_of I.model (A.grammar s.0) (pair_of I.model
+        (B.grammar s.1) (pair_of I.model (C.grammar s.2) (pair_of I.model (D.grammar s.3) (pair_of I.model (E.grammar s.4) (pair_of I.model
+        (F.grammar s.5) (pair_of I.model (G.grammar s.6) (H.grammar s.7)))))))) };
 
-    ghost word = { λ s. Words.tuple_of (λ o. (((((((o.0, o.1), o.2), o.3), o.4), o.5), o.6), o.7)) (Words.pair_of I.model (Words.pair_of I.model
-        (Words.pair_of I.model (Words.pair_of I.model (Words.pair_of I.model (Words.pair_of I.model (Words.pair_of I.model (A.word s.0) (B.word s.1))
-        (C.word s.2)) (D.word s.3)) (E.word s.4)) (F.word s.5)) (G.word s.6)) (H.word s.7)) };
+    ghost word = { λ s. Words.tuple_of_eight I.model (A.word s.0) (B.word s.1) (C.word s.2) (D.word s.3) (E.word s.4) (F.word s.5) (G.word s.6)
+        (H.word s.7) };
 
-    ghost worded = { λ s. Words.tuple_worded (λ o. (((((((o.0, o.1), o.2), o.3), o.4), o.5), o.6), o.7)) (Words.pair_worded I.model
-        (Words.pair_worded I.model (Words.pair_worded I.model (Words.pair_worded I.model (Words.pair_worded I.model (Words.pair_worded I.model
-        (Words.pair_worded I.model (A.worded s.0) (B.worded s.1)) (C.worded s.2)) (D.worded s.3)) (E.worded s.4)) (F.worded s.5)) (G.worded s.6))
-        (H.worded s.7)) };
+    ghost worded = { λ s. Words.tuple_of_eight_worded I.model (A.worded s.0) (B.worded s.1) (C.worded s.2) (D.worded s.3) (E.worded s.4) (F.worded
+        s.5) (G.worded s.6) (H.worded s.7) };
 
-    ghost Besides = { λ mode old new i.
-        ThenBesides (ThenBesides (ThenBesides (ThenBesides (ThenBesides (ThenBesides (ThenBesides (A.Besides (with_outputs true mode) old.0 new.0 i)
-        (B.Besides (with_outputs true mode) old.1 new.1)) (C.Besides (with_outputs true mode) old.2 new.2))
-        (D.Besides (with_outputs true mode) old.3 new.3)) (E.Besides (with_outputs true mode) old.4 new.4))
-        (F.Besides (with_outputs true mode) old.5 new.5)) (G.Besides (with_outputs true mode) old.6 new.6))
-        (H.Besides (with_outputs true mode) old.7 new.7) };
+    ghost Besides = { λ mode old new i. ThenBesides (A.Besides (with_outputs true mode) old.0 new.0 i) (λ j. ThenBesides (B.Besides (with_outputs
+        true mode) old.1 new.1 j) (λ k. ThenBesides (C.Besides (with_outputs true mode) old.2 new.2 k) (λ l. ThenBesides (D.Besides (with_outputs
+        true mode) old.3 new.3 l) (λ m. ThenBesides (E.Besides (with_outputs true mode) old.4 new.4 m) (λ n. ThenBesides (F.Besides (with_outputs
+        true mode) old.5 new.5 n) (λ o. ThenBesides (G.Besides (with_outputs true mode) old.6 new.6 o) (H.Besides (with_outputs true mode) old.7
+        new.7))))))) };
 
     #[inline(always)]
     fn process<OM: OutputMode>(&mut self, input: I) -> PResult<I, Self::Output, Self::Error> {
@@ -311,11 +292,9 @@ impl<
         Ok((rest, built::<OM::Output, _>((a, b, c, d, e, f, g, h))))
     }
 
-    ghost lawful = { λ s k. built_lawful (pair_lawful I.lawful
-        (pair_lawful I.lawful (pair_lawful I.lawful
-        (pair_lawful I.lawful (pair_lawful I.lawful
-        (pair_lawful I.lawful (pair_lawful I.lawful (A.lawful s.0 k.0.0.0.0.0.0.0) (B.lawful s.1 k.0.0.0.0.0.0.1)) (C.lawful s.2 k.0.0.0.0.0.1))
-        (D.lawful s.3 k.0.0.0.0.1)) (E.lawful s.4 k.0.0.0.1)) (F.lawful s.5 k.0.0.1)) (G.lawful s.6 k.0.1)) (H.lawful s.7 k.1)) };
+    ghost lawful = { λ s k. built_lawful (pair_lawful I.lawful (A.lawful s.0 k.0) (pair_lawful I.lawful (B.lawful s.1 k.1.0) (pair_lawful I.lawful
+        (C.lawful s.2 k.1.1.0) (pair_lawful I.lawful (D.lawful s.3 k.1.1.1.0) (pair_lawful I.lawful (E.lawful s.4 k.1.1.1.1.0) (pair_lawful I.lawful
+        (F.lawful s.5 k.1.1.1.1.1.0) (pair_lawful I.lawful (G.lawful s.6 k.1.1.1.1.1.1.0) (H.lawful s.7 k.1.1.1.1.1.1.1)))))))) };
 }
 
 impl<
@@ -331,13 +310,12 @@ impl<
 > StreamParser<I> for (A, B, C, D, E, F, G, H) {
     ghost Pins = { λ p. A.Pins p.0 × B.Pins p.1 × C.Pins p.2 × D.Pins p.3 × E.Pins p.4 × F.Pins p.5 × G.Pins p.6 × H.Pins p.7 };
 
-    ghost pinned = { λ p k h. flat_pinned (λ v. (v.0.0.0.0.0.0.0, v.0.0.0.0.0.0.1, v.0.0.0.0.0.1, v.0.0.0.0.1, v.0.0.0.1, v.0.0.1, v.0.1, v.1))
-        (λ o. (((((((o.0, o.1), o.2), o.3), o.4), o.5), o.6), o.7)) (λ _. refl)
-        (pair_pinned (pair_pinned (pair_pinned (pair_pinned (pair_pinned (pair_pinned (pair_pinned (A.pinned p.0 k.0.0.0.0.0.0.0 h.0)
-        (B.pinned p.1 k.0.0.0.0.0.0.1 h.1)) (C.pinned p.2 k.0.0.0.0.0.1 h.2)) (D.pinned p.3 k.0.0.0.0.1 h.3)) (E.pinned p.4 k.0.0.0.1 h.4))
-        (F.pinned p.5 k.0.0.1 h.5)) (G.pinned p.6 k.0.1 h.6)) (H.pinned p.7 k.1 h.7)) };
+    ghost pinned = { λ p k h. flat_pinned (λ v. (v.0, v.1.0, v.1.1.0, v.1.1.1.0, v.1.1.1.1.0, v.1.1.1.1.1.0, v.1.1.1.1.1.1.0, v.1.1.1.1.1.1.1)) (λ o.
+        (o.0, (o.1, (o.2, (o.3, (o.4, (o.5, (o.6, o.7)))))))) (λ _. refl) (pair_pinned (A.pinned p.0 k.0 h.0) (pair_pinned (B.pinned p.1 k.1.0 h.1)
+        (pair_pinned (C.pinned p.2 k.1.1.0 h.2) (pair_pinned (D.pinned p.3 k.1.1.1.0 h.3) (pair_pinned (E.pinned p.4 k.1.1.1.1.0 h.4) (pair_pinned
+        (F.pinned p.5 k.1.1.1.1.1.0 h.5) (pair_pinned (G.pinned p.6 k.1.1.1.1.1.1.0 h.6) (H.pinned p.7 k.1.1.1.1.1.1.1 h.7)))))))) };
 
-    ghost steady = { λ s k. built_steady (pair_steady I.lawful (pair_steady I.lawful (pair_steady I.lawful (pair_steady I.lawful (pair_steady I.lawful
-        (pair_steady I.lawful (pair_steady I.lawful (A.steady s.0 k.0.0.0.0.0.0.0) (B.steady s.1 k.0.0.0.0.0.0.1)) (C.steady s.2 k.0.0.0.0.0.1))
-        (D.steady s.3 k.0.0.0.0.1)) (E.steady s.4 k.0.0.0.1)) (F.steady s.5 k.0.0.1)) (G.steady s.6 k.0.1)) (H.steady s.7 k.1)) };
+    ghost steady = { λ s k. built_steady (pair_steady I.lawful (A.steady s.0 k.0) (pair_steady I.lawful (B.steady s.1 k.1.0) (pair_steady I.lawful
+        (C.steady s.2 k.1.1.0) (pair_steady I.lawful (D.steady s.3 k.1.1.1.0) (pair_steady I.lawful (E.steady s.4 k.1.1.1.1.0) (pair_steady I.lawful
+        (F.steady s.5 k.1.1.1.1.1.0) (pair_steady I.lawful (G.steady s.6 k.1.1.1.1.1.1.0) (H.steady s.7 k.1.1.1.1.1.1.1)))))))) };
 }

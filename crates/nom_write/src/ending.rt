@@ -14,7 +14,7 @@ ghost use Rattle.nom_write.specs.laws.LeafReads.{binary_reads, byte_reads};
 ghost use Rattle.nom_write.specs.laws.ListReads.{many0_ends};
 ghost use Rattle.nom_write.specs.laws.RunReads.{premised_ends, run_ends};
 ghost use Rattle.nom_write.specs.laws.SeparatedReads.{many1_ends};
-ghost use Rattle.nom_write.specs.laws.SequenceReads.{followed_ends, pair_ends, pair_reads, preceded_ends, regrouped_ends, tuple_ends};
+ghost use Rattle.nom_write.specs.laws.SequenceReads.{ends_more, followed_ends, pair_ends, preceded_ends, tuple_ends};
 
 use crate::map::MapBoth;
 use crate::unmarked::Unmarked;
@@ -163,8 +163,8 @@ impl<I: Items, P: Writer<I>, Q: Writer<I, Error = P::Error>, R: Ending<I, Error 
 > for (P, Q, R) {
     ghost MayEnd = { λ p. R.MayEnd p.2 × ((b : R.Output) (ys : List I.Item) → R.Form p.2 b ys → Q.MayFollow p.1 ys) };
 
-    ghost ends = { λ p k c e. tuple_ends (λ o. ((o.0, o.1), o.2)) (regrouped_ends (pair_ends I.lawful e.1 (pair_reads I.lawful c.1 (P.reads p.0 k.0.0
-        c.0.0) (Q.reads p.1 k.0.1 c.0.1)) (R.ends p.2 k.1 c.0.2 e.0))) };
+    ghost ends = { λ p k c e. tuple_ends (λ o. (o.0, (o.1, o.2))) (pair_ends I.lawful (ends_more c.1 e.1) (P.reads p.0 k.0 c.0.0) (pair_ends I.lawful
+        e.1 (Q.reads p.1 k.1.0 c.0.1) (R.ends p.2 k.1.1 c.0.2 e.0))) };
 }
 
 impl<
@@ -176,8 +176,9 @@ impl<
 > Ending<I> for (P, Q, R, S) {
     ghost MayEnd = { λ p. S.MayEnd p.3 × ((b : S.Output) (ys : List I.Item) → S.Form p.3 b ys → R.MayFollow p.2 ys) };
 
-    ghost ends = { λ p k c e. tuple_ends (λ o. (((o.0, o.1), o.2), o.3)) (regrouped_ends (regrouped_ends (pair_ends I.lawful e.1 (pair_reads I.lawful c.2
-        (pair_reads I.lawful c.1 (P.reads p.0 k.0.0.0 c.0.0) (Q.reads p.1 k.0.0.1 c.0.1)) (R.reads p.2 k.0.1 c.0.2)) (S.ends p.3 k.1 c.0.3 e.0)))) };
+    ghost ends = { λ p k c e. tuple_ends (λ o. (o.0, (o.1, (o.2, o.3)))) (pair_ends I.lawful (ends_more c.1 (ends_more c.2 e.1)) (P.reads p.0 k.0
+        c.0.0) (pair_ends I.lawful (ends_more c.2 e.1) (Q.reads p.1 k.1.0 c.0.1) (pair_ends I.lawful e.1 (R.reads p.2 k.1.1.0 c.0.2) (S.ends p.3
+        k.1.1.1 c.0.3 e.0)))) };
 }
 
 impl<
@@ -190,9 +191,9 @@ impl<
 > Ending<I> for (P, Q, R, S, T) {
     ghost MayEnd = { λ p. T.MayEnd p.4 × ((b : T.Output) (ys : List I.Item) → T.Form p.4 b ys → S.MayFollow p.3 ys) };
 
-    ghost ends = { λ p k c e. tuple_ends (λ o. ((((o.0, o.1), o.2), o.3), o.4)) (regrouped_ends (regrouped_ends (regrouped_ends (pair_ends I.lawful e.1
-        (pair_reads I.lawful c.3 (pair_reads I.lawful c.2 (pair_reads I.lawful c.1 (P.reads p.0 k.0.0.0.0 c.0.0) (Q.reads p.1 k.0.0.0.1 c.0.1))
-        (R.reads p.2 k.0.0.1 c.0.2)) (S.reads p.3 k.0.1 c.0.3)) (T.ends p.4 k.1 c.0.4 e.0))))) };
+    ghost ends = { λ p k c e. tuple_ends (λ o. (o.0, (o.1, (o.2, (o.3, o.4))))) (pair_ends I.lawful (ends_more c.1 (ends_more c.2 (ends_more c.3
+        e.1))) (P.reads p.0 k.0 c.0.0) (pair_ends I.lawful (ends_more c.2 (ends_more c.3 e.1)) (Q.reads p.1 k.1.0 c.0.1) (pair_ends I.lawful
+        (ends_more c.3 e.1) (R.reads p.2 k.1.1.0 c.0.2) (pair_ends I.lawful e.1 (S.reads p.3 k.1.1.1.0 c.0.3) (T.ends p.4 k.1.1.1.1 c.0.4 e.0))))) };
 }
 
 impl<
@@ -206,10 +207,10 @@ impl<
 > Ending<I> for (P, Q, R, S, T, U) {
     ghost MayEnd = { λ p. U.MayEnd p.5 × ((b : U.Output) (ys : List I.Item) → U.Form p.5 b ys → T.MayFollow p.4 ys) };
 
-    ghost ends = { λ p k c e. tuple_ends (λ o. (((((o.0, o.1), o.2), o.3), o.4), o.5)) (regrouped_ends (regrouped_ends (regrouped_ends (regrouped_ends
-        (pair_ends I.lawful e.1 (pair_reads I.lawful c.4 (pair_reads I.lawful c.3 (pair_reads I.lawful c.2 (pair_reads I.lawful c.1 (P.reads p.0
-        k.0.0.0.0.0 c.0.0) (Q.reads p.1 k.0.0.0.0.1 c.0.1)) (R.reads p.2 k.0.0.0.1 c.0.2)) (S.reads p.3 k.0.0.1 c.0.3)) (T.reads p.4 k.0.1 c.0.4))
-        (U.ends p.5 k.1 c.0.5 e.0)))))) };
+    ghost ends = { λ p k c e. tuple_ends (λ o. (o.0, (o.1, (o.2, (o.3, (o.4, o.5)))))) (pair_ends I.lawful (ends_more c.1 (ends_more c.2 (ends_more
+        c.3 (ends_more c.4 e.1)))) (P.reads p.0 k.0 c.0.0) (pair_ends I.lawful (ends_more c.2 (ends_more c.3 (ends_more c.4 e.1))) (Q.reads p.1 k.1.0
+        c.0.1) (pair_ends I.lawful (ends_more c.3 (ends_more c.4 e.1)) (R.reads p.2 k.1.1.0 c.0.2) (pair_ends I.lawful (ends_more c.4 e.1) (S.reads
+        p.3 k.1.1.1.0 c.0.3) (pair_ends I.lawful e.1 (T.reads p.4 k.1.1.1.1.0 c.0.4) (U.ends p.5 k.1.1.1.1.1 c.0.5 e.0)))))) };
 }
 
 impl<
@@ -224,10 +225,11 @@ impl<
 > Ending<I> for (P, Q, R, S, T, U, V) {
     ghost MayEnd = { λ p. V.MayEnd p.6 × ((b : V.Output) (ys : List I.Item) → V.Form p.6 b ys → U.MayFollow p.5 ys) };
 
-    ghost ends = { λ p k c e. tuple_ends (λ o. ((((((o.0, o.1), o.2), o.3), o.4), o.5), o.6)) (regrouped_ends (regrouped_ends (regrouped_ends
-        (regrouped_ends (regrouped_ends (pair_ends I.lawful e.1 (pair_reads I.lawful c.5 (pair_reads I.lawful c.4 (pair_reads I.lawful c.3 (pair_reads
-        I.lawful c.2 (pair_reads I.lawful c.1 (P.reads p.0 k.0.0.0.0.0.0 c.0.0) (Q.reads p.1 k.0.0.0.0.0.1 c.0.1)) (R.reads p.2 k.0.0.0.0.1 c.0.2))
-        (S.reads p.3 k.0.0.0.1 c.0.3)) (T.reads p.4 k.0.0.1 c.0.4)) (U.reads p.5 k.0.1 c.0.5)) (V.ends p.6 k.1 c.0.6 e.0))))))) };
+    ghost ends = { λ p k c e. tuple_ends (λ o. (o.0, (o.1, (o.2, (o.3, (o.4, (o.5, o.6))))))) (pair_ends I.lawful (ends_more c.1 (ends_more c.2
+        (ends_more c.3 (ends_more c.4 (ends_more c.5 e.1))))) (P.reads p.0 k.0 c.0.0) (pair_ends I.lawful (ends_more c.2 (ends_more c.3 (ends_more
+        c.4 (ends_more c.5 e.1)))) (Q.reads p.1 k.1.0 c.0.1) (pair_ends I.lawful (ends_more c.3 (ends_more c.4 (ends_more c.5 e.1))) (R.reads p.2
+        k.1.1.0 c.0.2) (pair_ends I.lawful (ends_more c.4 (ends_more c.5 e.1)) (S.reads p.3 k.1.1.1.0 c.0.3) (pair_ends I.lawful (ends_more c.5 e.1)
+        (T.reads p.4 k.1.1.1.1.0 c.0.4) (pair_ends I.lawful e.1 (U.reads p.5 k.1.1.1.1.1.0 c.0.5) (V.ends p.6 k.1.1.1.1.1.1 c.0.6 e.0))))))) };
 }
 
 impl<
@@ -243,9 +245,11 @@ impl<
 > Ending<I> for (P, Q, R, S, T, U, V, W) {
     ghost MayEnd = { λ p. W.MayEnd p.7 × ((b : W.Output) (ys : List I.Item) → W.Form p.7 b ys → V.MayFollow p.6 ys) };
 
-    ghost ends = { λ p k c e. tuple_ends (λ o. (((((((o.0, o.1), o.2), o.3), o.4), o.5), o.6), o.7)) (regrouped_ends (regrouped_ends (regrouped_ends
-        (regrouped_ends (regrouped_ends (regrouped_ends (pair_ends I.lawful e.1 (pair_reads I.lawful c.6 (pair_reads I.lawful c.5 (pair_reads I.lawful
-        c.4 (pair_reads I.lawful c.3 (pair_reads I.lawful c.2 (pair_reads I.lawful c.1 (P.reads p.0 k.0.0.0.0.0.0.0 c.0.0) (Q.reads p.1
-        k.0.0.0.0.0.0.1 c.0.1)) (R.reads p.2 k.0.0.0.0.0.1 c.0.2)) (S.reads p.3 k.0.0.0.0.1 c.0.3)) (T.reads p.4 k.0.0.0.1 c.0.4)) (U.reads p.5
-        k.0.0.1 c.0.5)) (V.reads p.6 k.0.1 c.0.6)) (W.ends p.7 k.1 c.0.7 e.0)))))))) };
+    ghost ends = { λ p k c e. tuple_ends (λ o. (o.0, (o.1, (o.2, (o.3, (o.4, (o.5, (o.6, o.7)))))))) (pair_ends I.lawful (ends_more c.1 (ends_more
+        c.2 (ends_more c.3 (ends_more c.4 (ends_more c.5 (ends_more c.6 e.1)))))) (P.reads p.0 k.0 c.0.0) (pair_ends I.lawful (ends_more c.2
+        (ends_more c.3 (ends_more c.4 (ends_more c.5 (ends_more c.6 e.1))))) (Q.reads p.1 k.1.0 c.0.1) (pair_ends I.lawful (ends_more c.3 (ends_more
+        c.4 (ends_more c.5 (ends_more c.6 e.1)))) (R.reads p.2 k.1.1.0 c.0.2) (pair_ends I.lawful (ends_more c.4 (ends_more c.5 (ends_more c.6 e.1)))
+        (S.reads p.3 k.1.1.1.0 c.0.3) (pair_ends I.lawful (ends_more c.5 (ends_more c.6 e.1)) (T.reads p.4 k.1.1.1.1.0 c.0.4) (pair_ends I.lawful
+        (ends_more c.6 e.1) (U.reads p.5 k.1.1.1.1.1.0 c.0.5) (pair_ends I.lawful e.1 (V.reads p.6 k.1.1.1.1.1.1.0 c.0.6) (W.ends p.7 k.1.1.1.1.1.1.1
+        c.0.7 e.0)))))))) };
 }

@@ -1,7 +1,7 @@
 //! Tuples of two to eight members. A form is one of the first member, followed by one of the others.
 ghost use Rattle.nom_write.specs.laws.LeadLaws.{both_leads, pair_leads, tuple_leads};
 ghost use Rattle.nom_sink.specs.Parts.{Both, BothFail, Meets};
-ghost use Rattle.nom_write.specs.laws.SequenceReads.{pair_reads, regrouped, tuple_reads};
+ghost use Rattle.nom_write.specs.laws.SequenceReads.{meets_more, pair_reads, tuple_reads};
 
 use crate::piece::OneValue;
 use crate::writer::Writer;
@@ -38,7 +38,7 @@ impl<I: Items, P: Writer<I>, Q: Writer<I, Error = P::Error>> Writer<I> for (P, Q
 
     ghost reads = { λ p k c. tuple_reads (λ o. (o.0, o.1)) (pair_reads I.lawful c.1 (P.reads p.0 k.0 c.0.0) (Q.reads p.1 k.1 c.0.1)) };
 
-    ghost leads = { λ p. both_leads (tuple_leads (pair_leads (P.leads p.0) (Q.grammar (Q.state p.1))) (λ o. (o.0, o.1))) };
+    ghost leads = { λ p. both_leads (tuple_leads (pair_leads (P.leads p.0) _) (λ o. (o.0, o.1))) };
 }
 
 impl<I: Items, P: Writer<I>, Q: Writer<I, Error = P::Error>, R: Writer<I, Error = P::Error>> Writer<
@@ -72,11 +72,10 @@ impl<I: Items, P: Writer<I>, Q: Writer<I, Error = P::Error>, R: Writer<I, Error 
         .put(out)
     }
 
-    ghost reads = { λ p k c. tuple_reads (λ o. ((o.0, o.1), o.2)) (regrouped (pair_reads I.lawful c.2 (pair_reads I.lawful c.1 (P.reads p.0 k.0.0
-        c.0.0) (Q.reads p.1 k.0.1 c.0.1)) (R.reads p.2 k.1 c.0.2))) };
+    ghost reads = { λ p k c. tuple_reads (λ o. (o.0, (o.1, o.2))) (pair_reads I.lawful (meets_more c.1 c.2) (P.reads p.0 k.0 c.0.0) (pair_reads
+        I.lawful c.2 (Q.reads p.1 k.1.0 c.0.1) (R.reads p.2 k.1.1 c.0.2))) };
 
-    ghost leads = { λ p. both_leads (tuple_leads (pair_leads (pair_leads (P.leads p.0) (Q.grammar (Q.state p.1))) (R.grammar (R.state p.2))) (λ o.
-        ((o.0, o.1), o.2))) };
+    ghost leads = { λ p. both_leads (tuple_leads (pair_leads (P.leads p.0) _) (λ o. (o.0, (o.1, o.2)))) };
 }
 
 impl<
@@ -119,11 +118,11 @@ impl<
         .put(out)
     }
 
-    ghost reads = { λ p k c. tuple_reads (λ o. (((o.0, o.1), o.2), o.3)) (regrouped (regrouped (pair_reads I.lawful c.3 (pair_reads I.lawful c.2
-        (pair_reads I.lawful c.1 (P.reads p.0 k.0.0.0 c.0.0) (Q.reads p.1 k.0.0.1 c.0.1)) (R.reads p.2 k.0.1 c.0.2)) (S.reads p.3 k.1 c.0.3)))) };
+    ghost reads = { λ p k c. tuple_reads (λ o. (o.0, (o.1, (o.2, o.3)))) (pair_reads I.lawful (meets_more c.1 (meets_more c.2 c.3)) (P.reads p.0 k.0
+        c.0.0) (pair_reads I.lawful (meets_more c.2 c.3) (Q.reads p.1 k.1.0 c.0.1) (pair_reads I.lawful c.3 (R.reads p.2 k.1.1.0 c.0.2) (S.reads p.3
+        k.1.1.1 c.0.3)))) };
 
-    ghost leads = { λ p. both_leads (tuple_leads (pair_leads (pair_leads (pair_leads (P.leads p.0) (Q.grammar (Q.state p.1))) (R.grammar (R.state
-        p.2))) (S.grammar (S.state p.3))) (λ o. (((o.0, o.1), o.2), o.3))) };
+    ghost leads = { λ p. both_leads (tuple_leads (pair_leads (P.leads p.0) _) (λ o. (o.0, (o.1, (o.2, o.3))))) };
 }
 
 impl<
@@ -171,12 +170,11 @@ impl<
         .put(out)
     }
 
-    ghost reads = { λ p k c. tuple_reads (λ o. ((((o.0, o.1), o.2), o.3), o.4)) (regrouped (regrouped (regrouped (pair_reads I.lawful c.4 (pair_reads
-        I.lawful c.3 (pair_reads I.lawful c.2 (pair_reads I.lawful c.1 (P.reads p.0 k.0.0.0.0 c.0.0) (Q.reads p.1 k.0.0.0.1 c.0.1)) (R.reads p.2
-        k.0.0.1 c.0.2)) (S.reads p.3 k.0.1 c.0.3)) (T.reads p.4 k.1 c.0.4))))) };
+    ghost reads = { λ p k c. tuple_reads (λ o. (o.0, (o.1, (o.2, (o.3, o.4))))) (pair_reads I.lawful (meets_more c.1 (meets_more c.2 (meets_more c.3
+        c.4))) (P.reads p.0 k.0 c.0.0) (pair_reads I.lawful (meets_more c.2 (meets_more c.3 c.4)) (Q.reads p.1 k.1.0 c.0.1) (pair_reads I.lawful
+        (meets_more c.3 c.4) (R.reads p.2 k.1.1.0 c.0.2) (pair_reads I.lawful c.4 (S.reads p.3 k.1.1.1.0 c.0.3) (T.reads p.4 k.1.1.1.1 c.0.4))))) };
 
-    ghost leads = { λ p. both_leads (tuple_leads (pair_leads (pair_leads (pair_leads (pair_leads (P.leads p.0) (Q.grammar (Q.state p.1))) (R.grammar
-        (R.state p.2))) (S.grammar (S.state p.3))) (T.grammar (T.state p.4))) (λ o. ((((o.0, o.1), o.2), o.3), o.4))) };
+    ghost leads = { λ p. both_leads (tuple_leads (pair_leads (P.leads p.0) _) (λ o. (o.0, (o.1, (o.2, (o.3, o.4)))))) };
 }
 
 impl<
@@ -237,25 +235,13 @@ impl<
         .put(out)
     }
 
-    ghost reads = { λ p k c. tuple_reads (λ o. (((((o.0, o.1), o.2), o.3), o.4), o.5)) (regrouped (regrouped (regrouped (regrouped (pair_reads
-        I.lawful c.5 (pair_reads I.lawful c.4 (pair_reads I.lawful c.3 (pair_reads I.lawful c.2 (pair_reads I.lawful c.1 (P.reads p.0 k.0.0.0.0.0
-        c.0.0) (Q.reads p.1 k.0.0.0.0.1 c.0.1)) (R.reads p.2 k.0.0.0.1 c.0.2)) (S.reads p.3 k.0.0.1 c.0.3)) (T.reads p.4 k.0.1 c.0.4)) (U.reads p.5
-        k.1 c.0.5)))))) };
+    ghost reads = { λ p k c. tuple_reads (λ o. (o.0, (o.1, (o.2, (o.3, (o.4, o.5)))))) (pair_reads I.lawful (meets_more c.1 (meets_more c.2
+        (meets_more c.3 (meets_more c.4 c.5)))) (P.reads p.0 k.0 c.0.0) (pair_reads I.lawful (meets_more c.2 (meets_more c.3 (meets_more c.4 c.5)))
+        (Q.reads p.1 k.1.0 c.0.1) (pair_reads I.lawful (meets_more c.3 (meets_more c.4 c.5)) (R.reads p.2 k.1.1.0 c.0.2) (pair_reads I.lawful
+        (meets_more c.4 c.5) (S.reads p.3 k.1.1.1.0 c.0.3) (pair_reads I.lawful c.5 (T.reads p.4 k.1.1.1.1.0 c.0.4) (U.reads p.5 k.1.1.1.1.1
+        c.0.5)))))) };
 
-    ghost leads = { λ p. both_leads (tuple_leads (pair_leads (pair_leads (pair_leads (pair_leads (pair_leads (P.leads p.0) (Q.grammar (Q.state
-        p.1))) (R.grammar (R.state p.2))) (S.grammar (S.state p.3))) (T.grammar (T.state p.4))) (U.grammar (U.state p.5))) (λ o. (
-          (
-            (
-              (
-                (o.0, o.1),
-                o.2,
-              ),
-              o.3,
-            ),
-            o.4,
-          ),
-          o.5,
-        ))) };
+    ghost leads = { λ p. both_leads (tuple_leads (pair_leads (P.leads p.0) _) (λ o. (o.0, (o.1, (o.2, (o.3, (o.4, o.5))))))) };
 }
 
 impl<
@@ -323,14 +309,14 @@ impl<
         .put(out)
     }
 
-    ghost reads = { λ p k c. tuple_reads (λ o. ((((((o.0, o.1), o.2), o.3), o.4), o.5), o.6)) (regrouped (regrouped (regrouped (regrouped (regrouped
-        (pair_reads I.lawful c.6 (pair_reads I.lawful c.5 (pair_reads I.lawful c.4 (pair_reads I.lawful c.3 (pair_reads I.lawful c.2 (pair_reads
-        I.lawful c.1 (P.reads p.0 k.0.0.0.0.0.0 c.0.0) (Q.reads p.1 k.0.0.0.0.0.1 c.0.1)) (R.reads p.2 k.0.0.0.0.1 c.0.2)) (S.reads p.3 k.0.0.0.1
-        c.0.3)) (T.reads p.4 k.0.0.1 c.0.4)) (U.reads p.5 k.0.1 c.0.5)) (V.reads p.6 k.1 c.0.6))))))) };
+    ghost reads = { λ p k c. tuple_reads (λ o. (o.0, (o.1, (o.2, (o.3, (o.4, (o.5, o.6))))))) (pair_reads I.lawful (meets_more c.1 (meets_more c.2
+        (meets_more c.3 (meets_more c.4 (meets_more c.5 c.6))))) (P.reads p.0 k.0 c.0.0) (pair_reads I.lawful (meets_more c.2 (meets_more c.3
+        (meets_more c.4 (meets_more c.5 c.6)))) (Q.reads p.1 k.1.0 c.0.1) (pair_reads I.lawful (meets_more c.3 (meets_more c.4 (meets_more c.5 c.6)))
+        (R.reads p.2 k.1.1.0 c.0.2) (pair_reads I.lawful (meets_more c.4 (meets_more c.5 c.6)) (S.reads p.3 k.1.1.1.0 c.0.3) (pair_reads I.lawful
+        (meets_more c.5 c.6) (T.reads p.4 k.1.1.1.1.0 c.0.4) (pair_reads I.lawful c.6 (U.reads p.5 k.1.1.1.1.1.0 c.0.5) (V.reads p.6 k.1.1.1.1.1.1
+        c.0.6))))))) };
 
-    ghost leads = { λ p. both_leads (tuple_leads (pair_leads (pair_leads (pair_leads (pair_leads (pair_leads (pair_leads (P.leads p.0) (Q.grammar
-        (Q.state p.1))) (R.grammar (R.state p.2))) (S.grammar (S.state p.3))) (T.grammar (T.state p.4))) (U.grammar (U.state p.5))) (V.grammar
-        (V.state p.6))) (λ o. ((((((o.0, o.1), o.2), o.3), o.4), o.5), o.6))) };
+    ghost leads = { λ p. both_leads (tuple_leads (pair_leads (P.leads p.0) _) (λ o. (o.0, (o.1, (o.2, (o.3, (o.4, (o.5, o.6)))))))) };
 }
 
 impl<
@@ -405,13 +391,13 @@ impl<
         .put(out)
     }
 
-    ghost reads = { λ p k c. tuple_reads (λ o. (((((((o.0, o.1), o.2), o.3), o.4), o.5), o.6), o.7)) (regrouped (regrouped (regrouped (regrouped
-        (regrouped (regrouped (pair_reads I.lawful c.7 (pair_reads I.lawful c.6 (pair_reads I.lawful c.5 (pair_reads I.lawful c.4 (pair_reads I.lawful
-        c.3 (pair_reads I.lawful c.2 (pair_reads I.lawful c.1 (P.reads p.0 k.0.0.0.0.0.0.0 c.0.0) (Q.reads p.1 k.0.0.0.0.0.0.1 c.0.1)) (R.reads p.2
-        k.0.0.0.0.0.1 c.0.2)) (S.reads p.3 k.0.0.0.0.1 c.0.3)) (T.reads p.4 k.0.0.0.1 c.0.4)) (U.reads p.5 k.0.0.1 c.0.5)) (V.reads p.6 k.0.1 c.0.6))
-        (W.reads p.7 k.1 c.0.7)))))))) };
+    ghost reads = { λ p k c. tuple_reads (λ o. (o.0, (o.1, (o.2, (o.3, (o.4, (o.5, (o.6, o.7)))))))) (pair_reads I.lawful (meets_more c.1 (meets_more
+        c.2 (meets_more c.3 (meets_more c.4 (meets_more c.5 (meets_more c.6 c.7)))))) (P.reads p.0 k.0 c.0.0) (pair_reads I.lawful (meets_more c.2
+        (meets_more c.3 (meets_more c.4 (meets_more c.5 (meets_more c.6 c.7))))) (Q.reads p.1 k.1.0 c.0.1) (pair_reads I.lawful (meets_more c.3
+        (meets_more c.4 (meets_more c.5 (meets_more c.6 c.7)))) (R.reads p.2 k.1.1.0 c.0.2) (pair_reads I.lawful (meets_more c.4 (meets_more c.5
+        (meets_more c.6 c.7))) (S.reads p.3 k.1.1.1.0 c.0.3) (pair_reads I.lawful (meets_more c.5 (meets_more c.6 c.7)) (T.reads p.4 k.1.1.1.1.0
+        c.0.4) (pair_reads I.lawful (meets_more c.6 c.7) (U.reads p.5 k.1.1.1.1.1.0 c.0.5) (pair_reads I.lawful c.7 (V.reads p.6 k.1.1.1.1.1.1.0
+        c.0.6) (W.reads p.7 k.1.1.1.1.1.1.1 c.0.7)))))))) };
 
-    ghost leads = { λ p. both_leads (tuple_leads (pair_leads (pair_leads (pair_leads (pair_leads (pair_leads (pair_leads (pair_leads (P.leads p.0)
-        (Q.grammar (Q.state p.1))) (R.grammar (R.state p.2))) (S.grammar (S.state p.3))) (T.grammar (T.state p.4))) (U.grammar (U.state p.5)))
-        (V.grammar (V.state p.6))) (W.grammar (W.state p.7))) (λ o. (((((((o.0, o.1), o.2), o.3), o.4), o.5), o.6), o.7))) };
+    ghost leads = { λ p. both_leads (tuple_leads (pair_leads (P.leads p.0) _) (λ o. (o.0, (o.1, (o.2, (o.3, (o.4, (o.5, (o.6, o.7))))))))) };
 }

@@ -98,6 +98,19 @@ module _ {I A V W O P E : Type 0} {w : Model I A} (l : InputLaws w) {g : Grammar
         (as_whole w f.first (p.reads false)) (λ u x. q.reads b f.back f.second));
   }
 
+-- what may follow a first part, where a second and a third do
+module _ {T O P : Type 0} {First Mid : List T → Type 0} {Form : O → List T → Type 0} {Next : P → List T → Type 0}
+    (meets : Meets First (λ ys. (b : O) × Form b ys) Mid) where
+  pub meets_more : {Last : List T → Type 0} → Meets Mid (λ ys. (b : P) × Next b ys) Last →
+      Meets First (λ ys. (b : O × P) × Both (Form b.0) (Next b.1) ys) Last
+  meets_more n ys rest b k =
+      let f = b.1 in
+      let whole : ys ++ rest ≡ f.front ++ (f.back ++ rest) = ap (λ z. z ++ rest) f.whole ∙ append_assoc f.front f.back rest in
+      subst First (sym whole) (meets f.front (f.back ++ rest) (b.0.0, f.first) (n f.back rest (b.0.1, f.second) k))
+
+  pub ends_more : ((v : P) (ys : List T) → Next v ys → Mid ys) → (v : O × P) (ys : List T) → Both (Form v.0) (Next v.1) ys → First ys
+  ends_more n v ys f = subst First (sym f.whole) (meets f.front f.back (v.0, f.first) (n v.1 f.back f.second))
+
 -- two parts and a third are a first and two others
 both_regrouped : {T : Type 0} {A B C : List T → Type 0} {xs : List T} → Both A (Both B C) xs → Both (Both A B) C xs
 both_regrouped f = record {
@@ -116,10 +129,6 @@ regrouped p = record { reads = λ v xs f. p.reads v xs (both_regrouped f) }
 pub tuple_reads : {I A V O F E : Type 0} {w : Model I A} {g : Grammar I V O E} {Form : O → List A → Type 0} {Follow : List A → Type 0} (pairs : F → O) →
     Reads w g Form Follow → Reads w (tuple_of pairs g) (λ v. Form (pairs v)) Follow
 tuple_reads pairs p = record { reads = λ v. p.reads (pairs v) }
-
-pub regrouped_ends : {I T V O E : Type 0} {w : Model I T} {g : Grammar I V O E} {A B C : O → List T → Type 0} →
-    ReadsAtEnd w g (λ v. Both (Both (A v) (B v)) (C v)) → ReadsAtEnd w g (λ v. Both (A v) (Both (B v) (C v)))
-regrouped_ends p = record { reads = λ v xs f. p.reads v xs (both_regrouped f) }
 
 pub tuple_ends : {I A V O F E : Type 0} {w : Model I A} {g : Grammar I V O E} {Form : O → List A → Type 0} (pairs : F → O) →
     ReadsAtEnd w g Form → ReadsAtEnd w (tuple_of pairs g) (λ v. Form (pairs v))

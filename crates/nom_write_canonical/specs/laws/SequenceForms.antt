@@ -65,26 +65,12 @@ module _ {I A V W O P E : Type 0} {w : Model I A} (l : InputLaws w) {g : Grammar
         (λ u t xs ys f n v k. record { front = xs; back = ys; whole = refl; first = f v k; second = n }) (p.accepts s) (λ u. q.accepts s);
   }
 
--- a part of a sequence that ends another one
-both_grouped : {T : Type 0} {A B C : List T → Type 0} {xs : List T} → Both (Both A B) C xs → Both A (Both B C) xs
-both_grouped f = record {
-  front = f.first.front;
-  back = f.first.back ++ f.back;
-  whole = f.whole ∙ (ap (λ z. z ++ f.back) f.first.whole ∙ append_assoc f.first.front f.first.back f.back);
-  first = f.first.first;
-  second = record { front = f.first.back; back = f.back; whole = refl; first = f.first.second; second = f.second };
-}
-
 -- what is a form by another name
 pub renamed_accepts : {I A V O E : Type 0} {w : Model I A} {g : Grammar I V O E} {Form Other : O → List A → Type 0} →
     ((v : O) (xs : List A) → Form v xs → Other v xs) → AcceptsForms w g Form → AcceptsForms w g Other
 renamed_accepts f p = record {
   accepts = λ s. record { front = λ i n t known a. front_by (λ xs k v o. f v xs (k v o)) ((p.accepts s).front i n t known a) };
 }
-
-pub regrouped_accepts : {I T V O E : Type 0} {w : Model I T} {g : Grammar I V O E} {A B C : O → List T → Type 0} →
-    AcceptsForms w g (λ v. Both (Both (A v) (B v)) (C v)) → AcceptsForms w g (λ v. Both (A v) (Both (B v) (C v)))
-regrouped_accepts p = renamed_accepts (λ v xs f. both_grouped f) p
 
 -- a tuple, by the nested pairs of its outputs
 pub tuple_accepts : {I A V O F E : Type 0} {w : Model I A} {g : Grammar I V O E} {Form : O → List A → Type 0} (pairs : F → O) →

@@ -1,46 +1,32 @@
-use Rattle.std.proofs.Common.{ap, refl}
-use Rattle.nom_internal.specs.Prelude.{modes, rest_of}
+use Rattle.std.proofs.Common.{ap}
+use Rattle.nom_internal.specs.Prelude.{rest_of}
 use Rattle.nom_internal.specs.Results.ThenBesides.{Stopped, Both}
-use Rattle.nom_internal.proofs.Shown.{err_from_residual}
-use Rattle.nom_internal.proofs.Tuples.{and_halts, and_ok, begun, or_halted, tuple_halts, tuple_ok}
+use Rattle.nom_internal.proofs.Shown.{err_from_residual, output_err, output_ok, then_err, then_ok}
+use Rattle.nom_internal.proofs.Tuples.{built_as, some_fact}
 use Rattle.nom_internal.proofs.tuple.Tuple2Parser.process.Goals as goal
 
 pub returns-in_err-rest-clause-shown : goal.returns-in_err-rest-clause-shown
 returns-in_err-rest-clause-shown g c =
-    let p = c.args.self.now in
     let l = g.met.I.Items.lawful in
-    let mode = modes g.OM.Output.Mode.BUILDS g.OM.Error.Mode.BUILDS g.OM.Incomplete.IsStreaming.STREAMING in
-    let halted = begun (g.A.Parser.grammar (g.A.Parser.state p.0)) mode c.in_err-rest.ensures.shown in
-    let halted_by_two = or_halted l halted (g.B.Parser.grammar (g.B.Parser.state p.1)) in
-    tuple_halts _ halted_by_two c.from_residual.ensures
+    then_err l c.in_err-rest.ensures.shown c.from_residual.ensures
 
 pub returns-in_err-rest-2-clause-shown : goal.returns-in_err-rest-2-clause-shown
 returns-in_err-rest-2-clause-shown g c =
-    let p = c.args.self.now in
     let l = g.met.I.Items.lawful in
-    let mode = modes g.OM.Output.Mode.BUILDS g.OM.Error.Mode.BUILDS g.OM.Incomplete.IsStreaming.STREAMING in
-    let one = begun (g.A.Parser.grammar (g.A.Parser.state p.0)) mode c.in_ok-rest.ensures.shown in
-    let halted = and_halts l one (g.B.Parser.grammar (g.B.Parser.state p.1)) c.in_err-rest-2.ensures.shown in
-    tuple_halts _ halted c.from_residual-in_err-rest-2.ensures
+    then_ok l c.in_ok-rest.ensures.shown (λ _ _. output_err c.in_err-rest-2.ensures.shown c.from_residual-in_err-rest-2.ensures)
 
 pub returns-clause-shown : goal.returns-clause-shown
 returns-clause-shown g c =
-    let p = c.args.self.now in
     let l = g.met.I.Items.lawful in
-    let mode = modes g.OM.Output.Mode.BUILDS g.OM.Error.Mode.BUILDS g.OM.Incomplete.IsStreaming.STREAMING in
-    let one = begun (g.A.Parser.grammar (g.A.Parser.state p.0)) mode c.in_ok-rest.ensures.shown in
-    let two = and_ok l one (g.B.Parser.grammar (g.B.Parser.state p.1)) c.in_ok-rest-2.ensures.shown in
-    tuple_ok _ two refl c.built.ensures
+    then_ok l c.in_ok-rest.ensures.shown (λ t1 b1. output_ok c.in_ok-rest-2.ensures.shown (λ t2 b2. built_as _ _ _ c.built.ensures (some_fact
+    ((g.A.Parser.grammar _).IsOutput t1) _ b1, some_fact ((g.B.Parser.grammar _).IsOutput t2) _ b2)))
 
 pub returns-in_err-rest-clause-besides : goal.returns-in_err-rest-clause-besides
-returns-in_err-rest-clause-besides g c =
-    let none = ap rest_of (err_from_residual c.from_residual.ensures) in
-    Stopped c.in_err-rest.ensures.besides none
+returns-in_err-rest-clause-besides g c = Stopped c.in_err-rest.ensures.besides (ap rest_of (err_from_residual c.from_residual.ensures))
 
 pub returns-in_err-rest-2-clause-besides : goal.returns-in_err-rest-2-clause-besides
-returns-in_err-rest-2-clause-besides g c =
-    let none = ap rest_of (err_from_residual c.from_residual-in_err-rest-2.ensures) in
-    rw none (Both _ c.in_ok-rest.ensures.besides c.in_err-rest-2.ensures.besides)
+returns-in_err-rest-2-clause-besides g c = Both _ c.in_ok-rest.ensures.besides (rw (ap rest_of (err_from_residual
+    c.from_residual-in_err-rest-2.ensures)) c.in_err-rest-2.ensures.besides)
 
 pub returns-clause-besides : goal.returns-clause-besides
 returns-clause-besides g c = Both _ c.in_ok-rest.ensures.besides c.in_ok-rest-2.ensures.besides

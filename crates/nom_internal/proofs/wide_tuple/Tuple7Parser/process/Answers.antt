@@ -1,163 +1,92 @@
-use Rattle.std.proofs.Common.{ap, refl}
-use Rattle.nom_internal.specs.Prelude.{modes, rest_of}
+use Rattle.std.proofs.Common.{ap}
+use Rattle.nom_internal.specs.Prelude.{rest_of}
 use Rattle.nom_internal.specs.Results.ThenBesides.{Stopped, Both}
-use Rattle.nom_internal.proofs.Shown.{err_from_residual}
-use Rattle.nom_internal.proofs.Tuples.{and_halts, and_ok, begun, or_halted, tuple_halts, tuple_ok}
+use Rattle.nom_internal.proofs.Shown.{err_from_residual, output_err, output_ok, then_err, then_ok}
+use Rattle.nom_internal.proofs.Tuples.{built_as, some_fact}
 use Rattle.nom_internal.proofs.wide_tuple.Tuple7Parser.process.Goals as goal
 
 pub returns-in_err-rest-clause-shown : goal.returns-in_err-rest-clause-shown
 returns-in_err-rest-clause-shown g c =
-    let p = c.args.self.now in
     let l = g.met.I.Items.lawful in
-    let mode = modes g.OM.Output.Mode.BUILDS g.OM.Error.Mode.BUILDS g.OM.Incomplete.IsStreaming.STREAMING in
-    let halted = begun (g.A.Parser.grammar (g.A.Parser.state p.0)) mode c.in_err-rest.ensures.shown in
-    let halted_by_two = or_halted l halted (g.B.Parser.grammar (g.B.Parser.state p.1)) in
-    let halted_by_three = or_halted l halted_by_two (g.C.Parser.grammar (g.C.Parser.state p.2)) in
-    let halted_by_four = or_halted l halted_by_three (g.D.Parser.grammar (g.D.Parser.state p.3)) in
-    let halted_by_five = or_halted l halted_by_four (g.E.Parser.grammar (g.E.Parser.state p.4)) in
-    let halted_by_six = or_halted l halted_by_five (g.F.Parser.grammar (g.F.Parser.state p.5)) in
-    let halted_by_seven = or_halted l halted_by_six (g.G.Parser.grammar (g.G.Parser.state p.6)) in
-    tuple_halts _ halted_by_seven c.from_residual.ensures
+    then_err l c.in_err-rest.ensures.shown c.from_residual.ensures
 
 pub returns-in_err-rest-2-clause-shown : goal.returns-in_err-rest-2-clause-shown
 returns-in_err-rest-2-clause-shown g c =
-    let p = c.args.self.now in
     let l = g.met.I.Items.lawful in
-    let mode = modes g.OM.Output.Mode.BUILDS g.OM.Error.Mode.BUILDS g.OM.Incomplete.IsStreaming.STREAMING in
-    let one = begun (g.A.Parser.grammar (g.A.Parser.state p.0)) mode c.in_ok-rest.ensures.shown in
-    let halted = and_halts l one (g.B.Parser.grammar (g.B.Parser.state p.1)) c.in_err-rest-2.ensures.shown in
-    let halted_by_three = or_halted l halted (g.C.Parser.grammar (g.C.Parser.state p.2)) in
-    let halted_by_four = or_halted l halted_by_three (g.D.Parser.grammar (g.D.Parser.state p.3)) in
-    let halted_by_five = or_halted l halted_by_four (g.E.Parser.grammar (g.E.Parser.state p.4)) in
-    let halted_by_six = or_halted l halted_by_five (g.F.Parser.grammar (g.F.Parser.state p.5)) in
-    let halted_by_seven = or_halted l halted_by_six (g.G.Parser.grammar (g.G.Parser.state p.6)) in
-    tuple_halts _ halted_by_seven c.from_residual-in_err-rest-2.ensures
+    then_ok l c.in_ok-rest.ensures.shown (λ _ _. then_err l c.in_err-rest-2.ensures.shown c.from_residual-in_err-rest-2.ensures)
 
 pub returns-in_err-rest-3-clause-shown : goal.returns-in_err-rest-3-clause-shown
 returns-in_err-rest-3-clause-shown g c =
-    let p = c.args.self.now in
     let l = g.met.I.Items.lawful in
-    let mode = modes g.OM.Output.Mode.BUILDS g.OM.Error.Mode.BUILDS g.OM.Incomplete.IsStreaming.STREAMING in
-    let one = begun (g.A.Parser.grammar (g.A.Parser.state p.0)) mode c.in_ok-rest.ensures.shown in
-    let two = and_ok l one (g.B.Parser.grammar (g.B.Parser.state p.1)) c.in_ok-rest-2.ensures.shown in
-    let halted = and_halts l two (g.C.Parser.grammar (g.C.Parser.state p.2)) c.in_err-rest-3.ensures.shown in
-    let halted_by_four = or_halted l halted (g.D.Parser.grammar (g.D.Parser.state p.3)) in
-    let halted_by_five = or_halted l halted_by_four (g.E.Parser.grammar (g.E.Parser.state p.4)) in
-    let halted_by_six = or_halted l halted_by_five (g.F.Parser.grammar (g.F.Parser.state p.5)) in
-    let halted_by_seven = or_halted l halted_by_six (g.G.Parser.grammar (g.G.Parser.state p.6)) in
-    tuple_halts _ halted_by_seven c.from_residual-in_err-rest-3.ensures
+    then_ok l c.in_ok-rest.ensures.shown (λ _ _. then_ok l c.in_ok-rest-2.ensures.shown (λ _ _. then_err l c.in_err-rest-3.ensures.shown
+    c.from_residual-in_err-rest-3.ensures))
 
 pub returns-in_err-rest-4-clause-shown : goal.returns-in_err-rest-4-clause-shown
 returns-in_err-rest-4-clause-shown g c =
-    let p = c.args.self.now in
     let l = g.met.I.Items.lawful in
-    let mode = modes g.OM.Output.Mode.BUILDS g.OM.Error.Mode.BUILDS g.OM.Incomplete.IsStreaming.STREAMING in
-    let one = begun (g.A.Parser.grammar (g.A.Parser.state p.0)) mode c.in_ok-rest.ensures.shown in
-    let two = and_ok l one (g.B.Parser.grammar (g.B.Parser.state p.1)) c.in_ok-rest-2.ensures.shown in
-    let three = and_ok l two (g.C.Parser.grammar (g.C.Parser.state p.2)) c.in_ok-rest-3.ensures.shown in
-    let halted = and_halts l three (g.D.Parser.grammar (g.D.Parser.state p.3)) c.in_err-rest-4.ensures.shown in
-    let halted_by_five = or_halted l halted (g.E.Parser.grammar (g.E.Parser.state p.4)) in
-    let halted_by_six = or_halted l halted_by_five (g.F.Parser.grammar (g.F.Parser.state p.5)) in
-    let halted_by_seven = or_halted l halted_by_six (g.G.Parser.grammar (g.G.Parser.state p.6)) in
-    tuple_halts _ halted_by_seven c.from_residual-in_err-rest-4.ensures
+    then_ok l c.in_ok-rest.ensures.shown (λ _ _. then_ok l c.in_ok-rest-2.ensures.shown (λ _ _. then_ok l c.in_ok-rest-3.ensures.shown (λ _ _.
+    then_err l c.in_err-rest-4.ensures.shown c.from_residual-in_err-rest-4.ensures)))
 
 pub returns-in_err-rest-5-clause-shown : goal.returns-in_err-rest-5-clause-shown
 returns-in_err-rest-5-clause-shown g c =
-    let p = c.args.self.now in
     let l = g.met.I.Items.lawful in
-    let mode = modes g.OM.Output.Mode.BUILDS g.OM.Error.Mode.BUILDS g.OM.Incomplete.IsStreaming.STREAMING in
-    let one = begun (g.A.Parser.grammar (g.A.Parser.state p.0)) mode c.in_ok-rest.ensures.shown in
-    let two = and_ok l one (g.B.Parser.grammar (g.B.Parser.state p.1)) c.in_ok-rest-2.ensures.shown in
-    let three = and_ok l two (g.C.Parser.grammar (g.C.Parser.state p.2)) c.in_ok-rest-3.ensures.shown in
-    let four = and_ok l three (g.D.Parser.grammar (g.D.Parser.state p.3)) c.in_ok-rest-4.ensures.shown in
-    let halted = and_halts l four (g.E.Parser.grammar (g.E.Parser.state p.4)) c.in_err-rest-5.ensures.shown in
-    let halted_by_six = or_halted l halted (g.F.Parser.grammar (g.F.Parser.state p.5)) in
-    let halted_by_seven = or_halted l halted_by_six (g.G.Parser.grammar (g.G.Parser.state p.6)) in
-    tuple_halts _ halted_by_seven c.from_residual-in_err-rest-5.ensures
+    then_ok l c.in_ok-rest.ensures.shown (λ _ _. then_ok l c.in_ok-rest-2.ensures.shown (λ _ _. then_ok l c.in_ok-rest-3.ensures.shown (λ _ _.
+    then_ok l c.in_ok-rest-4.ensures.shown (λ _ _. then_err l c.in_err-rest-5.ensures.shown c.from_residual-in_err-rest-5.ensures))))
 
 pub returns-in_err-rest-6-clause-shown : goal.returns-in_err-rest-6-clause-shown
 returns-in_err-rest-6-clause-shown g c =
-    let p = c.args.self.now in
     let l = g.met.I.Items.lawful in
-    let mode = modes g.OM.Output.Mode.BUILDS g.OM.Error.Mode.BUILDS g.OM.Incomplete.IsStreaming.STREAMING in
-    let one = begun (g.A.Parser.grammar (g.A.Parser.state p.0)) mode c.in_ok-rest.ensures.shown in
-    let two = and_ok l one (g.B.Parser.grammar (g.B.Parser.state p.1)) c.in_ok-rest-2.ensures.shown in
-    let three = and_ok l two (g.C.Parser.grammar (g.C.Parser.state p.2)) c.in_ok-rest-3.ensures.shown in
-    let four = and_ok l three (g.D.Parser.grammar (g.D.Parser.state p.3)) c.in_ok-rest-4.ensures.shown in
-    let five = and_ok l four (g.E.Parser.grammar (g.E.Parser.state p.4)) c.in_ok-rest-5.ensures.shown in
-    let halted = and_halts l five (g.F.Parser.grammar (g.F.Parser.state p.5)) c.in_err-rest-6.ensures.shown in
-    let halted_by_seven = or_halted l halted (g.G.Parser.grammar (g.G.Parser.state p.6)) in
-    tuple_halts _ halted_by_seven c.from_residual-in_err-rest-6.ensures
+    then_ok l c.in_ok-rest.ensures.shown (λ _ _. then_ok l c.in_ok-rest-2.ensures.shown (λ _ _. then_ok l c.in_ok-rest-3.ensures.shown (λ _ _.
+    then_ok l c.in_ok-rest-4.ensures.shown (λ _ _. then_ok l c.in_ok-rest-5.ensures.shown (λ _ _. then_err l c.in_err-rest-6.ensures.shown
+    c.from_residual-in_err-rest-6.ensures)))))
 
 pub returns-in_err-rest-7-clause-shown : goal.returns-in_err-rest-7-clause-shown
 returns-in_err-rest-7-clause-shown g c =
-    let p = c.args.self.now in
     let l = g.met.I.Items.lawful in
-    let mode = modes g.OM.Output.Mode.BUILDS g.OM.Error.Mode.BUILDS g.OM.Incomplete.IsStreaming.STREAMING in
-    let one = begun (g.A.Parser.grammar (g.A.Parser.state p.0)) mode c.in_ok-rest.ensures.shown in
-    let two = and_ok l one (g.B.Parser.grammar (g.B.Parser.state p.1)) c.in_ok-rest-2.ensures.shown in
-    let three = and_ok l two (g.C.Parser.grammar (g.C.Parser.state p.2)) c.in_ok-rest-3.ensures.shown in
-    let four = and_ok l three (g.D.Parser.grammar (g.D.Parser.state p.3)) c.in_ok-rest-4.ensures.shown in
-    let five = and_ok l four (g.E.Parser.grammar (g.E.Parser.state p.4)) c.in_ok-rest-5.ensures.shown in
-    let six = and_ok l five (g.F.Parser.grammar (g.F.Parser.state p.5)) c.in_ok-rest-6.ensures.shown in
-    let halted = and_halts l six (g.G.Parser.grammar (g.G.Parser.state p.6)) c.in_err-rest-7.ensures.shown in
-    tuple_halts _ halted c.from_residual-in_err-rest-7.ensures
+    then_ok l c.in_ok-rest.ensures.shown (λ _ _. then_ok l c.in_ok-rest-2.ensures.shown (λ _ _. then_ok l c.in_ok-rest-3.ensures.shown (λ _ _.
+    then_ok l c.in_ok-rest-4.ensures.shown (λ _ _. then_ok l c.in_ok-rest-5.ensures.shown (λ _ _. then_ok l c.in_ok-rest-6.ensures.shown (λ _ _.
+    output_err c.in_err-rest-7.ensures.shown c.from_residual-in_err-rest-7.ensures))))))
 
 pub returns-clause-shown : goal.returns-clause-shown
 returns-clause-shown g c =
-    let p = c.args.self.now in
     let l = g.met.I.Items.lawful in
-    let mode = modes g.OM.Output.Mode.BUILDS g.OM.Error.Mode.BUILDS g.OM.Incomplete.IsStreaming.STREAMING in
-    let one = begun (g.A.Parser.grammar (g.A.Parser.state p.0)) mode c.in_ok-rest.ensures.shown in
-    let two = and_ok l one (g.B.Parser.grammar (g.B.Parser.state p.1)) c.in_ok-rest-2.ensures.shown in
-    let three = and_ok l two (g.C.Parser.grammar (g.C.Parser.state p.2)) c.in_ok-rest-3.ensures.shown in
-    let four = and_ok l three (g.D.Parser.grammar (g.D.Parser.state p.3)) c.in_ok-rest-4.ensures.shown in
-    let five = and_ok l four (g.E.Parser.grammar (g.E.Parser.state p.4)) c.in_ok-rest-5.ensures.shown in
-    let six = and_ok l five (g.F.Parser.grammar (g.F.Parser.state p.5)) c.in_ok-rest-6.ensures.shown in
-    let seven = and_ok l six (g.G.Parser.grammar (g.G.Parser.state p.6)) c.in_ok-rest-7.ensures.shown in
-    tuple_ok _ seven refl c.built.ensures
+    then_ok l c.in_ok-rest.ensures.shown (λ t1 b1. then_ok l c.in_ok-rest-2.ensures.shown (λ t2 b2. then_ok l c.in_ok-rest-3.ensures.shown (λ t3 b3.
+    then_ok l c.in_ok-rest-4.ensures.shown (λ t4 b4. then_ok l c.in_ok-rest-5.ensures.shown (λ t5 b5. then_ok l c.in_ok-rest-6.ensures.shown (λ t6
+    b6. output_ok c.in_ok-rest-7.ensures.shown (λ t7 b7. built_as _ _ _ c.built.ensures (some_fact ((g.A.Parser.grammar _).IsOutput t1) _ b1,
+    (some_fact ((g.B.Parser.grammar _).IsOutput t2) _ b2, (some_fact ((g.C.Parser.grammar _).IsOutput t3) _ b3, (some_fact ((g.D.Parser.grammar
+    _).IsOutput t4) _ b4, (some_fact ((g.E.Parser.grammar _).IsOutput t5) _ b5, (some_fact ((g.F.Parser.grammar _).IsOutput t6) _ b6, some_fact
+    ((g.G.Parser.grammar _).IsOutput t7) _ b7)))))))))))))
 
 pub returns-in_err-rest-clause-besides : goal.returns-in_err-rest-clause-besides
-returns-in_err-rest-clause-besides g c =
-    let none = ap rest_of (err_from_residual c.from_residual.ensures) in
-    Stopped (Stopped (Stopped (Stopped (Stopped (Stopped c.in_err-rest.ensures.besides refl) refl) refl) refl) refl) none
+returns-in_err-rest-clause-besides g c = Stopped c.in_err-rest.ensures.besides (ap rest_of (err_from_residual c.from_residual.ensures))
 
 pub returns-in_err-rest-2-clause-besides : goal.returns-in_err-rest-2-clause-besides
-returns-in_err-rest-2-clause-besides g c =
-    let none = ap rest_of (err_from_residual c.from_residual-in_err-rest-2.ensures) in
-    Stopped (Stopped (Stopped (Stopped (Stopped (Both _ c.in_ok-rest.ensures.besides c.in_err-rest-2.ensures.besides) refl) refl) refl) refl) none
+returns-in_err-rest-2-clause-besides g c = Both _ c.in_ok-rest.ensures.besides (Stopped c.in_err-rest-2.ensures.besides (ap rest_of
+    (err_from_residual c.from_residual-in_err-rest-2.ensures)))
 
 pub returns-in_err-rest-3-clause-besides : goal.returns-in_err-rest-3-clause-besides
-returns-in_err-rest-3-clause-besides g c =
-    let none = ap rest_of (err_from_residual c.from_residual-in_err-rest-3.ensures) in
-    Stopped (Stopped (Stopped (Stopped (Both _ (Both _ c.in_ok-rest.ensures.besides c.in_ok-rest-2.ensures.besides)
-    c.in_err-rest-3.ensures.besides) refl) refl) refl) none
+returns-in_err-rest-3-clause-besides g c = Both _ c.in_ok-rest.ensures.besides (Both _ c.in_ok-rest-2.ensures.besides (Stopped
+    c.in_err-rest-3.ensures.besides (ap rest_of (err_from_residual c.from_residual-in_err-rest-3.ensures))))
 
 pub returns-in_err-rest-4-clause-besides : goal.returns-in_err-rest-4-clause-besides
-returns-in_err-rest-4-clause-besides g c =
-    let none = ap rest_of (err_from_residual c.from_residual-in_err-rest-4.ensures) in
-    Stopped (Stopped (Stopped (Both _ (Both _ (Both _ c.in_ok-rest.ensures.besides c.in_ok-rest-2.ensures.besides) c.in_ok-rest-3.ensures.besides)
-    c.in_err-rest-4.ensures.besides) refl) refl) none
+returns-in_err-rest-4-clause-besides g c = Both _ c.in_ok-rest.ensures.besides (Both _ c.in_ok-rest-2.ensures.besides (Both _
+    c.in_ok-rest-3.ensures.besides (Stopped c.in_err-rest-4.ensures.besides (ap rest_of (err_from_residual c.from_residual-in_err-rest-4.ensures)))))
 
 pub returns-in_err-rest-5-clause-besides : goal.returns-in_err-rest-5-clause-besides
-returns-in_err-rest-5-clause-besides g c =
-    let none = ap rest_of (err_from_residual c.from_residual-in_err-rest-5.ensures) in
-    Stopped (Stopped (Both _ (Both _ (Both _ (Both _ c.in_ok-rest.ensures.besides c.in_ok-rest-2.ensures.besides) c.in_ok-rest-3.ensures.besides)
-    c.in_ok-rest-4.ensures.besides) c.in_err-rest-5.ensures.besides) refl) none
+returns-in_err-rest-5-clause-besides g c = Both _ c.in_ok-rest.ensures.besides (Both _ c.in_ok-rest-2.ensures.besides (Both _
+    c.in_ok-rest-3.ensures.besides (Both _ c.in_ok-rest-4.ensures.besides (Stopped c.in_err-rest-5.ensures.besides (ap rest_of (err_from_residual
+    c.from_residual-in_err-rest-5.ensures))))))
 
 pub returns-in_err-rest-6-clause-besides : goal.returns-in_err-rest-6-clause-besides
-returns-in_err-rest-6-clause-besides g c =
-    let none = ap rest_of (err_from_residual c.from_residual-in_err-rest-6.ensures) in
-    Stopped (Both _ (Both _ (Both _ (Both _ (Both _ c.in_ok-rest.ensures.besides c.in_ok-rest-2.ensures.besides) c.in_ok-rest-3.ensures.besides)
-    c.in_ok-rest-4.ensures.besides) c.in_ok-rest-5.ensures.besides) c.in_err-rest-6.ensures.besides) none
+returns-in_err-rest-6-clause-besides g c = Both _ c.in_ok-rest.ensures.besides (Both _ c.in_ok-rest-2.ensures.besides (Both _
+    c.in_ok-rest-3.ensures.besides (Both _ c.in_ok-rest-4.ensures.besides (Both _ c.in_ok-rest-5.ensures.besides (Stopped
+    c.in_err-rest-6.ensures.besides (ap rest_of (err_from_residual c.from_residual-in_err-rest-6.ensures)))))))
 
 pub returns-in_err-rest-7-clause-besides : goal.returns-in_err-rest-7-clause-besides
-returns-in_err-rest-7-clause-besides g c =
-    let none = ap rest_of (err_from_residual c.from_residual-in_err-rest-7.ensures) in
-    rw none (Both _ (Both _ (Both _ (Both _ (Both _ (Both _ c.in_ok-rest.ensures.besides c.in_ok-rest-2.ensures.besides) c.in_ok-rest-3.ensures.besides)
-    c.in_ok-rest-4.ensures.besides) c.in_ok-rest-5.ensures.besides) c.in_ok-rest-6.ensures.besides) c.in_err-rest-7.ensures.besides)
+returns-in_err-rest-7-clause-besides g c = Both _ c.in_ok-rest.ensures.besides (Both _ c.in_ok-rest-2.ensures.besides (Both _
+    c.in_ok-rest-3.ensures.besides (Both _ c.in_ok-rest-4.ensures.besides (Both _ c.in_ok-rest-5.ensures.besides (Both _
+    c.in_ok-rest-6.ensures.besides (rw (ap rest_of (err_from_residual c.from_residual-in_err-rest-7.ensures)) c.in_err-rest-7.ensures.besides))))))
 
 pub returns-clause-besides : goal.returns-clause-besides
-returns-clause-besides g c = Both _ (Both _ (Both _ (Both _ (Both _ (Both _ c.in_ok-rest.ensures.besides c.in_ok-rest-2.ensures.besides)
-    c.in_ok-rest-3.ensures.besides) c.in_ok-rest-4.ensures.besides) c.in_ok-rest-5.ensures.besides) c.in_ok-rest-6.ensures.besides)
-    c.in_ok-rest-7.ensures.besides
+returns-clause-besides g c = Both _ c.in_ok-rest.ensures.besides (Both _ c.in_ok-rest-2.ensures.besides (Both _ c.in_ok-rest-3.ensures.besides (Both
+    _ c.in_ok-rest-4.ensures.besides (Both _ c.in_ok-rest-5.ensures.besides (Both _ c.in_ok-rest-6.ensures.besides c.in_ok-rest-7.ensures.besides)))))
