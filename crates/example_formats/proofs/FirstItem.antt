@@ -70,14 +70,3 @@ run_read Test i d j n t a r s =
 abbrev DigitsAnswer : {E : Type 0} → (E → Type 0) → Type 0 → Text → IResult Text Text E → Type 0
 DigitsAnswer IsError RunsOut i r = ParsesAnswer text_model (IsModelledBy text_model) i (LeafAnswers (runs text_model (IsOf (λ x. x) Digit) None 1) false i)
     IsError RunsOut r
-
-pub digits_taken : {E : Type 0} {IsError : E → Type 0} {RunsOut : Type 0} {i d j : Text} → DigitsAnswer IsError RunsOut i (Ok (j, d)) →
-    IsRunRead (IsOf (λ x. x) Digit) i d j
-digits_taken (ParseRanOut e h) = cc (e)
-digits_taken {i = i} {d = d} {j = j} (Parsed (Accept n t) a p) =
-    let same : ◌≡◌ {A = Text × Text} (j, d) (p.0, p.1) = cc (p.4) in
-    run_read (IsOf (λ x. x) Digit) i d j n t a (subst (λ k. IsSuffixOf text_model i n k) (sym (ap (λ q. q.0) same)) p.2)
-    (subst (λ k. IsModelledBy text_model t k) (sym (ap (λ q. q.1) same)) p.3)
-digits_taken (Parsed Refuse a p) = cc (p.2)
-digits_taken (Parsed (Stop (Fails cause)) a p) = absurd a
-digits_taken (Parsed (Stop (Needs k)) a p) = cc (p.2)

@@ -9,10 +9,6 @@ use Rattle.example_formats.specs.Arithmetic.{Any, Grammar, Inside, Parses, Text,
 use Rattle.example_formats.specs.Arithmetic.{func_of, levels}
 use Rattle.example_formats.specs.Arithmetic.{Sum, sum_by, sum_in, sum_of, view}
 
-pub inside_none : (d : ℕ) (i : Text) → d ≡ 0 → Inside d i (Err (Answered.Failure (TooDeep i)))
-inside_none zero i e = refl
-inside_none (suc d) i e = absurd (omega (arith, e))
-
 pub inside_more : (d : ℕ) (i : Text) (r : Told Worth) → (d ≡ 0 → ⊥) → Parses (sum_of (d - 1)) i r → Inside d i r
 inside_more zero i r n h = absurd (n refl)
 inside_more (suc d) i r n h = let e : suc d - 1 ≡ d = omega arith in subst (λ k. Parses (sum_of k) i r) e h

@@ -112,13 +112,6 @@ module _ {I : Type 0} (w : Model I ℕ) (l : InputLaws w) where
         length ((bits_model w).elements (x, o)) < n
     few_after x o n j h s k = subst (λ bs. length bs < n) (at_once (x, o) (j, o % 8) (at_byte x o j h s)) k
 
-    -- no bits are a field, wherever the position is
-    pub no_field : (i : I × ℕ) → w.IsKnown i.0 → SplitsAt w i 0 i i
-    no_field i h = record {
-      bits_are = refl;
-      begins = λ some. absurd (omega (arith, some));
-      stands = record { none = λ e. refl; bytes = λ some. absurd (omega (arith, some)); bit = λ some. absurd (omega (arith, some)) };
-      rest_is = record { known = h; front = []; whole = refl; length_is = refl; mark_is = refl };
     }
 
     -- the next whole byte is there

@@ -198,10 +198,6 @@ module _ {I A U W O X : Type 0} (w : Model I A) (outputs : Bool) (IsNormal : U �
   pub done_found : (j : I) (y : NextPiece (Piece (Option O) (Option X))) → y ≡ Done → (a : Told j y) → Answers (Accept a.length Done)
   done_found j y e a = done_of a.length a.tree a.answered (subst (λ z. IsNextPiece outputs IsNormal IsEscapable a.tree z) e a.is_next_piece)
 
-  pub next_piece_there : (j : I) (b : Option (NextPiece (Piece (Option O) (Option X)))) →
-      Accepts w (IsNextPiece outputs IsNormal IsEscapable) true i Answers j b → IsSome b
-  next_piece_there j b a = subst (λ z. IsSome z) (sym (a.built_is).1) refl
-
 -- the same at equal states of the parts, an equal control character and an equal size that lacks
 pub same_next_piece : {S T I A U W O X E : Type 0} (w : Model I A) (normal : S → Grammar I U O E) (escapable : T → Grammar I W X E) (mode : Modes)
     (IsControl : ℕ → A → Type 0) (i : I) (r : PResult I (NextPiece (Piece (Option O) (Option X))) E) (a b : S) (x y : ℕ) (c d : T) (e f : Option ℕ) →

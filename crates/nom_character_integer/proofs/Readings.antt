@@ -54,13 +54,6 @@ module _ {I A : Type 0} (w : Model I A) (code : A → ℕ) (signed : Bool) (i : 
           negative_is = sym (a_sign code signed x (w.elements i) e);
         }
 
-  pub after_no_sign : sign_of code signed (w.elements i) ≡ [] → w.IsKnown i → InputLaws w →
-      AfterSign w code signed i (record { negative = false; digits = i })
-  after_no_sign e k l = record {
-    rest_is = subst (λ ys. IsSuffixOf w i (items_len w.item_len ys) i) (sym e)
-        (record { known = k; front = []; whole = refl; length_is = refl; mark_is = sym (l.mark_none (w.mark i)) });
-    elements_are = sign_whole code signed (w.elements i) ∙ ap (λ ys. ys ++ after_sign code signed (w.elements i)) e;
-    negative_is = sym (no_minus code signed (w.elements i) e);
   }
 
 -- Items that are given with their places.

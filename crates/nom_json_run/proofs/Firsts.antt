@@ -6,9 +6,6 @@ use Rattle.std.proofs.lemmas.List.{drop_more, drop_all}
 use Rattle.nom_json_run.specs.Json.{after_digits, after_hex, after_sign, after_minus, after_spaces, after_word, begins, first_is}
 use Rattle.nom_json_run.specs.Json.{is_digit, is_hex, is_sign, is_space, rest}
 
-pub first_at : (test : ℕ → Bool) (bs : List ℕ) (i : ℕ) → i < length bs → first_is test (drop i bs) ≡ test (slice_index bs i)
-first_at test bs i h = ap (first_is test) (drop_more bs i 0 h)
-
 pub first_over : (test : ℕ → Bool) (bs : List ℕ) (i : ℕ) → length bs ≤ i → first_is test (drop i bs) ≡ false
 first_over test bs i h = ap (first_is test) (drop_all i bs h)
 

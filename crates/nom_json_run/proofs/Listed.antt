@@ -75,13 +75,6 @@ line_begun F S held held' number inside bytes text before then_ i Write h = ((te
 line_begun F S held held' number inside bytes text before then_ i OutOfMemory h = absurd h
 line_begun F S held held' number inside bytes text before then_ i Usage h = absurd h
 
-pub long_begun : (F S : Type 0) (held held' : Option (List ℕ)) (number : ℕ) (text : List ℕ) → text ≡ long_line number → (e : RunError) →
-    MatchRunError e ⊥ (WroteFront held held' text × F) ⊥ ⊥ → MatchRunError e ⊥ (WroteFront held held' (long_line number) × F) S ⊥
-long_begun F S held held' number text i Read h = absurd h
-long_begun F S held held' number text i Write h = (subst (WroteFront held held') i h.0, h.1)
-long_begun F S held held' number text i OutOfMemory h = absurd h
-long_begun F S held held' number text i Usage h = absurd h
-
 -- What is told where there is no status, by what was told of the lines before; no write had failed then.
 module _ {R A W : Type 0} (left : R → Option (List ℕ)) (s t u : Stream R A) (holds : W → Option (List ℕ)) (failures stalls : W → ℕ) (old a b : W)
     (count : ℕ) (wrong : Bool) (g : Going left s t (holds old) (holds a) count wrong)

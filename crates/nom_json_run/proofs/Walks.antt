@@ -14,13 +14,6 @@ use Rattle.nom_json_run.proofs.Alike.{first_there}
 use Rattle.nom_json_run.proofs.Firsts.{rest_at}
 use Rattle.nom_json_run.proofs.Values.{bracket_from, differ, item_none, one_head}
 
-pub inner_push : (xs ys : List Bracket) (b : Bracket) → ys ≡ xs ++ b ∷ [] → reverse ys ≡ b ∷ reverse xs
-inner_push xs ys b e = ap reverse e ∙ reverse-append xs (b ∷ [])
-
-pub empty_is : (xs : List Bracket) → length xs ≡ 0 → reverse xs ≡ []
-empty_is [] e = refl
-empty_is (x ∷ xs) e = absurd (omega (arith, e))
-
 opened_to : (o : Bracket) (inner : List Bracket) (i : List ℕ) → begins (opening o) i ≡ true → ClosesAfter (JsonValue i) inner →
     ClosesInside o inner (after_spaces (rest i))
 opened_to o inner i e (r, v, c) =
@@ -133,10 +126,6 @@ key_on o inner i k same = (λ h. (h.0, (same h.0).0 h.1, h.2), λ h. (h.0, (same
 
 pub no_key : (o : Bracket) (inner : List Bracket) (i : List ℕ) → ((r : List ℕ) → JsonItem o i r → ⊥) → ClosesAfter (JsonItem o i) inner → ⊥
 no_key o inner i none h = none h.0 h.1
-
--- a value that ends at one place alone
-pub value_on : (inner : List Bracket) (i k : List ℕ) → ((r : List ℕ) → JsonValue i r ↔ (r ≡ k)) → ClosesAfter (JsonValue i) inner ↔ ClosesAll inner k
-value_on inner i k only = (λ h. subst (ClosesAll inner) ((only h.0).0 h.1) h.2, λ h. (k, (only k).1 refl, h))
 
 pub no_value : (inner : List Bracket) (i : List ℕ) → ((r : List ℕ) → JsonValue i r → ⊥) → ClosesAfter (JsonValue i) inner → ⊥
 no_value inner i none h = none h.0 h.1

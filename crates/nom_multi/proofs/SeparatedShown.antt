@@ -78,10 +78,6 @@ module _ {I A V T K E : Type 0} {w : Model I A} (l : InputLaws w) (errs : Errors
       ShowsMeaning w IsItem m (modes outputs false streaming) i (Err f) → First (Err (Incomplete k))
   first_lacks e h = first_stopped {IsOutput = λ vs _. Unit {0}} (items_lack errs optional_limits Grows m c (one_may_come c.trees c.held) e h)
 
-  pub first_ran_out : {f : Answer.Err E (Option E) Needed} → f ≡ OutOfMemory → ShowsMeaning w IsItem m (modes outputs false streaming) i (Err f) →
-      First (Err OutOfMemory)
-  first_ran_out e h = first_stopped {IsOutput = λ vs _. Unit {0}} (items_part_ran_out errs optional_limits Grows m c (one_may_come c.trees c.held) e h)
-
   pub first_lacks_room : {j : I} {x : Option T} (a : Accepts w IsItem outputs i (m.answers streaming i) j x) → outputs ≡ true → Grows → First (Err OutOfMemory)
   first_lacks_room a o t = first_stopped {IsOutput = λ vs _. Unit {0}}
       (items_lack_room errs optional_limits Grows m c (one_may_come c.trees c.held) a (inl refl) o t)

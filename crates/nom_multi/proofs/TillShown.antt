@@ -193,11 +193,6 @@ list_pushed P true vs v None n x g b c = absurd (cc (b.1))
 list_pushed P false vs v (Some k) n x g b c = absurd (cc (b))
 list_pushed P false vs v None n x g b c = g
 
--- any list may grow
-pub may_grow : {K : Type 0} (x : Option K) → IfSome x (λ _. Unit {0})
-may_grow (Some k) = tt
-may_grow None = tt
-
 -- what is told, at the states before
 pub stands_at : {S R I A T V O P E : Type 0} {w : Model I A} (end : S → Grammar I T O E) (item : R → Grammar I V P E)
     {outputs errors streaming : Bool} {i : I}

@@ -43,9 +43,6 @@ module _ {I A : Type 0} (w : Model I A) where
     pub forth : IsBoundary w i n → IsBoundary w j m
 
 module _ {I A : Type 0} {w : Model I A} where
-  pub reaching_begins : (i : I) (n : ℕ) → IsReaching w i n i n
-  reaching_begins i n = record { back = λ p. p; forth = λ p. p }
-
   pub reached : {i j : I} {n m : ℕ} → IsReaching w i n j m → m ≡ 0 → IsBoundary w i n
   reached {j = j} h e = h.back (subst (λ z. IsBoundary w j z) (sym e) (no_place w j))
 

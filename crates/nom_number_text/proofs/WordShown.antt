@@ -96,12 +96,6 @@ module _ {I A : Type 0} (w : Model I A) (code : A → ℕ) (word : List ℕ) (i 
           )
 
       module _ (x : A) (p : IsFirstItem w j x) where
-        pub found_differs : (to_ascii_lowercase (code x) ≡ c → ⊥) → IsWordAt w code word i Found.Differs
-        found_differs h =
-            let differs = another_letter (to_ascii_lowercase (code x)) c h in
-            λ s. next_is s ∙ (ap (λ xs. later k (word_in code (c ∷ drop (k + 1) word) s xs)) p.whole ∙
-            ap (later k) (by_another (to_ascii_lowercase (code x) == c) (one_more (word_in code (drop (k + 1) word) s p.rest)) differs))
-
         pub found_more : InputLaws w → (n : ℕ) (m : I) → n ≡ w.item_len x → IsSuffixOf w j n m → to_ascii_lowercase (code x) ≡ c → IsFound (k + 1) m
         found_more l n m e rest same =
             let r = subst (λ z. IsSuffixOf w j z m) e rest in

@@ -19,10 +19,6 @@ pub not_ran_out : {I A V O E : Type 0} {w : Model I A} {IsOutput : V → O → T
 not_ran_out Other f (RanOut e h) = absurd (f e)
 not_ran_out Other f (Shown o a s) = Shown o a s
 
--- what is told is what it is told to be
-pub told_as : {S : Type 0} (P : Option S → Type 0) {o : Option S} {t s : S} → o ≡ Some t → t ≡ s → P o → P (Some s)
-told_as P {o} {t} {s} e f h = let same : o ≡ Some s = cc (e, f) in subst P same h
-
 -- the same of an answer
 pub told_ok : {I A V O E : Type 0} {w : Model I A} {IsOutput : V → O → Type 0} {mode : Modes} {i : I} {Answers : Outcome V → Type 0}
     {IsError : E → Type 0} {RunsOut : Type 0} {j : I} {o : Option O} {t s : O} → o ≡ Some t → t ≡ s →
@@ -47,18 +43,6 @@ built_from true P Q Gives (Some a) y f h g = let same : a ≡ h.0 = cc (h.1) in 
 built_from true P Q Gives None y f h g = absurd (cc (h.1))
 built_from false P Q Gives (Some a) y f h g = absurd (cc (h))
 built_from false P Q Gives None y f h g = g
-
-pub built_from_both : {X Y Z : Type 0} (builds : Bool) (P : X → Type 0) (Q : Y → Type 0) (R : Z → Type 0) (Gives : X → Y → Z → Type 0) (x : Option X)
-    (y : Option Y) (z : Option Z) → ((a : X) (b : Y) (c : Z) → P a → Q b → Gives a b c → R c) → Built builds P x → Built builds Q y →
-    BuiltFromBoth true Gives x y z → Built builds R z
-built_from_both true P Q R Gives (Some a) (Some b) z f h k g =
-    let one : a ≡ h.0 = cc (h.1) in
-    let two : b ≡ k.0 = cc (k.1) in
-    (g.0, g.1, f a b g.0 (subst (λ v. P v) (sym one) h.2) (subst (λ v. Q v) (sym two) k.2) g.2)
-built_from_both true P Q R Gives (Some a) None z f h k g = absurd (cc (k.1))
-built_from_both true P Q R Gives None y z f h k g = absurd (cc (h.1))
-built_from_both false P Q R Gives (Some a) y z f h k g = absurd (cc (h))
-built_from_both false P Q R Gives None y z f h k g = g
 
 module _ {I A V X E : Type 0} {w : Model I A} (IsOutput : V → X → Type 0) (m : Meaning I V E) (outputs errors streaming : Bool) {i : I} where
   -- a part that is never stuck

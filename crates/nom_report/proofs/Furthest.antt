@@ -34,10 +34,6 @@ each_map : {X : Type 0} (P Q : X → Type 0) → ((x : X) → P x → Q x) → (
 each_map P Q f [] h = tt
 each_map P Q f (x ∷ xs) h = (f x h.0, each_map P Q f xs h.1)
 
-each_both : {X : Type 0} (P Q : X → Type 0) (xs : List X) → Each P xs → Each Q xs → Each (λ x. P x × Q x) xs
-each_both P Q [] h k = tt
-each_both P Q (x ∷ xs) h k = ((h.0, k.0), each_both P Q xs h.1 k.1)
-
 one_more : {X : Type 0} (P : X → Type 0) (xs : List X) (x : X) → One P xs → One P (xs ++ (x ∷ []))
 one_more P [] x h = absurd h
 one_more P (y ∷ xs) x (inl p) = inl p
@@ -89,10 +85,6 @@ each_has a e (w ∷ ws) (b, h, k) it m = elim (among_cases w ws it m) [
 or_left : (x y : Bool) → IsTrue x → IsTrue (x || y)
 or_left true y h = refl
 or_left false y h = absurd (cc)
-
-or_right : (x y : Bool) → IsTrue y → IsTrue (x || y)
-or_right true y h = refl
-or_right false y h = h
 
 -- what the first wanted is wanted, and what the second wanted, too
 joined_left : (a b e : Kept) → Joins a b e → HasAll a e

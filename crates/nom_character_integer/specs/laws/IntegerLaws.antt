@@ -236,12 +236,6 @@ signed_range width = record { zero = record { sfits = pow_pos (hbits width) }; b
 
 -- the laws of the types that there are
 module _ {I A E : Type 0} (w : Model I A) (code : A → ℕ) (errs : Errors I E) where
-  pub unsigned_lawful : (bits : ℕ) → IsLawful w (unsigned_meaning w code bits errs)
-  unsigned_lawful bits = integer_lawful w code false (FitsUnsignedBits bits) (unsigned_range bits) errs
-
-  pub unsigned_steady : (bits : ℕ) → IsSteady w (unsigned_meaning w code bits errs)
-  unsigned_steady bits = integer_steady w code false (FitsUnsignedBits bits) (unsigned_range bits) errs
-
   pub signed_lawful : (width : Width) → IsLawful w (signed_meaning w code width errs)
   signed_lawful width = integer_lawful w code true (λ z. FitsSigned width z) (signed_range width) errs
 

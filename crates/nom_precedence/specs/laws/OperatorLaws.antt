@@ -76,11 +76,3 @@ module _ {I A P E : Type 0} {w : Model I A} (errs : Errors I E) {IsLevel : P →
 
   pub operator_steady : IsSteady w m → IsSteady w (operator_meaning errs IsLevel levels m)
   operator_steady p = case_steady (operator_laws w errs IsLevel levels one) refl p
-
--- Where what a part gives tells the level, and a tree of the part stands for one output, a tree stands for one level.
-pub one_level : {P X B : Type 0} (IsOutput : P → X → Type 0) (Gives : X → ℕ × B → Type 0) (level_of : X → ℕ) → IsPinned itself IsOutput →
-    ((x : X) (o : ℕ × B) → Gives x o → o.0 ≡ level_of x) → IsOne (HasLevel (GivesFor IsOutput Gives) (λ o. o.0))
-one_level IsOutput Gives level_of pinned tells u m n g h =
-    let one : level_of g.is_output.output ≡ level_of h.is_output.output = ap level_of (pinned.one_view u g.is_output.output h.is_output.output
-    g.is_output.is_output h.is_output.is_output) in
-    sym g.level_is ∙ (tells g.is_output.output g.output g.is_output.given ∙ (one ∙ (sym (tells h.is_output.output h.output h.is_output.given) ∙ h.level_is)))

@@ -218,10 +218,6 @@ module _ {I A V O E : Type 0} {w : Model I A} {code : A → ℕ} {g : Grammar I 
     )) p.others;
   }
 
-  -- by other words
-  pub leads_as : {As : O → List A → Type 0} → ((v : O) (xs : List A) → As v xs → Form v xs) → Leads w code g As lead
-  leads_as h = record { begins = λ bs e v xs f. p.begins bs e v xs (h v xs f); others = p.others }
-
 -- items, and then a form
 pub preceded_leads : {I A V U O P E : Type 0} {w : Model I A} (code : A → ℕ) (g : Grammar I V O E) {h : Grammar I U P E} {NextForm : P → List A → Type 0}
     {lead : Option Words} (items : List A) → StartsWith w code g.meaning items lead →

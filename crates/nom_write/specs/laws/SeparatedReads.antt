@@ -196,12 +196,6 @@ module _ {I A P Q V O E : Type 0} {w : Model I A} (l : InputLaws w) (errs : Erro
             Kind.SeparatedList s) v vs xs f).read i rest o known e (k.0, k.1 s) a;
       }
 
-  -- one item at least, at the end of a complete input
-  pub separated_list1_ends : {M : Type 0} → Follow [] → NoItemIn w (preceded_of w sep g).meaning false [] →
-      ReadsAtEnd w (separated_list1_of {M = M} w errs sep g) (λ v. SomeForm Form (AfterSeparator items Form) v.items)
-  separated_list1_ends may none = record {
-    reads = λ v xs f. before_others (λ rest k. (subst Follow (sym k) may, subst (NoItemIn w (preceded_of w sep g).meaning false) (sym k) none))
-        (some_reads l errs (preceded_of w sep g).meaning p (preceded_reads l q p) starts Kind.SeparatedList false Passed false v.items xs f);
   }
 
 -- one item at least, where anything may follow an item
