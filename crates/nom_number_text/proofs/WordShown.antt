@@ -40,10 +40,6 @@ by_letter : (b : Bool) (p : Match) → b ≡ true → cond b p Absent ≡ p
 by_letter true p e = refl
 by_letter false p e = absurd (cc (e))
 
-by_another : (b : Bool) (p : Match) → b ≡ false → cond b p Absent ≡ Absent
-by_another true p e = absurd (cc (e))
-by_another false p e = refl
-
 is_letter : (c d : ℕ) → c ≡ d → (c == d) ≡ true
 is_letter c d e = grind (arith, nat_tests, e)
 

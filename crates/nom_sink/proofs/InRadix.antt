@@ -28,9 +28,6 @@ less (suc (suc c)) n q r e h some = omega (arith, e, some, spread c q)
 pub some_left : (b n : ℕ) → 1 < b → b ≤ n → 0 < n / b
 some_left b n h k = left_over b n (n / b) (n % b) (div-add-mod n b) (mod_below n b (omega (arith, h))) k
 
-pub less_left : (b n : ℕ) → 1 < b → b ≤ n → n / b < n
-less_left b n h k = less b n (n / b) (n % b) (div-add-mod n b) h (some_left b n h k)
-
 -- a zero that stands before one digit more stood first before
 still_first : (xs ys : List ℕ) (d : ℕ) → 0 < length xs → xs ++ d ∷ [] ≡ 0 ∷ ys → (zs : List ℕ) × (xs ≡ 0 ∷ zs)
 still_first [] ys d some e = absurd (omega (arith, some))

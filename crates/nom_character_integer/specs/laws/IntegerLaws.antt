@@ -228,9 +228,6 @@ module _ {I A : Type 0} (w : Model I A) (code : A → ℕ) (signed : Bool) (fits
     pub integer_steady : IsSteady w (integer_meaning w code signed fits errs)
     integer_steady = leaf_steady integer_laws
 
-pub unsigned_range : (bits : ℕ) → IsRange (FitsUnsignedBits bits)
-unsigned_range bits = record { zero = pow_pos bits; between = unsigned-between bits }
-
 pub signed_range : (width : Width) → IsRange (λ z. FitsSigned width z)
 signed_range width = record { zero = record { sfits = pow_pos (hbits width) }; between = signed-between width }
 
