@@ -112,8 +112,6 @@ module _ {I : Type 0} (w : Model I ℕ) (l : InputLaws w) where
         length ((bits_model w).elements (x, o)) < n
     few_after x o n j h s k = subst (λ bs. length bs < n) (at_once (x, o) (j, o % 8) (at_byte x o j h s)) k
 
-    }
-
     -- the next whole byte is there
     pub to_whole_byte : (x : I) (o : ℕ) (j : I) → w.IsKnown x → Skips w x (o / 8 + (o % 8 + 7) / 8) j →
         IsSuffixOf (bits_model w) (x, o) (bits_ahead w (x, o)) (j, 0)

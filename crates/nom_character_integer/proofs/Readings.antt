@@ -54,8 +54,6 @@ module _ {I A : Type 0} (w : Model I A) (code : A → ℕ) (signed : Bool) (i : 
           negative_is = sym (a_sign code signed x (w.elements i) e);
         }
 
-  }
-
 -- Items that are given with their places.
 module _ {A S : Type 0} (item_len : A → ℕ) (steps : S → Option (ℕ × A) → S → Type 0) (s t : S) where
   placed_given : (p n : ℕ) (x : A) (xs : List A) → AlwaysYields steps (λ q. q) s (placed item_len p xs) → steps s (Some (n, x)) t →

@@ -196,8 +196,6 @@ module _ {I A P Q V O E : Type 0} {w : Model I A} (l : InputLaws w) (errs : Erro
             Kind.SeparatedList s) v vs xs f).read i rest o known e (k.0, k.1 s) a;
       }
 
-  }
-
 -- one item at least, where anything may follow an item
 pub many1_reads : {I A V O E M : Type 0} {w : Model I A} (l : InputLaws w) (errs : Errors I E) {g : Grammar I V O E} {Form : O → List A → Type 0}
     {Follow : List A → Type 0} → ((rest : List A) → Follow rest) → Reads w g Form Follow →
