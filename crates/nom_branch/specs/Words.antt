@@ -4,7 +4,7 @@ use Rattle.std.proofs.Common.{refl, ap, ap₂}
 use Rattle.nom_error.specs.Errors.{Errors}
 use Rattle.nom_internal.specs.Word.{Word, Words, word}
 use Rattle.nom_branch.specs.Alternatives as Alternatives
-use Rattle.nom_branch.specs.Lists as Lists
+use Rattle.nom_choose.specs.Lists as Lists
 
 module _ {I O E : Type 0} (errs : Errors I E) where
   -- one branch, and where it refuses another; all branches together are closed by `alt_of`

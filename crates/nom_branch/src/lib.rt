@@ -4,7 +4,6 @@
 ghost use Rattle.std.specs.Prelude.{◌≡◌};
 
 mod choice;
-mod choose;
 mod lists;
 mod tuples;
 mod wide;

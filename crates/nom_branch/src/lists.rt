@@ -1,11 +1,11 @@
 //! Choices among parsers of one type, in an array or a slice.
 ghost use Rattle.std.specs.Prelude.{ℕ, List, map};
-ghost use Rattle.nom_branch.specs.Lists.{Each, list_of};
+ghost use Rattle.nom_choose.specs.Lists.{Each, list_of};
 ghost use Rattle.nom_internal.specs.Word.{keyed};
 ghost use Rattle.nom_branch.specs.Words as Words;
 
 use crate::choice::Choice;
-use crate::choose::choose;
+use nom_choose::choose::choose;
 use nom_error::answer::PResult;
 use nom_error::mode::OutputMode;
 use nom_internal::parser::{Parser, StreamParser};

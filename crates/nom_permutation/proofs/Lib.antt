@@ -3,4 +3,3 @@ mod Orders
 pub mod Places
 mod Turns
 pub mod Wider
-mod First

@@ -5,11 +5,11 @@ use Rattle.nom_internal.specs.Prelude.{PResult, Needed, Incomplete, Error, Failu
 use Rattle.nom_internal.specs.Prelude.{Refuse, Stop, ShowsOutcome, ShowsAnswer, RanOut, Shown, Meaning, labelled_meaning, NextBlames, NextRunsOut, OrBlames}
 use Rattle.nom_internal.specs.Prelude.{or_meaning, OnError, ShowsNext, FirstFails, FirstRefuses, NextFails, NextRefuses, Fails, Needs}
 use Rattle.nom_error.specs.declared.answer.Err as Answer
-use Rattle.nom_permutation.specs.declared.slots.Slot.{Slot}
-use Rattle.nom_permutation.specs.declared.slots.Slot.TheVariants.{Waiting, Applied}
+use Rattle.nom_choose.specs.declared.slots.Slot.{Slot}
+use Rattle.nom_choose.specs.declared.slots.Slot.TheVariants.{Waiting, Applied}
 use Rattle.nom_permutation.specs.Members.{Choice, IsOver, or_waiting}
 use Rattle.nom_permutation.specs.Members.Choice.{NoChoice, Among}
-use Rattle.nom_permutation.specs.Tries.{Fills, TriesFirst, TriesAfter, Tries}
+use Rattle.nom_choose.specs.Tries.{Fills, TriesFirst, TriesAfter, Tries}
 use Rattle.nom_permutation.specs.Rounds.{SlotHolds, IsApplied, waits, applies, as_answer, WhereRefused, ShowsRound, HasTried}
 use Rattle.nom_internal.proofs.Cased.{labelled_shown}
 use Rattle.nom_internal.proofs.Shown.{both_built}

@@ -5,5 +5,4 @@ pub mod Order
 pub mod Permutation
 pub mod Rounds
 pub mod laws
-pub mod Tries
 pub mod Words

@@ -2,8 +2,8 @@
 use Rattle.std.specs.Prelude.{◌≡◌, ℕ, Bool, true, Result, Ok, Err, Option, Some, None}
 use Rattle.nom_internal.specs.Prelude.{PResult, Needed, Incomplete, Error, Failure, OutOfMemory, Model, Built, Modes, with_outputs, ShowsAnswer, Meaning}
 use Rattle.nom_error.specs.declared.answer.Err as Answer
-use Rattle.nom_permutation.specs.declared.slots.Slot.{Slot}
-use Rattle.nom_permutation.specs.declared.slots.Slot.TheVariants.{Waiting, Applied}
+use Rattle.nom_choose.specs.declared.slots.Slot.{Slot}
+use Rattle.nom_choose.specs.declared.slots.Slot.TheVariants.{Waiting, Applied}
 use Rattle.nom_permutation.specs.Members.{Choice}
 use Rattle.nom_permutation.specs.Members.Choice.{NoChoice, Among}
 

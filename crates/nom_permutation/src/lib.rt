@@ -8,7 +8,6 @@ mod nest;
 mod permutations;
 pub mod promises;
 mod rounds;
-mod slots;
 mod wide;
 mod widths;
 

@@ -8,7 +8,7 @@ ghost use Rattle.nom_permutation.specs.laws.NestedLaws.{AreGood};
 ghost use Rattle.nom_permutation.specs.Rounds.{HasTried, SlotHolds, IsApplied, applies, waits};
 
 use crate::nest::More;
-use crate::slots::{Round, Slot, taken, try_slot};
+use nom_choose::slots::{Round, Slot, taken, try_slot};
 use nom_error::mode::OutputMode;
 use nom_error::value::ParseError;
 use nom_internal::flat::One;

@@ -3,7 +3,7 @@ use Rattle.std.proofs.Common.{ℕ, ◌+◌, Bool, List, [], ◌∷◌, ◌++◌,
 use Rattle.nom_internal.specs.Prelude.{Model, Meaning, IsLawful, or_meaning}
 use Rattle.nom_internal.specs.laws.CaseLaws.{labelled_lawful}
 use Rattle.nom_internal.specs.laws.ChoiceLaws.{or_lawful}
-use Rattle.nom_branch.specs.Lists.{Each, branch_meaning, others_meaning}
+use Rattle.nom_choose.specs.Lists.{Each, branch_meaning, others_meaning}
 use Rattle.nom_report.specs.Reports.{report_errors}
 use Rattle.nom_report.specs.Furthest.{TellsOfBranches, TellsOfEach, branches_of, refuses_with}
 use Rattle.nom_report.specs.declared.value.Report.{Report}

@@ -3,7 +3,7 @@ use Rattle.std.proofs.Common.{◌≡◌, ℕ, ◌+◌, ◌≤◌, Bool, true, fa
 use Rattle.std.proofs.Common.{get_or, zero, suc, inl, inr, refl, sym, ◌∙◌, ap, subst, arith, length-append}
 use Rattle.std.proofs.lemmas.List.{get_or_append_left, get_or-append-add}
 use Rattle.std.specs.List.{IsAmong}
-use Rattle.nom_branch.specs.Lists.{Each}
+use Rattle.nom_choose.specs.Lists.{Each}
 use Rattle.nom_report.specs.Wanted.{Wanted}
 use Rattle.nom_report.specs.Kept.{Kept, kept, Adds, AddsEach, Joins}
 use Rattle.nom_report.specs.Kept.Adds.{IsKnown, HasRoom, IsLeftOut}

@@ -2,7 +2,7 @@
 use Rattle.std.specs.Prelude.{◌≡◌, ℕ, ◌≤◌, Bool, IsTrue, ◌⊎◌, List, [], ◌∷◌}
 use Rattle.std.specs.List.{IsAmong}
 use Rattle.nom_internal.specs.Prelude.{Meaning, Model, Refuse}
-use Rattle.nom_branch.specs.Lists.{Each, list_meaning}
+use Rattle.nom_choose.specs.Lists.{Each, list_meaning}
 use Rattle.nom_report.specs.Wanted.{Wanted}
 use Rattle.nom_report.specs.Kept.{Kept, kept}
 use Rattle.nom_report.specs.Reports.{report_errors}

@@ -1,7 +1,7 @@
 //! Promises of reports about choices. These functions do nothing: their contracts are the promises.
 ghost use Rattle.std.specs.Prelude.{◌∷◌, [], map};
 ghost use Rattle.nom_branch.specs.Alternatives.{alt_of, or_of};
-ghost use Rattle.nom_branch.specs.Lists.{Each};
+ghost use Rattle.nom_choose.specs.Lists.{Each};
 ghost use Rattle.nom_report.specs.Furthest.{TellsOfBranches, TellsOfEach, refuses_with};
 ghost use Rattle.nom_report.specs.Reports.{report_errors};
 ghost use Rattle.nom_report.specs.Within.{StaysWithin};

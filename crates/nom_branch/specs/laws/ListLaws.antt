@@ -4,8 +4,8 @@ use Rattle.std.proofs.Common.{sym, ◌∙◌, subst, zero, suc}
 use Rattle.nom_internal.specs.Prelude.{Errors, Model, View, Meaning, IsLawful, IsSteady, IsPinned, LeafLaws, leaf_lawful, leaf_steady, or_meaning}
 use Rattle.nom_internal.specs.laws.CaseLaws.{labelled_lawful, labelled_steady, closed_lawful, closed_steady}
 use Rattle.nom_internal.specs.laws.ChoiceLaws.{or_lawful, or_steady}
-use Rattle.nom_branch.specs.Sound.{sound_before, sound_at}
-use Rattle.nom_branch.specs.Lists.{no_branch, branch_meaning, others_meaning, list_meaning, IsElementAt, Each, ListOutput}
+use Rattle.nom_choose.specs.Sound.{sound_before, sound_at}
+use Rattle.nom_choose.specs.Lists.{no_branch, branch_meaning, others_meaning, list_meaning, IsElementAt, Each, ListOutput}
 
 no_branch_laws : {I A V : Type 0} (w : Model I A) → LeafLaws {V = V} w no_branch
 no_branch_laws w = record {

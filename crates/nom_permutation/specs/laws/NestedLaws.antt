@@ -2,7 +2,7 @@
 use Rattle.std.specs.Prelude.{◌≡◌, ℕ, ◌+◌, Bool, List, [], ◌∷◌, length, Option, Some, None, refl}
 use Rattle.std.proofs.Common.{◌∙◌, arith, ap, subst, sym}
 use Rattle.nom_internal.specs.Prelude.{Model, View, pair_view, IsPinned, pair_pinned, Meaning, IsLawful, IsSteady}
-use Rattle.nom_permutation.specs.declared.slots.Slot.{Slot}
+use Rattle.nom_choose.specs.declared.slots.Slot.{Slot}
 use Rattle.nom_internal.specs.declared.flat.One.{One}
 use Rattle.nom_permutation.specs.Members.{Member, member, EachMember, AllRun, AreSound, AreLawful, AreSteady, Choice, IsOver, or_waiting, or_members, tried}
 use Rattle.nom_permutation.specs.Members.{among_more, with_last}

@@ -1,7 +1,7 @@
 -- Places of a permutation, none of which waits.
 use Rattle.std.specs.Prelude.{◌≡◌, ℕ, ◌+◌, Bool, Option, Some, None}
 use Rattle.std.proofs.Common.{arith, ap}
-use Rattle.nom_permutation.specs.declared.slots.Slot.{Slot}
+use Rattle.nom_choose.specs.declared.slots.Slot.{Slot}
 use Rattle.nom_internal.specs.Prelude.{Meaning}
 use Rattle.nom_permutation.specs.Members.{Choice, IsOver, or_waiting}
 use Rattle.nom_permutation.specs.Members.Choice.{NoChoice}

@@ -1,6 +1,6 @@
 use Rattle.nom_internal.specs.Prelude.{modes}
 use Rattle.nom_internal.proofs.Choices.{next_shown}
-use Rattle.nom_permutation.proofs.slots.try_next.Goals as goal
+use Rattle.nom_choose.proofs.slots.try_next.Goals as goal
 
 pub returns-clause-shown : goal.returns-clause-shown
 returns-clause-shown g c =

@@ -2,8 +2,8 @@ use Rattle.std.proofs.Common.{◌≡◌, ◌<◌, length, map, ap, arith}
 use Rattle.std.proofs.lemmas.List.{length-map}
 use Rattle.std.proofs.lemmas.Bool.Decides.{nat_tests}
 use Rattle.nom_internal.specs.Prelude.{modes}
-use Rattle.nom_branch.proofs.Listed.{branch_runs, branch_kept, branch_first, branch_step, branch_close, branch_none}
-use Rattle.nom_branch.proofs.choose.choose.Goals as goal
+use Rattle.nom_choose.proofs.Listed.{branch_runs, branch_kept, branch_first, branch_step, branch_close, branch_none}
+use Rattle.nom_choose.proofs.choose.choose.Goals as goal
 
 pub returns-then-is_empty-clause-shown : goal.returns-then-is_empty-clause-shown
 returns-then-is_empty-clause-shown g c =

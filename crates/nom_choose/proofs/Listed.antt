@@ -11,8 +11,8 @@ use Rattle.nom_error.specs.declared.kind.ErrorKind.TheVariants.{Alt}
 use Rattle.nom_internal.proofs.Cased.{labelled_shown}
 use Rattle.nom_internal.proofs.Choices.{next_labelled, on_error_map, or_shown, closed_shown}
 use Rattle.nom_internal.proofs.Shown.{refused}
-use Rattle.nom_branch.specs.Lists.{branch_meaning, others_meaning, any_branch_meaning, list_meaning, IsElementAt, ListOutput}
-use Rattle.nom_branch.specs.Sound.{runs_at}
+use Rattle.nom_choose.specs.Lists.{branch_meaning, others_meaning, any_branch_meaning, list_meaning, IsElementAt, ListOutput}
+use Rattle.nom_choose.specs.Sound.{runs_at}
 
 stands_at : {S : Type 0} (ss : List S) (k : ℕ) (d : S) → k < length ss → IsElementAt ss k (get_or ss k d)
 stands_at [] k d h = absurd (omega (arith, h))

@@ -3,9 +3,9 @@ use Rattle.std.specs.Prelude.{◌≡◌, Bool, Result, Err, Option, Some, None, 
 use Rattle.std.proofs.Common.{subst}
 use Rattle.nom_internal.specs.Prelude.{Needed, Error, Model, modes, Meaning}
 use Rattle.nom_error.specs.declared.answer.Err as Answer
-use Rattle.nom_permutation.specs.declared.slots.Slot.{Slot}
-use Rattle.nom_permutation.specs.declared.slots.Slot.TheVariants.{Waiting}
-use Rattle.nom_permutation.specs.Tries.{TriesFirst, TriesNext, Tries}
+use Rattle.nom_choose.specs.declared.slots.Slot.{Slot}
+use Rattle.nom_choose.specs.declared.slots.Slot.TheVariants.{Waiting}
+use Rattle.nom_choose.specs.Tries.{TriesFirst, TriesNext, Tries}
 
 module _ {I A V O E : Type 0} (w : Model I A) (IsOutput : V → O → Type 0) (Joins : E → E → E → Type 0) (Grows : Type 0) (m : Meaning I V E)
     (outputs errors s : Bool) (i : I) (before after : Slot O) (round : Option (Result I (Answer.Err E (Option E) Needed)))

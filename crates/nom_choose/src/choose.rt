@@ -1,7 +1,7 @@
 //! The choice among the branches of a list.
 ghost use Rattle.std.specs.Prelude.{◌≡◌, map};
 ghost use Rattle.nom_internal.specs.Prelude.{modes, Shows};
-ghost use Rattle.nom_branch.specs.Lists.{list_of};
+ghost use Rattle.nom_choose.specs.Lists.{list_of};
 
 use nom_error::answer::PResult;
 use nom_error::kind::ErrorKind;

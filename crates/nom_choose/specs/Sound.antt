@@ -2,7 +2,7 @@
 use Rattle.std.specs.Prelude.{ℕ, ◌+◌, List, [], ◌∷◌}
 use Rattle.std.proofs.Common.{subst, zero, suc}
 use Rattle.nom_internal.specs.Prelude.{Errors, Meaning, or_meaning}
-use Rattle.nom_branch.specs.Lists.{branch_meaning, others_meaning, any_branch_meaning, list_meaning, IsElementAt}
+use Rattle.nom_choose.specs.Lists.{branch_meaning, others_meaning, any_branch_meaning, list_meaning, IsElementAt}
 
 -- a premise of a choice is that of both of its parsers
 module _ {S I V E : Type 0} (e : Errors I E) (part : S → Meaning I V E) (Whole : Meaning I (ℕ × V) E → Type 0) (Part : Meaning I V E → Type 0)

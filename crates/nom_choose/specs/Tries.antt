@@ -2,8 +2,8 @@
 use Rattle.std.specs.Prelude.{◌≡◌, Result, Ok, Err, Option, Some, None}
 use Rattle.nom_internal.specs.Prelude.{PResult, Needed, Incomplete, Error, Failure, OutOfMemory, Model, Modes, Meaning, ShowsMeaning, ShowsNext}
 use Rattle.nom_error.specs.declared.answer.Err as Answer
-use Rattle.nom_permutation.specs.declared.slots.Slot.{Slot}
-use Rattle.nom_permutation.specs.declared.slots.Slot.TheVariants.{Waiting, Applied}
+use Rattle.nom_choose.specs.declared.slots.Slot.{Slot}
+use Rattle.nom_choose.specs.declared.slots.Slot.TheVariants.{Waiting, Applied}
 
 -- a member's answer fills its place: an acceptance with its output; else the place stays
 abbrev pub Fills : {I O E : Type 0} → Slot O → PResult I O E → Slot O →

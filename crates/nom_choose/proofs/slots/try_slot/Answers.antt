@@ -1,5 +1,5 @@
-use Rattle.nom_permutation.proofs.First.{first_tried, next_tried}
-use Rattle.nom_permutation.proofs.slots.try_slot.Goals as goal
+use Rattle.nom_choose.proofs.First.{first_tried, next_tried}
+use Rattle.nom_choose.proofs.slots.try_slot.Goals as goal
 
 pub returns-then-is_waiting-clause-shown : goal.returns-then-is_waiting-clause-shown
 returns-then-is_waiting-clause-shown g c =

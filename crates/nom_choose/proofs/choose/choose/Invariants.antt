@@ -1,7 +1,7 @@
 use Rattle.std.proofs.Common.{◌≡◌, map}
 use Rattle.nom_internal.specs.Prelude.{modes}
-use Rattle.nom_branch.proofs.Listed.{ShowsBefore}
-use Rattle.nom_branch.proofs.choose.choose.Given as goal
+use Rattle.nom_choose.proofs.Listed.{ShowsBefore}
+use Rattle.nom_choose.proofs.choose.choose.Given as goal
 
 -- The states are as at the start, and the branches before k answered
 abbrev pub invariant-loop-k : goal.invariant-loop-k

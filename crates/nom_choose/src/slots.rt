@@ -1,8 +1,8 @@
 //! The places of a permutation's members, and the way a round fills them.
 ghost use Rattle.std.specs.Prelude.{◌≡◌, true, false, Option};
 ghost use Rattle.nom_internal.specs.Prelude.{modes};
-ghost use Rattle.nom_permutation.specs.Tries.{Fills, TriesFirst, TriesNext, Tries};
-ghost use Rattle.nom_permutation.specs.declared.slots.Slot.TheVariants.{Waiting, Applied};
+ghost use Rattle.nom_choose.specs.Tries.{Fills, TriesFirst, TriesNext, Tries};
+ghost use Rattle.nom_choose.specs.declared.slots.Slot.TheVariants.{Waiting, Applied};
 
 use nom_error::answer::{Err, PResult};
 use nom_error::mode::OutputMode;
