@@ -1,13 +1,13 @@
 -- What `process` shows of a function.
-use Rattle.std.proofs.Common.{◌≡◌, ℕ, Ok, Err, Option, refl, sym, subst, ap, inl, inr}
-use Rattle.nom_internal.specs.Prelude.{Needed, Incomplete, Error, Failure, IResult, PResult, Errors, size_of, Built, Modes, Model, same_self, View}
+use Rattle.std.proofs.Common.{◌≡◌, ℕ, Bool, Ok, Err, Option, refl, sym, subst, ap, inl, inr}
+use Rattle.nom_internal.specs.Prelude.{Needed, Incomplete, Error, Failure, OutOfMemory, IResult, PResult, Errors, size_of, Built, Modes, Model, same_self, View}
 use Rattle.nom_internal.specs.Prelude.{Outcome, Accept, Refuse, Stop, Fails, Needs, Outright, ShowsAnswer, Shown, RanOut, IsSuffixOf}
 use Rattle.nom_error.specs.declared.answer.Err as Answer
 use Rattle.nom_traits.specs.Cuts.{CutsAs, CutsNowhere}
-use Rattle.nom_func.specs.Func.{IsViewed, IsNoRestAt, AcceptsCut, TakenAs, FuncAnswers, FuncBlames, FuncRunsOut}
+use Rattle.nom_func.specs.Func.{IsViewed, IsNoRestAt, AcceptsCut, PassesOn, TakenAs, FuncAnswers, FuncBlames, FuncRunsOut}
 use Rattle.nom_func.specs.Func.AcceptsCut.{AtRest, AtNone}
 use Rattle.nom_func.specs.Func.FuncBlames.{OfRefusal, OfFailure, OfNoRest}
-use Rattle.nom_func.specs.Func.FuncRunsOut.{RunsOutNoRest}
+use Rattle.nom_func.specs.Func.FuncRunsOut.{RunsOutInside, RunsOutNoRest}
 use Rattle.nom_internal.proofs.Shown.{built_error}
 
 module _ {I A O E : Type 0} {w : Model I A} {view : View O} {Gives : I → IResult I O E → Type 0} {i : I} where
@@ -29,7 +29,7 @@ module _ {I A O E : Type 0} {w : Model I A} {view : View O} {errs : Errors I E} 
       Shown (Stop (Fails Outright)) (answered (Stop (Fails Outright)) (Ok (left, v)) h g (inr (n, refl))) (q.0, OfNoRest left v g n q.1, ap Err q.2)
   func_no_rest left v f h g n (inr q) = RanOut (ap Err q.1) (RunsOutNoRest left v g n q.0)
 
-  pub func_accepted : {left : I} {v : O} {r : PResult I O E} → w.IsKnown i → Gives i (Ok (left, v)) → AcceptsCut w errs mode.outputs i left v r →
+  func_accepted : {left : I} {v : O} {r : PResult I O E} → w.IsKnown i → Gives i (Ok (left, v)) → AcceptsCut w errs mode.outputs i left v r →
       ShowsAnswer w (IsViewed view) mode i (FuncAnswers w view Gives i) (FuncBlames w errs Gives i) (FuncRunsOut w errs Gives i) r
   func_accepted {left} {v} h g (AtRest n j b c s k e) =
       subst (λ z. ShowsAnswer w (IsViewed view) mode i (FuncAnswers w view Gives i) (FuncBlames w errs Gives i) (FuncRunsOut w errs Gives i) z) (sym e)
@@ -38,20 +38,19 @@ module _ {I A O E : Type 0} {w : Model I A} {view : View O} {errs : Errors I E} 
       subst (λ z. ShowsAnswer w (IsViewed view) mode i (FuncAnswers w view Gives i) (FuncBlames w errs Gives i) (FuncRunsOut w errs Gives i) z) (sym e)
       (func_no_rest left v f h g n q)
 
-  pub func_incomplete : {k : Needed} {f : Answer.Err E E Needed} → w.IsKnown i → Gives i (Err f) → f ≡ Incomplete k →
-      ShowsAnswer w (IsViewed view) mode i (FuncAnswers w view Gives i) (FuncBlames w errs Gives i) (FuncRunsOut w errs Gives i) (Err (Incomplete k))
-  func_incomplete {k = k} h g is =
-      Shown (Stop (Needs (size_of k))) (answered (Stop (Needs (size_of k))) (Err (Incomplete k)) h (subst (λ x. Gives i (Err x)) is g) refl) (k, refl, refl)
+  pub func_shown : (r : IResult I O E) {q : PResult I O E} → w.IsKnown i → Gives i r → PassesOn w errs mode.outputs mode.errors i r q →
+      ShowsAnswer w (IsViewed view) mode i (FuncAnswers w view Gives i) (FuncBlames w errs Gives i) (FuncRunsOut w errs Gives i) q
+  func_shown (Ok (left, v)) h g p = func_accepted h g p
+  func_shown (Err (Incomplete k)) h g p =
+      Shown (Stop (Needs (size_of k))) (answered (Stop (Needs (size_of k))) (Err (Incomplete k)) h g refl) (k, refl, p)
+  func_shown (Err (Error e)) h g p =
+      Shown Refuse (answered Refuse (Err (Error e)) h g refl)
+      (p.0, built_error mode.errors _ _ p.0 (λ x y. OfRefusal (subst (λ z. Gives i (Err (Error z))) (sym y) g)) p.1, p.2)
+  func_shown (Err (Failure e)) h g p =
+      Shown (Stop (Fails Outright)) (answered (Stop (Fails Outright)) (Err (Failure e)) h g refl) (e, OfFailure g, p)
+  func_shown (Err OutOfMemory) h g p = RanOut p (RunsOutInside g)
 
-  pub func_error : {e : E} {f : Answer.Err E E Needed} {b : Option E} → w.IsKnown i → Gives i (Err f) → f ≡ Error e → Built mode.errors (λ x. x ≡ e) b →
-      ShowsAnswer w (IsViewed view) mode i (FuncAnswers w view Gives i) (FuncBlames w errs Gives i) (FuncRunsOut w errs Gives i) (Err (Error b))
-  func_error {e = e} {b = b} h g is k =
-      let given = subst (λ x. Gives i (Err x)) is g in
-      Shown Refuse (answered Refuse (Err (Error e)) h given refl)
-      (b, built_error mode.errors _ _ b (λ x y. OfRefusal (subst (λ z. Gives i (Err (Error z))) (sym y) given)) k, refl)
-
-  pub func_failure : {e : E} {f : Answer.Err E E Needed} → w.IsKnown i → Gives i (Err f) → f ≡ Failure e →
-      ShowsAnswer w (IsViewed view) mode i (FuncAnswers w view Gives i) (FuncBlames w errs Gives i) (FuncRunsOut w errs Gives i) (Err (Failure e))
-  func_failure {e = e} h g is =
-      let given = subst (λ x. Gives i (Err x)) is g in
-      Shown (Stop (Fails Outright)) (answered (Stop (Fails Outright)) (Err (Failure e)) h given refl) (e, OfFailure given, refl)
+-- what is answered for an acceptance
+pub passes_accepted : {I A O E : Type 0} {w : Model I A} {errs : Errors I E} {outputs : Bool} (errors : Bool) {i left : I} {v : O} (a : IResult I O E)
+    {q : PResult I O E} → a ≡ Ok (left, v) → AcceptsCut w errs outputs i left v q → PassesOn w errs outputs errors i a q
+passes_accepted {w = w} {errs} {outputs} errors {i} a {q} e h = subst (λ z. PassesOn w errs outputs errors i z q) (sym e) h

@@ -25,6 +25,14 @@ pub data AcceptsCut {I A O E : Type 0} (w : Model I A) (errs : Errors I E) (outp
       AcceptsCut w errs outputs i left v r
   AtNone : (f : Answer.Err E (Option E) Needed) → CutsNowhere w i left → IsNoRestAt errs i f → r ≡ Err f → AcceptsCut w errs outputs i left v r
 
+-- What a parser answers where its function answers so at i: a rest is cut, an output and the error of a refusal are there if they are built.
+abbrev pub PassesOn : {I A O E : Type 0} → Model I A → Errors I E → (outputs errors : Bool) → I → IResult I O E → PResult I O E → Type 0
+PassesOn w errs outputs errors i (Ok (left, v)) r = AcceptsCut w errs outputs i left v r
+PassesOn {E = E} w errs outputs errors i (Err (Error e)) r = (b : Option E) × Built errors (λ x. x ≡ e) b × (r ≡ Err (Error b))
+PassesOn w errs outputs errors i (Err (Incomplete k)) r = r ≡ Err (Incomplete k)
+PassesOn w errs outputs errors i (Err (Failure e)) r = r ≡ Err (Failure e)
+PassesOn w errs outputs errors i (Err OutOfMemory) r = r ≡ Err OutOfMemory
+
 module _ {I A O E : Type 0} (w : Model I A) (errs : Errors I E) (Gives : I → IResult I O E → Type 0) (i : I) where
   -- the error that the function's refusal or failure holds, or that is made where what it left is as long as no rest
   pub data FuncBlames (e : E) : Type 0 where

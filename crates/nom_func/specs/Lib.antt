@@ -1,3 +1,4 @@
 pub mod Func
+pub mod Refused
 pub mod Words
 pub mod laws

@@ -1,5 +1,5 @@
 //! Functions as parsers.
-ghost use Rattle.nom_func.specs.Func.{viewed_pinned, AcceptsCut, IsNoRestAt, IsParser, IsStreamParser, func_of};
+ghost use Rattle.nom_func.specs.Func.{viewed_pinned, AcceptsCut, IsNoRestAt, IsParser, IsStreamParser, PassesOn, func_of};
 ghost use Rattle.nom_func.specs.laws.FuncLaws.{func_lawful, stream_func_lawful, stream_func_steady};
 ghost use Rattle.nom_func.specs.Words as Words;
 
@@ -46,6 +46,23 @@ fn accepted<M: Mode, I: CutRest, O: Drop, E: ParseError<I>>(
     }
 }
 
+/// Returns what a parser answers in the mode `OM` for the answer of its function.
+#[inline(always)]
+pub(crate) fn passed_on<OM: OutputMode, I: CutRest, O: Drop, E: ParseError<I>>(
+    input: I,
+    answer: IResult<I, O, E>,
+) -> PResult<I, O, E>
+    ensures { PassesOn I.model E.errors OM.Output.BUILDS OM.Error.BUILDS input answer result }
+{
+    match answer {
+        Ok((left, value)) => accepted::<OM::Output, I, O, E>(input, left, value),
+        Err(Err::Incomplete(needed)) => Err(Err::Incomplete(needed)),
+        Err(Err::Error(error)) => Err(Err::Error(built::<OM::Error, E>(error))),
+        Err(Err::Failure(error)) => Err(Err::Failure(error)),
+        Err(Err::OutOfMemory) => Err(Err::OutOfMemory),
+    }
+}
+
 impl<I: CutRest, O: Viewed + Drop, E: ParseError<I>, F: Fn(I) -> IResult<I, O, E>> Parser<I>
     for Func<F, I, O, E> {
     type Output = O;
@@ -67,13 +84,8 @@ impl<I: CutRest, O: Viewed + Drop, E: ParseError<I>, F: Fn(I) -> IResult<I, O, E
     #[inline(always)]
     fn process<OM: OutputMode>(&mut self, input: I) -> PResult<I, O, E> {
         input.prove_known();
-        match (self.f)(input) {
-            Ok((left, value)) => accepted::<OM::Output, I, O, E>(input, left, value),
-            Err(Err::Incomplete(needed)) => Err(Err::Incomplete(needed)),
-            Err(Err::Error(error)) => Err(Err::Error(built::<OM::Error, E>(error))),
-            Err(Err::Failure(error)) => Err(Err::Failure(error)),
-            Err(Err::OutOfMemory) => Err(Err::OutOfMemory),
-        }
+        let answer = (self.f)(input);
+        passed_on::<OM, I, O, E>(input, answer)
     }
 
     ghost lawful = { λ f. func_lawful I.model O.view (F.post f) E.errors (F.pre f) };

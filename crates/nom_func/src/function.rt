@@ -2,6 +2,7 @@
 ghost use Rattle.std.specs.Prelude.{◌≡◌};
 
 use crate::func::{Func, StreamFunc};
+use crate::func_in::{FuncIn, StreamFuncIn};
 use nom_error::answer::IResult;
 use std::marker::PhantomData;
 
@@ -32,4 +33,40 @@ pub fn stream_func<I, O, E, F: Fn(I) -> IResult<I, O, E>>(f: F) -> StreamFunc<F,
     ensures { result.func.f ≡ f }
 {
     StreamFunc { func: func(f) }
+}
+
+/// Converts a function of an allocator and an input to a parser, by its name.
+///
+/// `func_in(alloc, f)` answers as `func(|input| f(alloc, input))`, and works where the borrow checker
+/// refuses a closure that captures. Its laws are those of `func`. Other values that are `Copy` may
+/// stand in the place of the allocator, such as an allocator and a depth.
+#[inline(always)]
+pub fn func_in<A: Copy, I, O, E, F: Fn(A, I) -> IResult<I, O, E>>(
+    alloc: A,
+    f: F,
+) -> FuncIn<A, F, I, O, E>
+    ensures alloc { result.alloc ≡ alloc }
+    ensures f { result.f ≡ f }
+{
+    FuncIn {
+        alloc,
+        f,
+        of: PhantomData,
+    }
+}
+
+/// Converts a function of an allocator and an input to a stream parser, like `func_in`.
+///
+/// It requires no more than `func_in`. Its laws are those of `stream_func`.
+#[inline(always)]
+pub fn stream_func_in<A: Copy, I, O, E, F: Fn(A, I) -> IResult<I, O, E>>(
+    alloc: A,
+    f: F,
+) -> StreamFuncIn<A, F, I, O, E>
+    ensures alloc { result.func.alloc ≡ alloc }
+    ensures f { result.func.f ≡ f }
+{
+    StreamFuncIn {
+        func: func_in(alloc, f),
+    }
 }

@@ -3,4 +3,6 @@
 
 pub mod answer;
 pub mod func;
+pub mod func_in;
 pub mod function;
+pub mod refused;
