@@ -59,5 +59,5 @@ module _ {R A V O : Type 0} (left : R → Option (List ℕ)) (grammar : Grammar 
   pub bytes_whole : BytesOfWhole A left grammar
   bytes_whole s t n o d whole has =
       let u = d.filled in
-      let then = left_read left s u d.reads.given whole d.reads.gives has in
+      let then = left_read left s u d.reads.given whole d.reads.gives d.at_end has in
       lends grammar u t n o then.0 d.answers ∙ ap (take n) (sym then.2)

@@ -6,4 +6,5 @@ mod Outcomes
 mod Reading
 mod Repeats
 mod Telling
+mod Turns
 mod Wholes

@@ -1,7 +1,8 @@
 -- What is told of what is held.
 use Rattle.std.proofs.Common.{arith, ◌≡◌, ℕ, zero, suc, ◌+◌, ◌-◌, ◌<◌, ◌≤◌, ◌⊎◌, Bool, true, false, List, [], ◌++◌, length, Option}
 use Rattle.std.proofs.Common.{None, Some, Result, Ok, Err, refl, sym, ◌∙◌, ap, subst}
-use Rattle.std.proofs.Common.{append-nil, length-append, inl, inr}
+use Rattle.std.proofs.Common.{append-nil, length-append, vec_len, inl, inr}
+use Rattle.std.specs.Coded.{le_prop}
 use Rattle.std_io.specs.declared.io.error.Error as Io
 use Rattle.nom_internal.specs.Prelude.{Needed, Grammar}
 use Rattle.nom_error.specs.declared.value.Error.{Error}
@@ -15,7 +16,7 @@ use Rattle.nom_stream.specs.declared.stream.Unread.{Unread}
 use Rattle.nom_stream.specs.Held.{held_of}
 use Rattle.nom_stream.specs.Items.{Bytes, HoldsLast, IsUndecided, Stays, Takes}
 use Rattle.nom_stream.specs.Readers.{NoFault, OneFault, one_more}
-use Rattle.nom_stream.specs.Streams.{Answers, AreFillings, CountsFaults, Decides, Ends, Fills, Gives, IsEnough, IsOpen, IsUnread, IsUntold, LacksRoom}
+use Rattle.nom_stream.specs.Streams.{Answers, AreFillings, CountsFaults, Decides, Ends, EndsAsReader, Fills, Gives, IsEnough, IsUnread, IsUntold, LacksRoom}
 use Rattle.nom_stream.specs.Streams.{ReadAsNeeded, Reads, ReadsNothing, Tells, TellsFault, TellsNoFault, Told, Waited, counted}
 use Rattle.nom_stream.specs.Streams.AreFillings.{NoFilling, OneMore}
 use Rattle.nom_stream.specs.Wanted.{most_read, wanted_of}
@@ -106,7 +107,7 @@ turns_left false false most held = suc (most - held)
 -- What is so of a stream u before a parse, of which s was the beginning: bytes were read as they were needed, and nothing was told. Where
 -- `lacks`, there was no room for more.
 pub record SoFar {R A V O : Type 0} (left : R → Option (List ℕ)) (grammar : Grammar Bytes V O (Error Bytes)) (s u : Stream R A) (lacks : Bool) : Type 0 where
-  pub opened : IsOpen left u
+  pub at_end : EndsAsReader left s → EndsAsReader left u
   pub reads : Reads left grammar s u (IsUntold u ⊎ (lacks ≡ true))
   pub room : lacks ≡ true → LacksRoom u
   pub faults : TellsNoFault s u
@@ -156,7 +157,7 @@ module _ {R A V O : Type 0} (left : R → Option (List ℕ)) (grammar : Grammar 
     filled = u;
     reads = reads_so_far r;
     faults = counts_none s t taken r tells (still_none s u t o.0 o.4 i.faults);
-    open_then = i.opened;
+    at_end = i.at_end;
     answers = decided grammar u t h taken r o.1 d g l tells;
     no_read = i.no_read;
     source = o.0;
@@ -169,14 +170,14 @@ module _ {R A V O : Type 0} (left : R → Option (List ℕ)) (grammar : Grammar 
 module _ {R A V O : Type 0} {left : R → Option (List ℕ)} {grammar : Grammar Bytes V O (Error Bytes)} {s u : Stream R A} {lacks : Bool} {k : Needed}
     (there : Stands left grammar s u lacks k) where
   -- the reader is at its end
-  pub decides_end : (t : Stream R A) (r : Told O) → u.ended ≡ true → Ends grammar u t k r → ReadsNothing left u t r → Decides left grammar s t r
+  pub decides_end : (t : Stream R A) (r : Told O) → u.ended ≡ true → Ends grammar u t k r → ReadsNothing u t r → Decides left grammar s t r
   decides_end t r e ends o =
       let i = there.so_far in
       record {
         filled = u;
         reads = reads_so_far left grammar s u lacks i r;
         faults = counts_end grammar s u t k r ends (still_none s u t o.source o.untold i.faults);
-        open_then = i.opened;
+        at_end = i.at_end;
         answers = AtEnd e k there.waits ends;
         no_read = i.no_read;
         source = o.source;
@@ -193,7 +194,7 @@ module _ {R A V O : Type 0} {left : R → Option (List ℕ)} {grammar : Grammar 
         filled = u;
         reads = reads_so_far left grammar s u lacks i r;
         faults = faults;
-        open_then = i.opened;
+        at_end = i.at_end;
         answers = answers;
         no_read = i.no_read;
         source = refl;
@@ -281,7 +282,7 @@ module _ {R A V O : Type 0} {left : R → Option (List ℕ)} {grammar : Grammar 
         filled = w;
         reads = faulted_reads w e d.fills none;
         faults = one_told s u w e i.faults d.faults;
-        open_then = d.opened;
+        at_end = λ _. d.at_end;
         answers = Faulted e refl (k, subst (λ z. Takes grammar true z z (Undecided k)) (sym none) there.waits) refl;
         no_read = λ h. absurd (goes_on_from goes_on h);
         source = refl;
@@ -296,7 +297,7 @@ module _ {R A V O : Type 0} {left : R → Option (List ℕ)} {grammar : Grammar 
   further t wants r lack goes_on d told faults room reads =
       let i = there.so_far in
       record {
-        opened = d.opened;
+        at_end = λ _. d.at_end;
         reads = reads;
         room = room;
         faults = none_told s u t i.faults told faults;
@@ -323,15 +324,22 @@ module _ {R A V O : Type 0} {left : R → Option (List ℕ)} {grammar : Grammar 
       further t wants (Err Unread.OutOfMemory) lack goes_on d d.faults.0 d.faults.1 (λ _. d.memory refl)
       (reads_on goes_on few d.faults.0 has_room wants as_many (IsUntold t ⊎ (lack ≡ true)) t d.fills d.no_more (inr (inr (inr (inr e)))))
 
+-- what is told at the end, by a grammar's state that was kept
+pub ends_by : {R A V O State : Type 0} (grammar : State → Grammar Bytes V O (Error Bytes)) (p q : State) → p ≡ q → {u t : Stream R A} {k : Needed}
+    {r : Told O} → Ends (grammar p) u t k r → Ends (grammar q) u t k r
+ends_by grammar p q e {u} {t} {k} {r} h = subst (λ z. Ends (grammar z) u t k r) e h
+
 -- where what was taken leaves the item undecided, all is held as it was
 pub stands_there : {R A V O State : Type 0} (left : R → Option (List ℕ)) (grammar : State → Grammar Bytes V O (Error Bytes)) (p q : State) → p ≡ q →
     (s u : Stream R A) (lacks : Bool) → SoFar left (grammar q) s u lacks → (h : Held A) (taken : Taken O) (k : Needed) → taken ≡ Undecided k →
-    Stays u.held h taken → Takes (grammar p) true (held_of u.held) (held_of h) taken → Stands left (grammar q) s (record u { held = h }) lacks k
-stands_there left grammar p q same s u lacks i h taken k e stays takes =
+    Stays u.held h taken → Takes (grammar p) true (held_of u.held) (held_of h) taken → (b : vec_len h.bytes ≤ u.settings.most) →
+    Stands left (grammar q) s (record u { held = h; bounded = b }) lacks k
+stands_there left grammar p q same s u lacks i h taken k e stays takes b =
     let held : h ≡ u.held = subst (Stays u.held h) e stays in
     let now : Takes (grammar p) true (held_of u.held) (held_of h) (Undecided k) = subst (Takes (grammar p) true (held_of u.held) (held_of h)) e takes in
     record {
-      so_far = subst (λ z. SoFar left (grammar q) s (record u { held = z }) lacks) (sym held) i;
+      so_far = subst (λ z. (b : vec_len z.bytes ≤ u.settings.most) → SoFar left (grammar q) s (record u { held = z; bounded = b }) lacks) (sym held)
+          (λ b. subst (λ b. SoFar left (grammar q) s (record u { bounded = b }) lacks) (le_prop u.bounded b) i) b;
       waits = subst (λ z. Takes (grammar z) true (held_of h) (held_of h) (Undecided k)) same
           (subst (λ z. Takes (grammar p) true (held_of z) (held_of h) (Undecided k)) (sym held) now);
     }

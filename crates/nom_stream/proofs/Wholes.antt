@@ -11,7 +11,7 @@ use Rattle.nom_stream.specs.declared.step.Taken.TheVariants as Took
 use Rattle.nom_stream.specs.declared.stream.Stream.{Stream}
 use Rattle.nom_stream.specs.Held.{held_of}
 use Rattle.nom_stream.specs.Items.{Bytes, IsUndecided, Takes}
-use Rattle.nom_stream.specs.Streams.{Answers, Decides, Ends, Gives, IsOpen, Tells, Told}
+use Rattle.nom_stream.specs.Streams.{Answers, Decides, Ends, EndsAsReader, Gives, Tells, Told}
 use Rattle.nom_stream.specs.Streams.Answers.{Decided, AtEnd, Full, Faulted, Lacking}
 use Rattle.nom_stream.specs.Streams.Ends.{Clean, Within, Completed}
 use Rattle.nom_stream.specs.Wholes.{AtWhole, TellsFailure, HasLeft, IsLacking, TellsWhole, AnswersWhole, used_of}
@@ -27,11 +27,20 @@ end_known None xs e h = absurd (cc (e))
 end_known (Some a) xs e h = let same : a ≡ xs = cc (e) in sym same ∙ h
 
 module _ {R A : Type 0} (left : R → Option (List ℕ)) where
+  -- a stream that has ended has a reader that is at its end
+  ends_so : (s : Stream R A) (xs : List ℕ) → HasLeft left s xs → EndsAsReader left s
+  ends_so s xs h e = subst IsAtEnd (sym h.1) (h.3 e)
+
   -- what was read is among the bytes that no item had, before and after
-  pub left_read : (s u : Stream R A) (given xs : List ℕ) → Gives left s u given → HasLeft left s xs → HasLeft left u xs
-  left_read s u given xs g h =
-      let c = consumes_known (left s.source.inner) (left u.source.inner) h.0 given h.1 g.consumed in
-      (c.0, c.1, h.2 ∙ ap (λ z. held_of s.held ++ z) c.2 ∙ sym (append_assoc (held_of s.held) given c.0) ∙ ap (λ z. z ++ c.0) (sym g.added))
+  pub left_read : (s u : Stream R A) (given xs : List ℕ) → Gives left s u given → (EndsAsReader left s → EndsAsReader left u) → HasLeft left s xs →
+      HasLeft left u xs
+  left_read s u given xs g ends h =
+      let c = consumes_known (left s.source.inner) (left u.source.inner) h.0 given h.1 g.consumed in (
+        c.0,
+        c.1,
+        h.2 ∙ ap (λ z. held_of s.held ++ z) c.2 ∙ sym (append_assoc (held_of s.held) given c.0) ∙ ap (λ z. z ++ c.0) (sym g.added),
+        λ e. end_known (left u.source.inner) c.0 c.1 (ends (ends_so s xs h) e),
+      )
 
 module _ {V : Type 0} (m : Meaning Bytes V (Error Bytes)) (lawful : IsLawful bytes_model m) (x i : Bytes) (kx : bytes_model.IsKnown x)
     (ki : bytes_model.IsKnown i) where
@@ -118,10 +127,10 @@ module _ {R A V O : Type 0} (grammar : Grammar Bytes V O (Error Bytes)) (t : Str
   moves_answer u r (Lacking l b w e) = stays (held_of u.held) r (ap used_of e) b
 
 module _ {R A V O : Type 0} (left : R → Option (List ℕ)) (grammar : Grammar Bytes V O (Error Bytes)) (u t : Stream R A)
-    (opened : IsOpen left u) (same_source : t.source ≡ u.source) (same_settings : t.settings ≡ u.settings) (i : Bytes) (ki : bytes_model.IsKnown i)
+    (same_settings : t.settings ≡ u.settings) (i : Bytes) (ki : bytes_model.IsKnown i)
     (has : HasLeft left u i.now) (p : Outcome V) (b : AtWhole grammar.meaning u.settings.complete i p) (sound : grammar.meaning.IsSound) where
   at_end : u.ended ≡ true → i.now ≡ held_of u.held
-  at_end e = has.2 ∙ ap (λ z. held_of u.held ++ z) (end_known (left u.source.inner) has.0 has.1 (opened.at_end e)) ∙ append-nil (held_of u.held)
+  at_end e = has.2 ∙ ap (λ z. held_of u.held ++ z) (has.3 e) ∙ append-nil (held_of u.held)
 
   of_decided : (taken : Taken O) (r : Told O) → (IsUndecided taken → ⊥) → Takes grammar true (held_of u.held) (held_of t.held) taken →
       Tells taken r → TellsWhole grammar t r i p
@@ -174,8 +183,8 @@ module _ {R A V O : Type 0} (left : R → Option (List ℕ)) (grammar : Grammar 
   pub answers_whole : grammar.meaning.IsSound → AnswersWhole A left grammar
   answers_whole sound s t r d whole known has p b =
       let u = d.filled in
-      let then = left_read left s u d.reads.given whole.now d.reads.gives has in
-      of_answer left grammar u t d.open_then d.source (d.settings.1 ∙ sym d.settings.0) whole known then p
+      let then = left_read left s u d.reads.given whole.now d.reads.gives d.at_end has in
+      of_answer left grammar u t (d.settings.1 ∙ sym d.settings.0) whole known then p
       (subst (λ z. AtWhole grammar.meaning z.complete whole p) (sym d.settings.0) b) sound r d.answers
 
   -- and the bytes that no item had are a rest of the whole
@@ -183,13 +192,13 @@ module _ {R A V O : Type 0} (left : R → Option (List ℕ)) (grammar : Grammar 
       (length front ≡ used_of r) × ((rest : List ℕ) × HasLeft left t rest × (xs ≡ front ++ rest))
   left_after s t r xs d has =
       let u = d.filled in
-      let then = left_read left s u d.reads.given xs d.reads.gives has in
+      let then = left_read left s u d.reads.given xs d.reads.gives d.at_end has in
       let f = moves_answer grammar t u r d.answers in (
         f.0,
         f.1,
         (
           held_of t.held ++ then.0,
-          (then.0, ap (λ z. left z.inner) d.source ∙ then.1, refl),
+          (then.0, ap (λ z. left z.inner) d.source ∙ then.1, refl, λ e. then.3 (sym d.ended ∙ e)),
           then.2 ∙ ap (λ z. z ++ then.0) f.2 ∙
               append_assoc f.0 (held_of t.held) then.0,
         ),

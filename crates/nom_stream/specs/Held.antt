@@ -1,10 +1,6 @@
 -- The bytes that were read and aren't used yet.
-use Rattle.std.specs.Prelude.{ℕ, ◌≤◌, ◌-◌, List, drop, take, slice_range, vec_len}
+use Rattle.std.specs.Prelude.{ℕ, ◌-◌, List, drop, take, slice_range}
 use Rattle.nom_stream.specs.declared.held.Held.{Held}
-
--- they lie in the buffer
-abbrev pub IsWithin : {A : Type 0} → Held A → Type 0
-IsWithin h = (h.start ≤ h.end) × (h.end ≤ vec_len h.bytes)
 
 -- the bytes that aren't used yet
 abbrev pub held_of : {A : Type 0} → Held A → List ℕ

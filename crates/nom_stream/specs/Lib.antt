@@ -1,3 +1,4 @@
+pub mod Each
 pub mod Functions
 pub mod Held
 pub mod Items

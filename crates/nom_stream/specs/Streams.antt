@@ -1,6 +1,6 @@
 -- Items of a reader.
 use Rattle.std.specs.Prelude.{◌≡◌, ℕ, ◌+◌, ◌-◌, ◌^◌, ◌<◌, ◌≤◌, ◌⊎◌, min, Bool, true, false}
-use Rattle.std.specs.Prelude.{List, [], ◌++◌, length, Option, Some, None, Result, Ok, Err, IfOk, IfSome, IsOk, vec_capacity, vec_len}
+use Rattle.std.specs.Prelude.{List, [], ◌++◌, length, Option, Some, None, Result, Ok, Err, IfOk, IfSome, IsOk, vec_capacity}
 use Rattle.std.specs.Io.KnownBytes.{Consumes, IsAtEnd}
 use Rattle.std_io.specs.declared.io.error.Error as Io
 use Rattle.nom_internal.specs.Prelude.{Needed, Grammar}
@@ -12,7 +12,7 @@ use Rattle.nom_stream.specs.declared.settings.Settings.{Settings}
 use Rattle.nom_stream.specs.declared.stream.Stream.{Stream}
 use Rattle.nom_stream.specs.declared.step.Taken.{Taken}
 use Rattle.nom_stream.specs.declared.step.Taken.TheVariants as Took
-use Rattle.nom_stream.specs.Held.{held_of, IsWithin}
+use Rattle.nom_stream.specs.Held.{held_of}
 use Rattle.nom_stream.specs.Items.{Bytes, HoldsLast, IsUndecided, Takes}
 use Rattle.nom_stream.specs.declared.reader.Reader.{Reader}
 use Rattle.nom_stream.specs.Readers.{NoFault, OneFault}
@@ -38,12 +38,9 @@ counted offset (Ok None) = offset
 counted offset (Err e) = offset
 
 module _ {R A : Type 0} (left : R → Option (List ℕ)) where
-  -- The buffer, with the bytes that are used and the room for more, is never longer than the most bytes that may be held; and the
-  -- stream's end is the reader's.
-  pub record IsOpen (s : Stream R A) : Type 0 where
-    pub within : IsWithin s.held
-    pub bounded : vec_len s.held.bytes ≤ s.settings.most
-    pub at_end : s.ended ≡ true → IsAtEnd (left s.source.inner)
+  -- a stream that has ended has a reader that is at its end
+  abbrev pub EndsAsReader : Stream R A → Type 0
+  EndsAsReader s = s.ended ≡ true → IsAtEnd (left s.source.inner)
 
   module _ (s t : Stream R A) where
     -- these bytes were read, and are held after the others
@@ -107,8 +104,7 @@ module _ {R A : Type 0} (s t : Stream R A) where
   CountsFaults (Err Stopped.OutOfMemory) = TellsNoFault
 
 -- More bytes may be waited for: the reader isn't at its end, and more may be held.
-pub record MayWait {R A : Type 0} (left : R → Option (List ℕ)) (s : Stream R A) (wants : ℕ) : Type 0 where
-  pub opened : IsOpen left s
+pub record MayWait {R A : Type 0} (s : Stream R A) (wants : ℕ) : Type 0 where
   pub some : 0 < wants
   pub goes_on : s.ended ≡ false
   pub most : length (held_of s.held) < s.settings.most
@@ -116,7 +112,7 @@ pub record MayWait {R A : Type 0} (left : R → Option (List ℕ)) (s : Stream R
 -- That many bytes more were waited for: they were read, unless the reader is at its end, no more may be held, or a read failed after
 -- others gave bytes; less than one read more was. Or memory ran out, or the first read failed.
 pub record Waited {R A : Type 0} (left : R → Option (List ℕ)) (s t : Stream R A) (wants : ℕ) (r : Result (Unit {0}) Unread) : Type 0 where
-  pub opened : IsOpen left t
+  pub at_end : EndsAsReader left t
   pub fills : Fills left s t
   pub enough : IsOk r → IsEnough (wants + length (held_of s.held)) t (IsUntold t)
   pub some : IsOk r → (t.ended ≡ true) ⊎ (length (held_of s.held) < length (held_of t.held))
@@ -186,8 +182,7 @@ module _ {R A V O : Type 0} (grammar : Grammar Bytes V O (Error Bytes)) (s t : S
 
 -- What else holds of a stream after an answer for which nothing was read: the bytes of an item are counted, and are the last that were
 -- used.
-pub record ReadsNothing {R A O : Type 0} (left : R → Option (List ℕ)) (s t : Stream R A) (r : Told O) : Type 0 where
-  pub opened : IsOpen left t
+pub record ReadsNothing {R A O : Type 0} (s t : Stream R A) (r : Told O) : Type 0 where
   pub offset : t.offset ≡ counted s.offset r
   pub last : IfOk r (λ r. IfSome r (λ p. p.0 ≤ t.held.start))
   pub source : t.source ≡ s.source
@@ -208,7 +203,8 @@ pub record Decides {R A V O : Type 0} (left : R → Option (List ℕ)) (grammar 
   pub filled : Stream R A
   pub reads : Reads left grammar s filled (IsUnread filled r)
   pub faults : CountsFaults s t r
-  pub open_then : IsOpen left filled
+  -- it had ended then only if its reader was at its end
+  pub at_end : EndsAsReader left s → EndsAsReader left filled
   pub answers : Answers grammar filled t r
   -- once the reader is at its end no read is made
   pub no_read : s.ended ≡ true → (filled.source ≡ s.source) × (filled.ended ≡ true)

@@ -10,9 +10,10 @@ use Rattle.nom_stream.specs.Held.{held_of, last_of}
 use Rattle.nom_stream.specs.Items.{Bytes}
 use Rattle.nom_stream.specs.Streams.{Decides, Told}
 
--- these are the bytes that no item had yet: those that are held, and those that the reader has left, where they are known
+-- These are the bytes that no item had yet: those that are held, and those that the reader has left, where they are known. A stream that
+-- has ended has none of the latter; that holds of a new one, and calls of `next_item` keep it.
 abbrev pub HasLeft : {R A : Type 0} → (R → Option (List ℕ)) → Stream R A → List ℕ → Type 0
-HasLeft left s xs = (after : List ℕ) × (left s.source.inner ≡ Some after) × (xs ≡ held_of s.held ++ after)
+HasLeft left s xs = (after : List ℕ) × (left s.source.inner ≡ Some after) × (xs ≡ held_of s.held ++ after) × (s.ended ≡ true → after ≡ [])
 
 -- the items that were told, and how many bytes they have
 abbrev pub items_of : {O : Type 0} → List (Told O) → List O

@@ -1,8 +1,5 @@
 //! The bytes that were read and aren't used yet, and reads of more.
-ghost use Rattle.std.specs.Prelude.{◌≡◌, ℕ, ◌+◌, ◌-◌, ◌^◌, ◌<◌, ◌≤◌, ◌++◌, List, [], drop, length, max, IfOk, OnErr, OnOk, vec_capacity, vec_len};
-ghost use Rattle.std.specs.Io.KnownBytes.{Consumes, IsAtEnd, Keeps};
-ghost use Rattle.nom_stream.specs.Held.{held_of, last_of, IsWithin};
-ghost use Rattle.nom_stream.specs.Readers.{CountsRead};
+ghost use Rattle.std.specs.Prelude.{◌≤◌, vec_len};
 
 use crate::reader::Reader;
 use nom_error::answer::OutOfMemory;
@@ -18,15 +15,21 @@ pub struct Held<A: Allocator> {
     pub bytes: Vec<u8, A>,
     pub start: usize,
     pub end: usize,
+    /// They lie in the buffer.
+    pub ghost within: { (start ≤ end) × (end ≤ vec_len bytes) },
 }
 
 // So many bytes cost little, and hold many small reads.
 const SMALL: usize = 4096;
 
 impl<A: Allocator> Held<A> {
+    ghost use Rattle.std.specs.Prelude.{◌≡◌, ℕ, ◌+◌, ◌-◌, ◌^◌, ◌<◌, ◌++◌, List, [], drop, length, max, IfOk, OnErr, OnOk, vec_capacity};
+    ghost use Rattle.std.specs.Io.KnownBytes.{Consumes, IsAtEnd, Keeps};
+    ghost use Rattle.nom_stream.specs.Held.{held_of, last_of};
+    ghost use Rattle.nom_stream.specs.Readers.{CountsRead};
+
     /// Returns a buffer that holds no bytes.
     pub fn new(alloc: A) -> Self
-        ensures within { IsWithin result }
         ensures none { held_of result ≡ [] }
         ensures empty { vec_len result.bytes ≡ 0 }
     {
@@ -40,7 +43,6 @@ impl<A: Allocator> Held<A> {
     /// Returns the number of held bytes.
     #[inline(always)]
     pub fn len(&self) -> usize
-        requires { IsWithin self.now }
         ensures { result ≡ length (held_of self.now) }
     {
         self.end - self.start
@@ -49,7 +51,6 @@ impl<A: Allocator> Held<A> {
     /// Returns the held bytes.
     #[inline(always)]
     pub fn as_slice(&self) -> &[u8]
-        requires { IsWithin self.now }
         ensures { result.now ≡ held_of self.now }
     {
         &self.bytes[self.start..self.end]
@@ -57,7 +58,6 @@ impl<A: Allocator> Held<A> {
 
     /// Returns the last `count` used bytes.
     pub fn last(&self, count: usize) -> &[u8]
-        requires within { IsWithin self.now }
         requires count { count ≤ self.now.start }
         ensures { result.now ≡ last_of count self.now }
     {
@@ -67,9 +67,7 @@ impl<A: Allocator> Held<A> {
     /// Marks the first `count` bytes as used.
     #[inline(always)]
     pub fn consume(&mut self, count: usize)
-        requires within { IsWithin self.old }
         requires count { count ≤ length (held_of self.old) }
-        ensures within { IsWithin self.new }
         ensures others { held_of self.new ≡ drop count (held_of self.old) }
         ensures start { self.new.start ≡ self.old.start + count }
         ensures bytes { self.new.bytes ≡ self.old.bytes }
@@ -83,9 +81,7 @@ impl<A: Allocator> Held<A> {
     /// parse waits for it.
     #[inline(always)]
     pub fn leave(&mut self, left: usize)
-        requires within { IsWithin self.old }
         requires left { left ≤ length (held_of self.old) }
-        ensures within { IsWithin self.new }
         ensures others { held_of self.new ≡ drop (length (held_of self.old) - left) (held_of self.old) }
         ensures start { self.new.start ≡ self.old.start + (length (held_of self.old) - left) }
         ensures bytes { self.new.bytes ≡ self.old.bytes }
@@ -95,8 +91,6 @@ impl<A: Allocator> Held<A> {
 
     /// Moves the bytes to the front of the buffer, over the used ones.
     pub fn settle(&mut self)
-        requires { IsWithin self.old }
-        ensures within { IsWithin self.new }
         ensures same { held_of self.new ≡ held_of self.old }
         ensures front { self.new.start ≡ 0 }
         ensures buffer { vec_len self.new.bytes ≡ vec_len self.old.bytes }
@@ -112,9 +106,7 @@ impl<A: Allocator> Held<A> {
 
     /// Makes room for `count` more bytes after the held ones. The buffer never gets shorter.
     pub fn make_room(&mut self, count: usize) -> Result<(), OutOfMemory>
-        requires within { IsWithin self.old }
         requires fits { self.old.end + count < 2 ^ 64 }
-        ensures within { IsWithin self.new }
         ensures same { held_of self.new ≡ held_of self.old }
         ensures room { OnOk result (self.new.end + count ≤ vec_len self.new.bytes) }
         ensures lacks { OnErr result (vec_capacity self.new.bytes < self.new.end + count) }
@@ -141,9 +133,7 @@ impl<A: Allocator> Held<A> {
     /// The buffer gets longer than `most` only if the held bytes and the new ones require it.
     #[inline(always)]
     pub fn find_room(&mut self, count: usize, most: usize) -> Result<(), OutOfMemory>
-        requires within { IsWithin self.old }
         requires fits { length (held_of self.old) + count < 2 ^ 64 }
-        ensures within { IsWithin self.new }
         ensures same { held_of self.new ≡ held_of self.old }
         ensures room { OnOk result (self.new.end + count ≤ vec_len self.new.bytes) }
         ensures lacks { OnErr result (vec_capacity self.new.bytes < length (held_of self.new) + count) }
@@ -159,9 +149,7 @@ impl<A: Allocator> Held<A> {
     // if it may be that long, so that small reads seldom come here.
     #[inline(never)]
     fn clear_room(&mut self, count: usize, most: usize) -> Result<(), OutOfMemory>
-        requires within { IsWithin self.old }
         requires fits { length (held_of self.old) + count < 2 ^ 64 }
-        ensures within { IsWithin self.new }
         ensures same { held_of self.new ≡ held_of self.old }
         ensures room { OnOk result (self.new.end + count ≤ vec_len self.new.bytes) }
         ensures lacks { OnErr result (vec_capacity self.new.bytes < length (held_of self.new) + count) }
@@ -180,9 +168,7 @@ impl<A: Allocator> Held<A> {
 
     /// Makes one read of at most `count` bytes, after the held ones. An interrupted read is made again.
     pub fn read_from<R: Read>(&mut self, source: &mut Reader<R>, count: usize) -> io::Result<usize>
-        requires within { IsWithin self.old }
         requires room { self.old.end + count ≤ vec_len self.old.bytes }
-        ensures within { IsWithin self.new }
         ensures given { IfOk result (λ n. (given : List ℕ) × (length given ≡ n) × (held_of self.new ≡ held_of self.old ++ given)
             × Consumes (R.remaining source.old.inner) (R.remaining source.new.inner) given) }
         ensures bound { IfOk result (λ n. n ≤ count) }
@@ -204,7 +190,6 @@ impl<A: Allocator> Held<A> {
 
     /// Returns the held bytes, without the used ones.
     pub fn into_vec(mut self) -> Vec<u8, A>
-        requires { IsWithin self }
         ensures { result.items ≡ held_of self }
     {
         self.settle();

@@ -3,6 +3,7 @@
 //! Each byte is read once, and decided bytes are parsed once. No more is held than a limit allows.
 #![tactic(auto)]
 
+pub mod each;
 pub mod function;
 pub mod grammar;
 pub mod held;

@@ -1,6 +1,6 @@
 //! One item from the held bytes.
 ghost use Rattle.std.specs.Prelude.{◌≡◌, MatchOption};
-ghost use Rattle.nom_stream.specs.Held.{held_of, IsWithin};
+ghost use Rattle.nom_stream.specs.Held.{held_of};
 ghost use Rattle.nom_stream.specs.Items.{IsStopped, HoldsLast, IsUndecided, Stays, Takes};
 ghost use Rattle.nom_stream.specs.declared.step.Taken.TheVariants.{Undecided};
 
@@ -51,9 +51,7 @@ pub fn take<A: Allocator, G: Grammar>(
     more: bool,
 ) -> Taken<G::Item>
     requires runs { (G.grammar (G.state grammar.old)).meaning.Runs }
-    requires within { IsWithin held.old }
     ensures kept { G.state grammar.new ≡ G.state grammar.old }
-    ensures within { IsWithin held.new }
     ensures takes { Takes (G.grammar (G.state grammar.old)) more (held_of held.old) (held_of held.new) result }
     ensures last { HoldsLast (held_of held.old) held.new result }
     ensures bytes { held.new.bytes ≡ held.old.bytes }

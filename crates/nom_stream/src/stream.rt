@@ -1,9 +1,5 @@
 //! The items of a reader.
-ghost use Rattle.std.specs.Prelude.{◌≡◌, false, ◌<◌, ◌≤◌, ◌+◌, ◌^◌, None, Err, IfOk, IfSome, [], length, vec_capacity};
-ghost use Rattle.nom_stream.specs.Held.{held_of, last_of};
-ghost use Rattle.nom_stream.specs.Streams.{CountsOnce, Decides, Ends, IsOpen, MayWait, ReadsNothing};
-ghost use Rattle.nom_stream.specs.Streams.{ReadsOnce, Tells, Waited, counted};
-ghost use Rattle.nom_stream.specs.declared.step.Taken.TheVariants.{Undecided};
+ghost use Rattle.std.specs.Prelude.{◌≤◌, vec_len};
 
 use crate::grammar::Grammar;
 use crate::held::Held;
@@ -63,12 +59,19 @@ pub struct Stream<R, A: Allocator> {
     /// The read failed after others had given bytes, and these decided. The error is reported before anything
     /// else is read.
     pub untold: Option<io::Error>,
+    /// The buffer, with the bytes that are used and the room for more, is never longer than the most bytes that may be held.
+    pub ghost bounded: { vec_len held.bytes ≤ settings.most },
 }
 
 impl<R: Read, A: Allocator + Copy> Stream<R, A> {
+    ghost use Rattle.std.specs.Prelude.{◌≡◌, false, ◌<◌, ◌+◌, ◌^◌, None, Err, IfOk, IfSome, [], length, vec_capacity};
+    ghost use Rattle.nom_stream.specs.Held.{held_of, last_of};
+    ghost use Rattle.nom_stream.specs.Streams.{CountsOnce, Decides, Ends, MayWait, ReadsNothing};
+    ghost use Rattle.nom_stream.specs.Streams.{ReadsOnce, Tells, Waited, counted};
+
     /// Returns a stream that starts at the reader's present place.
     pub fn new(alloc: A, source: R, settings: Settings) -> Self
-        ensures open { IsOpen R.remaining result }
+        ensures starts { result.ended ≡ false }
         ensures source { (result.source.inner ≡ source) × (result.source.faults ≡ 0) }
         ensures told { result.untold ≡ None }
         ensures none { held_of result.held ≡ [] }
@@ -87,12 +90,10 @@ impl<R: Read, A: Allocator + Copy> Stream<R, A> {
 
     // One read of that many bytes at the most, which the limit leaves room for; none are read at the end.
     fn read_once(&mut self, count: usize) -> Result<usize, Unread>
-        requires open { IsOpen R.remaining self.old }
         requires goes_on { self.old.ended ≡ false }
         requires some { 0 < count }
         requires most { length (held_of self.old.held) + count ≤ self.old.settings.most }
         requires fits { length (held_of self.old.held) + count < 2 ^ 64 }
-        ensures open { IsOpen R.remaining self.new }
         ensures reads { ReadsOnce R.remaining self.old self.new result }
         ensures bound { IfOk result (λ n. n ≤ count) }
         ensures memory { result ≡ Err Unread.OutOfMemory → vec_capacity self.new.held.bytes < length (held_of self.new.held) + count }
@@ -114,7 +115,7 @@ impl<R: Read, A: Allocator + Copy> Stream<R, A> {
     // they are there. Where one fails after others gave bytes, these are parsed before the fault is told.
     #[inline(never)]
     fn read_wanted(&mut self, wants: usize) -> Result<(), Unread>
-        requires { MayWait R.remaining self.old wants }
+        requires { MayWait self.old wants }
         ensures { Waited R.remaining self.old self.new wants result }
     {
         match self.untold {
@@ -152,7 +153,7 @@ impl<R: Read, A: Allocator + Copy> Stream<R, A> {
     // The same, with room for the answer as in `end`.
     #[inline(always)]
     fn fill(&mut self, wants: usize) -> Result<(), Unread>
-        requires { MayWait R.remaining self.old wants }
+        requires { MayWait self.old wants }
         ensures { Waited R.remaining self.old self.new wants result }
     {
         self.read_wanted(wants)
@@ -187,10 +188,9 @@ impl<R: Read, A: Allocator + Copy> Stream<R, A> {
         grammar: &mut G,
     ) -> Result<Option<(usize, G::Item)>, Stop>
         requires runs { (G.grammar (G.state grammar.old)).meaning.Runs }
-        requires open { IsOpen R.remaining self.old }
         ensures kept { G.state grammar.new ≡ G.state grammar.old }
         ensures ends { Ends (G.grammar (G.state grammar.old)) self.old self.new needed result }
-        ensures others { ReadsNothing R.remaining self.old self.new result }
+        ensures others { ReadsNothing self.old self.new result }
     {
         if self.held.len() == 0 {
             return Ok(None);
@@ -210,10 +210,9 @@ impl<R: Read, A: Allocator + Copy> Stream<R, A> {
         grammar: &mut G,
     ) -> Result<Option<(usize, G::Item)>, Stop>
         requires runs { (G.grammar (G.state grammar.old)).meaning.Runs }
-        requires open { IsOpen R.remaining self.old }
         ensures kept { G.state grammar.new ≡ G.state grammar.old }
         ensures ends { Ends (G.grammar (G.state grammar.old)) self.old self.new needed result }
-        ensures others { ReadsNothing R.remaining self.old self.new result }
+        ensures others { ReadsNothing self.old self.new result }
     {
         self.finish(needed, grammar)
     }
@@ -231,9 +230,7 @@ impl<R: Read, A: Allocator + Copy> Stream<R, A> {
         grammar: &mut G,
     ) -> Result<Option<(usize, G::Item)>, Stop>
         requires runs { (G.grammar (G.state grammar.old)).meaning.Runs }
-        requires open { IsOpen R.remaining self.old }
         ensures kept { G.state grammar.new ≡ G.state grammar.old }
-        ensures open { IsOpen R.remaining self.new }
         ensures decides { Decides R.remaining (G.grammar (G.state grammar.old)) self.old self.new result }
         ensures offset { self.new.offset ≡ counted self.old.offset result }
         ensures last { IfOk result (λ r. IfSome r (λ p. p.0 ≤ self.new.held.start)) }
@@ -268,7 +265,6 @@ impl<R: Read, A: Allocator + Copy> Stream<R, A> {
 
     /// Returns the bytes of the last item; `used` is how many they are.
     pub fn last(&self, used: usize) -> &[u8]
-        requires open { IsOpen R.remaining self.now }
         requires used { used ≤ self.now.held.start }
         ensures { result.now ≡ last_of used self.now.held }
     {
@@ -277,7 +273,6 @@ impl<R: Read, A: Allocator + Copy> Stream<R, A> {
 
     /// Returns the bytes that were read and that no item had.
     pub fn held(&self) -> &[u8]
-        requires { IsOpen R.remaining self.now }
         ensures { result.now ≡ held_of self.now.held }
     {
         self.held.as_slice()
@@ -285,7 +280,6 @@ impl<R: Read, A: Allocator + Copy> Stream<R, A> {
 
     /// Returns the reader, and the bytes that were read and that no item had.
     pub fn into_parts(self) -> (R, Vec<u8, A>)
-        requires { IsOpen R.remaining self }
         ensures source { result.0 ≡ self.source.inner }
         ensures held { result.1.items ≡ held_of self.held }
     {

@@ -6,7 +6,7 @@ use Rattle.nom_stream.proofs.held.Held.leave.Goals as goal
 pub returns-clause-others : goal.returns-clause-others
 returns-clause-others g c =
     let h = c.args.self.now in
-    let within = c.requires.within in
+    let within = c.args.self.now.within in
     let len = range_length h.bytes.items h.start h.end within.0 (omega (arith, within.1)) in
     let used = length (held_of h) - c.args.left in
     let place : h.end - c.args.left ≡ h.start + used = omega (arith, len, within.0, c.requires.left) in

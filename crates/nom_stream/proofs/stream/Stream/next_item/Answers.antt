@@ -1,9 +1,8 @@
 use Rattle.std.proofs.Common.{arith, ◌<◌, length, true, ◌∙◌, ap, subst}
 use Rattle.nom_stream.specs.Held.{held_of}
 use Rattle.nom_stream.specs.Items.{Takes}
-use Rattle.nom_stream.specs.Streams.{Ends}
 use Rattle.nom_stream.specs.Wanted.{wanted_of}
-use Rattle.nom_stream.proofs.Telling.{decides_end, decides_fault, decides_full, decides_item, decides_lack, goes_further, goes_short, stands_there}
+use Rattle.nom_stream.proofs.Telling.{decides_end, decides_fault, decides_full, decides_item, decides_lack, ends_by, goes_further, goes_short, stands_there}
 use Rattle.nom_stream.proofs.stream.Stream.next_item.Goals as goal
 use Rattle.nom_stream.proofs.stream.Stream.next_item.Goals.{in-Ok, in-Err-OutOfMemory}
 
@@ -20,10 +19,8 @@ returns-then-self-clause-decides g c =
     let i = c.parses.invariant in
     let there =
     stands_there g.R.Read.remaining g.G.Grammar.grammar _ _ i.kept _ c.parses.self _ i.so_far c.take-taken.new.held _ _
-    c.in-Some.ensures c.take-taken.ensures.stays c.take-taken.ensures.takes in
-    let u = record c.parses.self { held = c.take-taken.new.held } in
-    let ends = subst (λ z. Ends (g.G.Grammar.grammar z) u c.end.new.self c.in-Some.needed c.end.result) (c.take-taken.ensures.kept ∙ i.kept)
-    c.end.ensures.ends in
+    c.in-Some.ensures c.take-taken.ensures.stays c.take-taken.ensures.takes _ in
+    let ends = ends_by g.G.Grammar.grammar _ _ (c.take-taken.ensures.kept ∙ i.kept) c.end.ensures.ends in
     decides_end there _ _ c.if-self.true ends c.end.ensures.others
 
 pub returns-then-lacks-clause-decides : goal.returns-then-lacks-clause-decides
@@ -31,7 +28,7 @@ returns-then-lacks-clause-decides g c =
     let i = c.parses.invariant in
     let there =
     stands_there g.R.Read.remaining g.G.Grammar.grammar _ _ i.kept _ c.parses.self _ i.so_far c.take-taken.new.held _ _
-    c.in-Some.ensures c.take-taken.ensures.stays c.take-taken.ensures.takes in
+    c.in-Some.ensures c.take-taken.ensures.stays c.take-taken.ensures.takes _ in
     decides_lack there c.if-lacks.true
 
 pub returns-then-self-held-clause-decides : goal.returns-then-self-held-clause-decides
@@ -39,7 +36,7 @@ returns-then-self-held-clause-decides g c =
     let i = c.parses.invariant in
     let there =
     stands_there g.R.Read.remaining g.G.Grammar.grammar _ _ i.kept _ c.parses.self _ i.so_far c.take-taken.new.held _ _
-    c.in-Some.ensures c.take-taken.ensures.stays c.take-taken.ensures.takes in
+    c.in-Some.ensures c.take-taken.ensures.stays c.take-taken.ensures.takes _ in
     decides_full there (omega (arith, c.len-held.ensures, c.if-self-held.true))
 
 pub returns-in-Err-Fault-clause-decides : goal.returns-in-Err-Fault-clause-decides
@@ -47,16 +44,16 @@ returns-in-Err-Fault-clause-decides g c =
     let i = c.parses.invariant in
     let there =
     stands_there g.R.Read.remaining g.G.Grammar.grammar _ _ i.kept _ c.parses.self _ i.so_far c.take-taken.new.held _ _
-    c.in-Some.ensures c.take-taken.ensures.stays c.take-taken.ensures.takes in
+    c.in-Some.ensures c.take-taken.ensures.stays c.take-taken.ensures.takes _ in
     decides_fault there c.if-self.false _ _ _ _ c.in-Err-Fault.field-0-is c.in-Err-Fault.ensures
 
 pub parses-preserved : goal.parses-preserved
 parses-preserved g c =
     let i = c.parses.invariant in
+    let few : length (held_of c.take-taken.new.held) < c.parses.self.settings.most = omega (arith, c.len-held.ensures, c.if-self-held.false) in
     let there =
     stands_there g.R.Read.remaining g.G.Grammar.grammar _ _ i.kept _ c.parses.self _ i.so_far c.take-taken.new.held _ _
-    c.in-Some.ensures c.take-taken.ensures.stays c.take-taken.ensures.takes in
-    let few : length (held_of c.take-taken.new.held) < c.parses.self.settings.most = omega (arith, c.len-held.ensures, c.if-self-held.false) in
+    c.in-Some.ensures c.take-taken.ensures.stays c.take-taken.ensures.takes _ in
     let as_many = c.wanted-wanted.ensures.wanted ∙ ap (wanted_of c.parses.self.settings c.in-Some.needed) c.len-held.ensures in
     record {
       kept = c.take-taken.ensures.kept ∙ i.kept;

@@ -1,13 +1,12 @@
 use Rattle.std.proofs.Common.{◌≡◌, ◌<◌, ◌+◌, ◌-◌, length, false, None}
 use Rattle.nom_stream.specs.Held.{held_of}
 use Rattle.nom_stream.specs.Readers.{NoFault}
-use Rattle.nom_stream.specs.Streams.{Fills, IsOpen}
+use Rattle.nom_stream.specs.Streams.{Fills}
 use Rattle.nom_stream.specs.Wanted.{most_read}
 use Rattle.nom_stream.proofs.stream.Stream.read_wanted.Given as goal
 
 abbrev pub invariant-loop-wanted : goal.invariant-loop-wanted
 invariant-loop-wanted g l = record {
-  opened : IsOpen g.R.Read.remaining l.self;
   fills : Fills g.R.Read.remaining l.fn.self l.self;
   faults : NoFault l.fn.self.source l.self.source;
   untold : (l.self.untold ≡ None) × (l.fn.self.untold ≡ None);
