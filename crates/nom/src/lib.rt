@@ -27,7 +27,9 @@ pub use nom_error::mode::{
 };
 pub use nom_func::answer::{answer, stream_answer};
 pub use nom_func::func::{Func, StreamFunc};
-pub use nom_func::function::{func, stream_func};
+pub use nom_func::func_in::{FuncIn, StreamFuncIn};
+pub use nom_func::function::{func, func_in, stream_func, stream_func_in};
+pub use nom_func::refused::if_refused;
 pub use nom_growing::growing::{Grown, parse_growing};
 pub use nom_hex::hex::HexDisplay;
 pub use nom_internal::and_then::AndThen;
