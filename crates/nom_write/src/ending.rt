@@ -163,8 +163,8 @@ impl<I: Items, P: Writer<I>, Q: Writer<I, Error = P::Error>, R: Ending<I, Error 
 > for (P, Q, R) {
     ghost MayEnd = { λ p. R.MayEnd p.2 × ((b : R.Output) (ys : List I.Item) → R.Form p.2 b ys → Q.MayFollow p.1 ys) };
 
-    ghost ends = { λ p k c e. tuple_ends (λ o. (o.0, (o.1, o.2))) (pair_ends I.lawful (ends_more c.1 e.1) (P.reads p.0 k.0 c.0.0) (pair_ends I.lawful
-        e.1 (Q.reads p.1 k.1.0 c.0.1) (R.ends p.2 k.1.1 c.0.2 e.0))) };
+    ghost ends = { λ p k c e. tuple_ends (λ o. (o.0, (o.1, o.2))) (pair_ends I.lawful (ends_more (P.MayFollow p.0) c.1 e.1) (P.reads p.0 k.0 c.0.0)
+        (pair_ends I.lawful e.1 (Q.reads p.1 k.1.0 c.0.1) (R.ends p.2 k.1.1 c.0.2 e.0))) };
 }
 
 impl<
@@ -176,9 +176,9 @@ impl<
 > Ending<I> for (P, Q, R, S) {
     ghost MayEnd = { λ p. S.MayEnd p.3 × ((b : S.Output) (ys : List I.Item) → S.Form p.3 b ys → R.MayFollow p.2 ys) };
 
-    ghost ends = { λ p k c e. tuple_ends (λ o. (o.0, (o.1, (o.2, o.3)))) (pair_ends I.lawful (ends_more c.1 (ends_more c.2 e.1)) (P.reads p.0 k.0
-        c.0.0) (pair_ends I.lawful (ends_more c.2 e.1) (Q.reads p.1 k.1.0 c.0.1) (pair_ends I.lawful e.1 (R.reads p.2 k.1.1.0 c.0.2) (S.ends p.3
-        k.1.1.1 c.0.3 e.0)))) };
+    ghost ends = { λ p k c e. tuple_ends (λ o. (o.0, (o.1, (o.2, o.3)))) (pair_ends I.lawful (ends_more (P.MayFollow p.0) c.1 (ends_more (Q.MayFollow
+        p.1) c.2 e.1)) (P.reads p.0 k.0 c.0.0) (pair_ends I.lawful (ends_more (Q.MayFollow p.1) c.2 e.1) (Q.reads p.1 k.1.0 c.0.1) (pair_ends
+        I.lawful e.1 (R.reads p.2 k.1.1.0 c.0.2) (S.ends p.3 k.1.1.1 c.0.3 e.0)))) };
 }
 
 impl<
@@ -191,9 +191,10 @@ impl<
 > Ending<I> for (P, Q, R, S, T) {
     ghost MayEnd = { λ p. T.MayEnd p.4 × ((b : T.Output) (ys : List I.Item) → T.Form p.4 b ys → S.MayFollow p.3 ys) };
 
-    ghost ends = { λ p k c e. tuple_ends (λ o. (o.0, (o.1, (o.2, (o.3, o.4))))) (pair_ends I.lawful (ends_more c.1 (ends_more c.2 (ends_more c.3
-        e.1))) (P.reads p.0 k.0 c.0.0) (pair_ends I.lawful (ends_more c.2 (ends_more c.3 e.1)) (Q.reads p.1 k.1.0 c.0.1) (pair_ends I.lawful
-        (ends_more c.3 e.1) (R.reads p.2 k.1.1.0 c.0.2) (pair_ends I.lawful e.1 (S.reads p.3 k.1.1.1.0 c.0.3) (T.ends p.4 k.1.1.1.1 c.0.4 e.0))))) };
+    ghost ends = { λ p k c e. tuple_ends (λ o. (o.0, (o.1, (o.2, (o.3, o.4))))) (pair_ends I.lawful (ends_more (P.MayFollow p.0) c.1 (ends_more
+        (Q.MayFollow p.1) c.2 (ends_more (R.MayFollow p.2) c.3 e.1))) (P.reads p.0 k.0 c.0.0) (pair_ends I.lawful (ends_more (Q.MayFollow p.1) c.2
+        (ends_more (R.MayFollow p.2) c.3 e.1)) (Q.reads p.1 k.1.0 c.0.1) (pair_ends I.lawful (ends_more (R.MayFollow p.2) c.3 e.1) (R.reads p.2
+        k.1.1.0 c.0.2) (pair_ends I.lawful e.1 (S.reads p.3 k.1.1.1.0 c.0.3) (T.ends p.4 k.1.1.1.1 c.0.4 e.0))))) };
 }
 
 impl<
@@ -207,10 +208,12 @@ impl<
 > Ending<I> for (P, Q, R, S, T, U) {
     ghost MayEnd = { λ p. U.MayEnd p.5 × ((b : U.Output) (ys : List I.Item) → U.Form p.5 b ys → T.MayFollow p.4 ys) };
 
-    ghost ends = { λ p k c e. tuple_ends (λ o. (o.0, (o.1, (o.2, (o.3, (o.4, o.5)))))) (pair_ends I.lawful (ends_more c.1 (ends_more c.2 (ends_more
-        c.3 (ends_more c.4 e.1)))) (P.reads p.0 k.0 c.0.0) (pair_ends I.lawful (ends_more c.2 (ends_more c.3 (ends_more c.4 e.1))) (Q.reads p.1 k.1.0
-        c.0.1) (pair_ends I.lawful (ends_more c.3 (ends_more c.4 e.1)) (R.reads p.2 k.1.1.0 c.0.2) (pair_ends I.lawful (ends_more c.4 e.1) (S.reads
-        p.3 k.1.1.1.0 c.0.3) (pair_ends I.lawful e.1 (T.reads p.4 k.1.1.1.1.0 c.0.4) (U.ends p.5 k.1.1.1.1.1 c.0.5 e.0)))))) };
+    ghost ends = { λ p k c e. tuple_ends (λ o. (o.0, (o.1, (o.2, (o.3, (o.4, o.5)))))) (pair_ends I.lawful (ends_more (P.MayFollow p.0) c.1
+        (ends_more (Q.MayFollow p.1) c.2 (ends_more (R.MayFollow p.2) c.3 (ends_more (S.MayFollow p.3) c.4 e.1)))) (P.reads p.0 k.0 c.0.0) (pair_ends
+        I.lawful (ends_more (Q.MayFollow p.1) c.2 (ends_more (R.MayFollow p.2) c.3 (ends_more (S.MayFollow p.3) c.4 e.1))) (Q.reads p.1 k.1.0 c.0.1)
+        (pair_ends I.lawful (ends_more (R.MayFollow p.2) c.3 (ends_more (S.MayFollow p.3) c.4 e.1)) (R.reads p.2 k.1.1.0 c.0.2) (pair_ends I.lawful
+        (ends_more (S.MayFollow p.3) c.4 e.1) (S.reads p.3 k.1.1.1.0 c.0.3) (pair_ends I.lawful e.1 (T.reads p.4 k.1.1.1.1.0 c.0.4) (U.ends p.5
+        k.1.1.1.1.1 c.0.5 e.0)))))) };
 }
 
 impl<
@@ -225,11 +228,13 @@ impl<
 > Ending<I> for (P, Q, R, S, T, U, V) {
     ghost MayEnd = { λ p. V.MayEnd p.6 × ((b : V.Output) (ys : List I.Item) → V.Form p.6 b ys → U.MayFollow p.5 ys) };
 
-    ghost ends = { λ p k c e. tuple_ends (λ o. (o.0, (o.1, (o.2, (o.3, (o.4, (o.5, o.6))))))) (pair_ends I.lawful (ends_more c.1 (ends_more c.2
-        (ends_more c.3 (ends_more c.4 (ends_more c.5 e.1))))) (P.reads p.0 k.0 c.0.0) (pair_ends I.lawful (ends_more c.2 (ends_more c.3 (ends_more
-        c.4 (ends_more c.5 e.1)))) (Q.reads p.1 k.1.0 c.0.1) (pair_ends I.lawful (ends_more c.3 (ends_more c.4 (ends_more c.5 e.1))) (R.reads p.2
-        k.1.1.0 c.0.2) (pair_ends I.lawful (ends_more c.4 (ends_more c.5 e.1)) (S.reads p.3 k.1.1.1.0 c.0.3) (pair_ends I.lawful (ends_more c.5 e.1)
-        (T.reads p.4 k.1.1.1.1.0 c.0.4) (pair_ends I.lawful e.1 (U.reads p.5 k.1.1.1.1.1.0 c.0.5) (V.ends p.6 k.1.1.1.1.1.1 c.0.6 e.0))))))) };
+    ghost ends = { λ p k c e. tuple_ends (λ o. (o.0, (o.1, (o.2, (o.3, (o.4, (o.5, o.6))))))) (pair_ends I.lawful (ends_more (P.MayFollow p.0) c.1
+        (ends_more (Q.MayFollow p.1) c.2 (ends_more (R.MayFollow p.2) c.3 (ends_more (S.MayFollow p.3) c.4 (ends_more (T.MayFollow p.4) c.5 e.1)))))
+        (P.reads p.0 k.0 c.0.0) (pair_ends I.lawful (ends_more (Q.MayFollow p.1) c.2 (ends_more (R.MayFollow p.2) c.3 (ends_more (S.MayFollow p.3)
+        c.4 (ends_more (T.MayFollow p.4) c.5 e.1)))) (Q.reads p.1 k.1.0 c.0.1) (pair_ends I.lawful (ends_more (R.MayFollow p.2) c.3 (ends_more
+        (S.MayFollow p.3) c.4 (ends_more (T.MayFollow p.4) c.5 e.1))) (R.reads p.2 k.1.1.0 c.0.2) (pair_ends I.lawful (ends_more (S.MayFollow p.3)
+        c.4 (ends_more (T.MayFollow p.4) c.5 e.1)) (S.reads p.3 k.1.1.1.0 c.0.3) (pair_ends I.lawful (ends_more (T.MayFollow p.4) c.5 e.1) (T.reads
+        p.4 k.1.1.1.1.0 c.0.4) (pair_ends I.lawful e.1 (U.reads p.5 k.1.1.1.1.1.0 c.0.5) (V.ends p.6 k.1.1.1.1.1.1 c.0.6 e.0))))))) };
 }
 
 impl<
@@ -245,11 +250,13 @@ impl<
 > Ending<I> for (P, Q, R, S, T, U, V, W) {
     ghost MayEnd = { λ p. W.MayEnd p.7 × ((b : W.Output) (ys : List I.Item) → W.Form p.7 b ys → V.MayFollow p.6 ys) };
 
-    ghost ends = { λ p k c e. tuple_ends (λ o. (o.0, (o.1, (o.2, (o.3, (o.4, (o.5, (o.6, o.7)))))))) (pair_ends I.lawful (ends_more c.1 (ends_more
-        c.2 (ends_more c.3 (ends_more c.4 (ends_more c.5 (ends_more c.6 e.1)))))) (P.reads p.0 k.0 c.0.0) (pair_ends I.lawful (ends_more c.2
-        (ends_more c.3 (ends_more c.4 (ends_more c.5 (ends_more c.6 e.1))))) (Q.reads p.1 k.1.0 c.0.1) (pair_ends I.lawful (ends_more c.3 (ends_more
-        c.4 (ends_more c.5 (ends_more c.6 e.1)))) (R.reads p.2 k.1.1.0 c.0.2) (pair_ends I.lawful (ends_more c.4 (ends_more c.5 (ends_more c.6 e.1)))
-        (S.reads p.3 k.1.1.1.0 c.0.3) (pair_ends I.lawful (ends_more c.5 (ends_more c.6 e.1)) (T.reads p.4 k.1.1.1.1.0 c.0.4) (pair_ends I.lawful
-        (ends_more c.6 e.1) (U.reads p.5 k.1.1.1.1.1.0 c.0.5) (pair_ends I.lawful e.1 (V.reads p.6 k.1.1.1.1.1.1.0 c.0.6) (W.ends p.7 k.1.1.1.1.1.1.1
-        c.0.7 e.0)))))))) };
+    ghost ends = { λ p k c e. tuple_ends (λ o. (o.0, (o.1, (o.2, (o.3, (o.4, (o.5, (o.6, o.7)))))))) (pair_ends I.lawful (ends_more (P.MayFollow p.0)
+        c.1 (ends_more (Q.MayFollow p.1) c.2 (ends_more (R.MayFollow p.2) c.3 (ends_more (S.MayFollow p.3) c.4 (ends_more (T.MayFollow p.4) c.5
+        (ends_more (U.MayFollow p.5) c.6 e.1)))))) (P.reads p.0 k.0 c.0.0) (pair_ends I.lawful (ends_more (Q.MayFollow p.1) c.2 (ends_more
+        (R.MayFollow p.2) c.3 (ends_more (S.MayFollow p.3) c.4 (ends_more (T.MayFollow p.4) c.5 (ends_more (U.MayFollow p.5) c.6 e.1))))) (Q.reads
+        p.1 k.1.0 c.0.1) (pair_ends I.lawful (ends_more (R.MayFollow p.2) c.3 (ends_more (S.MayFollow p.3) c.4 (ends_more (T.MayFollow p.4) c.5
+        (ends_more (U.MayFollow p.5) c.6 e.1)))) (R.reads p.2 k.1.1.0 c.0.2) (pair_ends I.lawful (ends_more (S.MayFollow p.3) c.4 (ends_more
+        (T.MayFollow p.4) c.5 (ends_more (U.MayFollow p.5) c.6 e.1))) (S.reads p.3 k.1.1.1.0 c.0.3) (pair_ends I.lawful (ends_more (T.MayFollow p.4)
+        c.5 (ends_more (U.MayFollow p.5) c.6 e.1)) (T.reads p.4 k.1.1.1.1.0 c.0.4) (pair_ends I.lawful (ends_more (U.MayFollow p.5) c.6 e.1) (U.reads
+        p.5 k.1.1.1.1.1.0 c.0.5) (pair_ends I.lawful e.1 (V.reads p.6 k.1.1.1.1.1.1.0 c.0.6) (W.ends p.7 k.1.1.1.1.1.1.1 c.0.7 e.0)))))))) };
 }

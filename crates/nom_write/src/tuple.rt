@@ -1,4 +1,5 @@
 //! Tuples of two to eight members. A form is one of the first member, followed by one of the others.
+ghost use Rattle.nom_internal.specs.Sequence.{pair_of};
 ghost use Rattle.nom_write.specs.laws.LeadLaws.{both_leads, pair_leads, tuple_leads};
 ghost use Rattle.nom_sink.specs.Parts.{Both, BothFail, Meets};
 ghost use Rattle.nom_write.specs.laws.SequenceReads.{meets_more, pair_reads, tuple_reads};
@@ -38,7 +39,7 @@ impl<I: Items, P: Writer<I>, Q: Writer<I, Error = P::Error>> Writer<I> for (P, Q
 
     ghost reads = { λ p k c. tuple_reads (λ o. (o.0, o.1)) (pair_reads I.lawful c.1 (P.reads p.0 k.0 c.0.0) (Q.reads p.1 k.1 c.0.1)) };
 
-    ghost leads = { λ p. both_leads (tuple_leads (pair_leads (P.leads p.0) _) (λ o. (o.0, o.1))) };
+    ghost leads = { λ p. both_leads (tuple_leads (pair_leads (P.leads p.0) (Q.grammar (Q.state p.1))) (λ o. (o.0, o.1))) };
 }
 
 impl<I: Items, P: Writer<I>, Q: Writer<I, Error = P::Error>, R: Writer<I, Error = P::Error>> Writer<
@@ -72,10 +73,11 @@ impl<I: Items, P: Writer<I>, Q: Writer<I, Error = P::Error>, R: Writer<I, Error 
         .put(out)
     }
 
-    ghost reads = { λ p k c. tuple_reads (λ o. (o.0, (o.1, o.2))) (pair_reads I.lawful (meets_more c.1 c.2) (P.reads p.0 k.0 c.0.0) (pair_reads
-        I.lawful c.2 (Q.reads p.1 k.1.0 c.0.1) (R.reads p.2 k.1.1 c.0.2))) };
+    ghost reads = { λ p k c. tuple_reads (λ o. (o.0, (o.1, o.2))) (pair_reads I.lawful (meets_more (P.MayFollow p.0) c.1 c.2) (P.reads p.0 k.0 c.0.0)
+        (pair_reads I.lawful c.2 (Q.reads p.1 k.1.0 c.0.1) (R.reads p.2 k.1.1 c.0.2))) };
 
-    ghost leads = { λ p. both_leads (tuple_leads (pair_leads (P.leads p.0) _) (λ o. (o.0, (o.1, o.2)))) };
+    ghost leads = { λ p. both_leads (tuple_leads (pair_leads (P.leads p.0) (pair_of I.model (Q.grammar (Q.state p.1)) (R.grammar (R.state p.2)))) (λ
+        o. (o.0, (o.1, o.2)))) };
 }
 
 impl<
@@ -118,11 +120,12 @@ impl<
         .put(out)
     }
 
-    ghost reads = { λ p k c. tuple_reads (λ o. (o.0, (o.1, (o.2, o.3)))) (pair_reads I.lawful (meets_more c.1 (meets_more c.2 c.3)) (P.reads p.0 k.0
-        c.0.0) (pair_reads I.lawful (meets_more c.2 c.3) (Q.reads p.1 k.1.0 c.0.1) (pair_reads I.lawful c.3 (R.reads p.2 k.1.1.0 c.0.2) (S.reads p.3
-        k.1.1.1 c.0.3)))) };
+    ghost reads = { λ p k c. tuple_reads (λ o. (o.0, (o.1, (o.2, o.3)))) (pair_reads I.lawful (meets_more (P.MayFollow p.0) c.1 (meets_more
+        (Q.MayFollow p.1) c.2 c.3)) (P.reads p.0 k.0 c.0.0) (pair_reads I.lawful (meets_more (Q.MayFollow p.1) c.2 c.3) (Q.reads p.1 k.1.0 c.0.1)
+        (pair_reads I.lawful c.3 (R.reads p.2 k.1.1.0 c.0.2) (S.reads p.3 k.1.1.1 c.0.3)))) };
 
-    ghost leads = { λ p. both_leads (tuple_leads (pair_leads (P.leads p.0) _) (λ o. (o.0, (o.1, (o.2, o.3))))) };
+    ghost leads = { λ p. both_leads (tuple_leads (pair_leads (P.leads p.0) (pair_of I.model (Q.grammar (Q.state p.1)) (pair_of I.model (R.grammar
+        (R.state p.2)) (S.grammar (S.state p.3))))) (λ o. (o.0, (o.1, (o.2, o.3))))) };
 }
 
 impl<
@@ -170,11 +173,13 @@ impl<
         .put(out)
     }
 
-    ghost reads = { λ p k c. tuple_reads (λ o. (o.0, (o.1, (o.2, (o.3, o.4))))) (pair_reads I.lawful (meets_more c.1 (meets_more c.2 (meets_more c.3
-        c.4))) (P.reads p.0 k.0 c.0.0) (pair_reads I.lawful (meets_more c.2 (meets_more c.3 c.4)) (Q.reads p.1 k.1.0 c.0.1) (pair_reads I.lawful
-        (meets_more c.3 c.4) (R.reads p.2 k.1.1.0 c.0.2) (pair_reads I.lawful c.4 (S.reads p.3 k.1.1.1.0 c.0.3) (T.reads p.4 k.1.1.1.1 c.0.4))))) };
+    ghost reads = { λ p k c. tuple_reads (λ o. (o.0, (o.1, (o.2, (o.3, o.4))))) (pair_reads I.lawful (meets_more (P.MayFollow p.0) c.1 (meets_more
+        (Q.MayFollow p.1) c.2 (meets_more (R.MayFollow p.2) c.3 c.4))) (P.reads p.0 k.0 c.0.0) (pair_reads I.lawful (meets_more (Q.MayFollow p.1) c.2
+        (meets_more (R.MayFollow p.2) c.3 c.4)) (Q.reads p.1 k.1.0 c.0.1) (pair_reads I.lawful (meets_more (R.MayFollow p.2) c.3 c.4) (R.reads p.2
+        k.1.1.0 c.0.2) (pair_reads I.lawful c.4 (S.reads p.3 k.1.1.1.0 c.0.3) (T.reads p.4 k.1.1.1.1 c.0.4))))) };
 
-    ghost leads = { λ p. both_leads (tuple_leads (pair_leads (P.leads p.0) _) (λ o. (o.0, (o.1, (o.2, (o.3, o.4)))))) };
+    ghost leads = { λ p. both_leads (tuple_leads (pair_leads (P.leads p.0) (pair_of I.model (Q.grammar (Q.state p.1)) (pair_of I.model (R.grammar
+        (R.state p.2)) (pair_of I.model (S.grammar (S.state p.3)) (T.grammar (T.state p.4)))))) (λ o. (o.0, (o.1, (o.2, (o.3, o.4)))))) };
 }
 
 impl<
@@ -235,13 +240,16 @@ impl<
         .put(out)
     }
 
-    ghost reads = { λ p k c. tuple_reads (λ o. (o.0, (o.1, (o.2, (o.3, (o.4, o.5)))))) (pair_reads I.lawful (meets_more c.1 (meets_more c.2
-        (meets_more c.3 (meets_more c.4 c.5)))) (P.reads p.0 k.0 c.0.0) (pair_reads I.lawful (meets_more c.2 (meets_more c.3 (meets_more c.4 c.5)))
-        (Q.reads p.1 k.1.0 c.0.1) (pair_reads I.lawful (meets_more c.3 (meets_more c.4 c.5)) (R.reads p.2 k.1.1.0 c.0.2) (pair_reads I.lawful
-        (meets_more c.4 c.5) (S.reads p.3 k.1.1.1.0 c.0.3) (pair_reads I.lawful c.5 (T.reads p.4 k.1.1.1.1.0 c.0.4) (U.reads p.5 k.1.1.1.1.1
-        c.0.5)))))) };
+    ghost reads = { λ p k c. tuple_reads (λ o. (o.0, (o.1, (o.2, (o.3, (o.4, o.5)))))) (pair_reads I.lawful (meets_more (P.MayFollow p.0) c.1
+        (meets_more (Q.MayFollow p.1) c.2 (meets_more (R.MayFollow p.2) c.3 (meets_more (S.MayFollow p.3) c.4 c.5)))) (P.reads p.0 k.0 c.0.0)
+        (pair_reads I.lawful (meets_more (Q.MayFollow p.1) c.2 (meets_more (R.MayFollow p.2) c.3 (meets_more (S.MayFollow p.3) c.4 c.5))) (Q.reads
+        p.1 k.1.0 c.0.1) (pair_reads I.lawful (meets_more (R.MayFollow p.2) c.3 (meets_more (S.MayFollow p.3) c.4 c.5)) (R.reads p.2 k.1.1.0 c.0.2)
+        (pair_reads I.lawful (meets_more (S.MayFollow p.3) c.4 c.5) (S.reads p.3 k.1.1.1.0 c.0.3) (pair_reads I.lawful c.5 (T.reads p.4 k.1.1.1.1.0
+        c.0.4) (U.reads p.5 k.1.1.1.1.1 c.0.5)))))) };
 
-    ghost leads = { λ p. both_leads (tuple_leads (pair_leads (P.leads p.0) _) (λ o. (o.0, (o.1, (o.2, (o.3, (o.4, o.5))))))) };
+    ghost leads = { λ p. both_leads (tuple_leads (pair_leads (P.leads p.0) (pair_of I.model (Q.grammar (Q.state p.1)) (pair_of I.model (R.grammar
+        (R.state p.2)) (pair_of I.model (S.grammar (S.state p.3)) (pair_of I.model (T.grammar (T.state p.4)) (U.grammar (U.state p.5))))))) (λ o.
+        (o.0, (o.1, (o.2, (o.3, (o.4, o.5))))))) };
 }
 
 impl<
@@ -309,14 +317,18 @@ impl<
         .put(out)
     }
 
-    ghost reads = { λ p k c. tuple_reads (λ o. (o.0, (o.1, (o.2, (o.3, (o.4, (o.5, o.6))))))) (pair_reads I.lawful (meets_more c.1 (meets_more c.2
-        (meets_more c.3 (meets_more c.4 (meets_more c.5 c.6))))) (P.reads p.0 k.0 c.0.0) (pair_reads I.lawful (meets_more c.2 (meets_more c.3
-        (meets_more c.4 (meets_more c.5 c.6)))) (Q.reads p.1 k.1.0 c.0.1) (pair_reads I.lawful (meets_more c.3 (meets_more c.4 (meets_more c.5 c.6)))
-        (R.reads p.2 k.1.1.0 c.0.2) (pair_reads I.lawful (meets_more c.4 (meets_more c.5 c.6)) (S.reads p.3 k.1.1.1.0 c.0.3) (pair_reads I.lawful
-        (meets_more c.5 c.6) (T.reads p.4 k.1.1.1.1.0 c.0.4) (pair_reads I.lawful c.6 (U.reads p.5 k.1.1.1.1.1.0 c.0.5) (V.reads p.6 k.1.1.1.1.1.1
+    ghost reads = { λ p k c. tuple_reads (λ o. (o.0, (o.1, (o.2, (o.3, (o.4, (o.5, o.6))))))) (pair_reads I.lawful (meets_more (P.MayFollow p.0) c.1
+        (meets_more (Q.MayFollow p.1) c.2 (meets_more (R.MayFollow p.2) c.3 (meets_more (S.MayFollow p.3) c.4 (meets_more (T.MayFollow p.4) c.5
+        c.6))))) (P.reads p.0 k.0 c.0.0) (pair_reads I.lawful (meets_more (Q.MayFollow p.1) c.2 (meets_more (R.MayFollow p.2) c.3 (meets_more
+        (S.MayFollow p.3) c.4 (meets_more (T.MayFollow p.4) c.5 c.6)))) (Q.reads p.1 k.1.0 c.0.1) (pair_reads I.lawful (meets_more (R.MayFollow p.2)
+        c.3 (meets_more (S.MayFollow p.3) c.4 (meets_more (T.MayFollow p.4) c.5 c.6))) (R.reads p.2 k.1.1.0 c.0.2) (pair_reads I.lawful (meets_more
+        (S.MayFollow p.3) c.4 (meets_more (T.MayFollow p.4) c.5 c.6)) (S.reads p.3 k.1.1.1.0 c.0.3) (pair_reads I.lawful (meets_more (T.MayFollow
+        p.4) c.5 c.6) (T.reads p.4 k.1.1.1.1.0 c.0.4) (pair_reads I.lawful c.6 (U.reads p.5 k.1.1.1.1.1.0 c.0.5) (V.reads p.6 k.1.1.1.1.1.1
         c.0.6))))))) };
 
-    ghost leads = { λ p. both_leads (tuple_leads (pair_leads (P.leads p.0) _) (λ o. (o.0, (o.1, (o.2, (o.3, (o.4, (o.5, o.6)))))))) };
+    ghost leads = { λ p. both_leads (tuple_leads (pair_leads (P.leads p.0) (pair_of I.model (Q.grammar (Q.state p.1)) (pair_of I.model (R.grammar
+        (R.state p.2)) (pair_of I.model (S.grammar (S.state p.3)) (pair_of I.model (T.grammar (T.state p.4)) (pair_of I.model (U.grammar (U.state
+        p.5)) (V.grammar (V.state p.6)))))))) (λ o. (o.0, (o.1, (o.2, (o.3, (o.4, (o.5, o.6)))))))) };
 }
 
 impl<
@@ -391,13 +403,18 @@ impl<
         .put(out)
     }
 
-    ghost reads = { λ p k c. tuple_reads (λ o. (o.0, (o.1, (o.2, (o.3, (o.4, (o.5, (o.6, o.7)))))))) (pair_reads I.lawful (meets_more c.1 (meets_more
-        c.2 (meets_more c.3 (meets_more c.4 (meets_more c.5 (meets_more c.6 c.7)))))) (P.reads p.0 k.0 c.0.0) (pair_reads I.lawful (meets_more c.2
-        (meets_more c.3 (meets_more c.4 (meets_more c.5 (meets_more c.6 c.7))))) (Q.reads p.1 k.1.0 c.0.1) (pair_reads I.lawful (meets_more c.3
-        (meets_more c.4 (meets_more c.5 (meets_more c.6 c.7)))) (R.reads p.2 k.1.1.0 c.0.2) (pair_reads I.lawful (meets_more c.4 (meets_more c.5
-        (meets_more c.6 c.7))) (S.reads p.3 k.1.1.1.0 c.0.3) (pair_reads I.lawful (meets_more c.5 (meets_more c.6 c.7)) (T.reads p.4 k.1.1.1.1.0
-        c.0.4) (pair_reads I.lawful (meets_more c.6 c.7) (U.reads p.5 k.1.1.1.1.1.0 c.0.5) (pair_reads I.lawful c.7 (V.reads p.6 k.1.1.1.1.1.1.0
-        c.0.6) (W.reads p.7 k.1.1.1.1.1.1.1 c.0.7)))))))) };
+    ghost reads = { λ p k c. tuple_reads (λ o. (o.0, (o.1, (o.2, (o.3, (o.4, (o.5, (o.6, o.7)))))))) (pair_reads I.lawful (meets_more (P.MayFollow
+        p.0) c.1 (meets_more (Q.MayFollow p.1) c.2 (meets_more (R.MayFollow p.2) c.3 (meets_more (S.MayFollow p.3) c.4 (meets_more (T.MayFollow p.4)
+        c.5 (meets_more (U.MayFollow p.5) c.6 c.7)))))) (P.reads p.0 k.0 c.0.0) (pair_reads I.lawful (meets_more (Q.MayFollow p.1) c.2 (meets_more
+        (R.MayFollow p.2) c.3 (meets_more (S.MayFollow p.3) c.4 (meets_more (T.MayFollow p.4) c.5 (meets_more (U.MayFollow p.5) c.6 c.7))))) (Q.reads
+        p.1 k.1.0 c.0.1) (pair_reads I.lawful (meets_more (R.MayFollow p.2) c.3 (meets_more (S.MayFollow p.3) c.4 (meets_more (T.MayFollow p.4) c.5
+        (meets_more (U.MayFollow p.5) c.6 c.7)))) (R.reads p.2 k.1.1.0 c.0.2) (pair_reads I.lawful (meets_more (S.MayFollow p.3) c.4 (meets_more
+        (T.MayFollow p.4) c.5 (meets_more (U.MayFollow p.5) c.6 c.7))) (S.reads p.3 k.1.1.1.0 c.0.3) (pair_reads I.lawful (meets_more (T.MayFollow
+        p.4) c.5 (meets_more (U.MayFollow p.5) c.6 c.7)) (T.reads p.4 k.1.1.1.1.0 c.0.4) (pair_reads I.lawful (meets_more (U.MayFollow p.5) c.6 c.7)
+        (U.reads p.5 k.1.1.1.1.1.0 c.0.5) (pair_reads I.lawful c.7 (V.reads p.6 k.1.1.1.1.1.1.0 c.0.6) (W.reads p.7 k.1.1.1.1.1.1.1 c.0.7)))))))) };
 
-    ghost leads = { λ p. both_leads (tuple_leads (pair_leads (P.leads p.0) _) (λ o. (o.0, (o.1, (o.2, (o.3, (o.4, (o.5, (o.6, o.7))))))))) };
+    ghost leads = { λ p. both_leads (tuple_leads (pair_leads (P.leads p.0) (pair_of I.model (Q.grammar (Q.state p.1)) (pair_of I.model (R.grammar
+        (R.state p.2)) (pair_of I.model (S.grammar (S.state p.3)) (pair_of I.model (T.grammar (T.state p.4)) (pair_of I.model (U.grammar (U.state
+        p.5)) (pair_of I.model (V.grammar (V.state p.6)) (W.grammar (W.state p.7))))))))) (λ o. (o.0, (o.1, (o.2, (o.3, (o.4, (o.5, (o.6,
+        o.7))))))))) };
 }

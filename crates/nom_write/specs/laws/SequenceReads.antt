@@ -99,7 +99,7 @@ module _ {I A V W O P E : Type 0} {w : Model I A} (l : InputLaws w) {g : Grammar
   }
 
 -- what may follow a first part, where a second and a third do
-module _ {T O P : Type 0} {First Mid : List T → Type 0} {Form : O → List T → Type 0} {Next : P → List T → Type 0}
+module _ {T O P : Type 0} (First : List T → Type 0) {Mid : List T → Type 0} {Form : O → List T → Type 0} {Next : P → List T → Type 0}
     (meets : Meets First (λ ys. (b : O) × Form b ys) Mid) where
   pub meets_more : {Last : List T → Type 0} → Meets Mid (λ ys. (b : P) × Next b ys) Last →
       Meets First (λ ys. (b : O × P) × Both (Form b.0) (Next b.1) ys) Last
