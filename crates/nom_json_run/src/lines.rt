@@ -5,7 +5,6 @@ ghost use Rattle.std.specs.List.{before_first};
 ghost use Rattle.nom_internal.specs.Prelude.{bytes_model, Slice};
 ghost use Rattle.nom_located.specs.Lines.{begins_character};
 ghost use Rattle.nom_run.specs.Stream.{MatchRunError, NoWriteFailed, WriteFailed, WroteFront};
-ghost use Rattle.nom_stream.specs.Streams.{IsOpen};
 ghost use Rattle.nom_json_run.specs.Lines.{BeginsLine, BeginsNext, IsFaultLine, IsLine, IsOctetsLine, IsUnread, LacksNext};
 ghost use Rattle.nom_json_run.specs.Lines.{ListsLine, ReadsNoLine, ToldLines, fault_line, json_line_of, line_len, long_line};
 
@@ -283,8 +282,6 @@ pub fn tell_lines<R: Read, A: Allocator + Copy, W: Sink>(
     stream: &mut Stream<R, A>,
     sink: &mut W,
 ) -> Result<u8, RunError>
-    requires { IsOpen R.remaining stream.old }
-    ensures open { IsOpen R.remaining stream.new }
     ensures status { IfOk result (λ status. ToldLines R.remaining stream.old stream.new (W.held sink.old) (W.held sink.new) status
         × NoWriteFailed (W.failures sink.old) (W.failures sink.new) (W.stalls sink.old) (W.stalls sink.new)) }
     ensures error { IfErr result (λ e. MatchRunError e

@@ -3,7 +3,6 @@ ghost use Rattle.std.specs.Prelude.{◌≡◌, ◌++◌, ◌-◌, ◌^◌, ◌<�
 ghost use Rattle.std.specs.Io.KnownBytes.{Appends};
 ghost use Rattle.nom_run.specs.Pieces.{BeganText, HasRoom, WroteBut};
 ghost use Rattle.nom_run.specs.Stream.{MatchRunError, NoWriteFailed, WriteFailed};
-ghost use Rattle.nom_stream.specs.Streams.{IsOpen};
 ghost use Rattle.nom_messages_run.specs.Pipe.{LacksRoom, WroteAll, WroteLines, WroteSome, ending_status, ending_text, received_text};
 ghost use Rattle.example_streams.specs.Messages.{message_of};
 
@@ -117,9 +116,7 @@ pub fn tell_items<R: Read, A: Allocator + Copy, G: Grammar<Item = Received>, W: 
     sink: &mut W,
 ) -> Result<u8, RunError>
     requires runs { (G.grammar (G.state grammar.old)).meaning.Runs }
-    requires open { IsOpen R.remaining stream.old }
     ensures kept { G.state grammar.new ≡ G.state grammar.old }
-    ensures open { IsOpen R.remaining stream.new }
     ensures status { IfOk result (λ status. WroteAll R.remaining (G.grammar (G.state grammar.old))
         stream.old stream.new (W.held sink.old) (W.held sink.new) status
         × NoWriteFailed (W.failures sink.old) (W.failures sink.new) (W.stalls sink.old) (W.stalls sink.new)) }
@@ -157,8 +154,6 @@ pub fn tell_messages<R: Read, A: Allocator + Copy, W: Sink>(
     stream: &mut Stream<R, A>,
     sink: &mut W,
 ) -> Result<u8, RunError>
-    requires { IsOpen R.remaining stream.old }
-    ensures open { IsOpen R.remaining stream.new }
     ensures status { IfOk result (λ status. WroteAll R.remaining message_of
         stream.old stream.new (W.held sink.old) (W.held sink.new) status
         × NoWriteFailed (W.failures sink.old) (W.failures sink.new) (W.stalls sink.old) (W.stalls sink.new)) }

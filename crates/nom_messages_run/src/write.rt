@@ -5,9 +5,7 @@ ghost use Rattle.nom_messages_run.specs.Sent.{HaltsLine, Says, SendsMessage, Sen
 ghost use Rattle.nom_messages_run.specs.Sent.{WhyNoBody, WhyUnframed, WhyUnmade, WhyUnsent, halt_by, halt_for, halt_text, unsent_of};
 ghost use Rattle.example_streams.specs.declared.protocol.Message.{Message};
 ghost use Rattle.nom_messages_run.specs.Sent as Sent;
-ghost use Rattle.nom_stream.specs.Streams.{IsOpen};
 ghost use Rattle.nom_write_stream.specs.Outgoing.{IsItem, Sends};
-ghost use Rattle.nom_write_stream.specs.Outgoing as Outgoings;
 ghost use Rattle.nom_write_stream.specs.Targets.{NoFault};
 
 use crate::typed::typed;
@@ -116,8 +114,6 @@ fn write_frame<'a, W: Write, A: Allocator>(
     outgoing: &mut Outgoing<W, A>,
     body: &'a [u8],
 ) -> Result<(), Unwritten>
-    requires open { Outgoings.IsOpen outgoing.old }
-    ensures open { Outgoings.IsOpen outgoing.new }
     ensures sent { IfOk result (λ _. (xs : List ℕ) × IsItem (IsFrame body.now) outgoing.old.most xs ×
         Sends W.contents outgoing.old outgoing.new xs × NoFault outgoing.old.target outgoing.new.target) }
     ensures error { IfErr result (λ why. SendsNone W.contents outgoing.old outgoing.new ×
@@ -134,8 +130,6 @@ pub fn write_message<W: Write, A: Allocator, B: Allocator>(
     room: &mut Vec<u8, B>,
     message: Message<'_>,
 ) -> Result<(), Unsent>
-    requires open { Outgoings.IsOpen outgoing.old }
-    ensures open { Outgoings.IsOpen outgoing.new }
     ensures sent { IfOk result (λ _. SendsMessage W.contents outgoing.old outgoing.new message.entry ×
         (body_len message.entry ≤ vec_capacity room.new)) }
     ensures error { IfErr result (λ why. SendsNone W.contents outgoing.old outgoing.new ×
@@ -175,8 +169,6 @@ fn write_line<W: Write, A: Allocator, B: Allocator>(
     number: u64,
     line: &[u8],
 ) -> Option<Halt>
-    requires open { Outgoings.IsOpen outgoing.old }
-    ensures open { Outgoings.IsOpen outgoing.new }
     ensures sent { MatchOption result ((m : Message) × Says line.now m × SendsMessage W.contents outgoing.old outgoing.new m ×
         (body_len m ≤ vec_capacity room.new)) (λ h. SendsNone W.contents outgoing.old outgoing.new ×
         HaltsLine (vec_capacity room.old) outgoing.old outgoing.new line.now number h) }
@@ -223,10 +215,6 @@ fn write_each<R: Read, A: Allocator + Copy, W: Write, B: Allocator>(
     stream: &mut Stream<R, A>,
     outgoing: &mut Outgoing<W, B>,
 ) -> Halt
-    requires stream { IsOpen R.remaining stream.old }
-    requires open { Outgoings.IsOpen outgoing.old }
-    ensures stream { IsOpen R.remaining stream.new }
-    ensures open { Outgoings.IsOpen outgoing.new }
     ensures sent { SentUntil R.remaining W.contents stream.old outgoing.old result stream.new outgoing.new }
 {
     let mut grammar = Lines;
@@ -271,10 +259,6 @@ pub fn write_lines<R: Read, A: Allocator + Copy, W: Write, B: Allocator>(
     stream: &mut Stream<R, A>,
     outgoing: &mut Outgoing<W, B>,
 ) -> Halt
-    requires stream { IsOpen R.remaining stream.old }
-    requires open { Outgoings.IsOpen outgoing.old }
-    ensures stream { IsOpen R.remaining stream.new }
-    ensures open { Outgoings.IsOpen outgoing.new }
     ensures sent { SentBefore R.remaining W.contents stream.old outgoing.old result stream.new outgoing.new }
 {
     let halt = write_each(alloc, stream, outgoing);

@@ -6,7 +6,8 @@ use Rattle.nom_sink.specs.declared.error.WriteError.{WriteError}
 use Rattle.nom_sink.specs.declared.error.WriteError.TheVariants as Write
 use Rattle.nom_sink.specs.Written.{Space}
 use Rattle.nom_sink.specs.Written.Lack.{OfSpace}
-use Rattle.nom_write_stream.specs.Outgoing.{AreBytes, IsItem, NoRoom, told_of}
+use Rattle.nom_write_stream.specs.Outgoing.{AreBytes, IsItem, NoRoom}
+use Rattle.nom_write_stream.specs.Told.{told_of}
 use Rattle.nom_write_stream.proofs.Everywhere.{values_after}
 
 full : (e : WriteError) (start : ℕ) → told_of e start ≡ None → e ≡ Write.Full

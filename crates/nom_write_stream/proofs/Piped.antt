@@ -10,7 +10,7 @@ use Rattle.nom_stream.specs.declared.stream.Stop.TheVariants as Stopped
 use Rattle.nom_stream.specs.declared.stream.Stream.{Stream}
 use Rattle.nom_stream.specs.Held.{held_of}
 use Rattle.nom_stream.specs.Items.{Bytes, IsUndecided}
-use Rattle.nom_stream.specs.Streams.{Answers, Ends, Gives, Tells, Told}
+use Rattle.nom_stream.specs.Streams.{Answers, Ends, EndsAsReader, Gives, Tells, Told}
 use Rattle.nom_stream.specs.Streams.Answers.{Decided, AtEnd, Full, Faulted, Lacking}
 use Rattle.nom_stream.specs.Streams.Ends.{Clean, Within, Completed}
 use Rattle.nom_stream.specs.Wholes.{Calls, HasLeft}
@@ -59,11 +59,15 @@ consumes_known (Some a) None xs given e h = absurd h
 consumes_known (Some a) (Some b) xs given e h = let same : a ≡ xs = cc (e) in (b, refl, sym same ∙ h)
 
 -- what was read is among the bytes that no item had, before and after
-left_read : {R A : Type 0} (left : R → Option (List ℕ)) (s u : Stream R A) (given xs : List ℕ) → Gives left s u given → HasLeft left s xs →
-    HasLeft left u xs
-left_read left s u given xs g h =
-    let c = consumes_known (left s.source.inner) (left u.source.inner) h.0 given h.1 g.consumed in
-    (c.0, c.1, h.2 ∙ (ap (λ z. held_of s.held ++ z) c.2 ∙ (sym (append_assoc (held_of s.held) given c.0) ∙ ap (λ z. z ++ c.0) (sym g.added))))
+left_read : {R A : Type 0} (left : R → Option (List ℕ)) (s u : Stream R A) (given xs : List ℕ) → Gives left s u given →
+    (EndsAsReader left s → EndsAsReader left u) → HasLeft left s xs → HasLeft left u xs
+left_read left s u given xs g ends h =
+    let c = consumes_known (left s.source.inner) (left u.source.inner) h.0 given h.1 g.consumed in (
+      c.0,
+      c.1,
+      h.2 ∙ (ap (λ z. held_of s.held ++ z) c.2 ∙ (sym (append_assoc (held_of s.held) given c.0) ∙ ap (λ z. z ++ c.0) (sym g.added))),
+      λ e. end_known (left u.source.inner) c.0 c.1 (ends (λ f. subst IsAtEnd (sym h.1) (h.3 f)) e),
+    )
 
 abbrev input_of : List ℕ → Bytes
 input_of xs = record { ref_ptr = (0, 0); now = xs }
@@ -261,9 +265,8 @@ module _ {V O : Type 0} (view : View O) (Pins : Type 0) (g : Grammar Bytes V O (
 
     -- what the reader has left stays so, where nothing is read
     still_left : (u t : Stream R A) (after xs : List ℕ) → t.source ≡ u.source → left u.source.inner ≡ Some after →
-        held_of t.held ++ after ≡ xs →
-        HasLeft left t xs
-    still_left u t after xs same there e = (after, ap (λ z. left z.inner) same ∙ there, sym e)
+        (t.ended ≡ true → after ≡ []) → held_of t.held ++ after ≡ xs → HasLeft left t xs
+    still_left u t after xs same there ends e = (after, ap (λ z. left z.inner) same ∙ there, sym e, ends)
 
     tells : (vs : List O) (xs : List ℕ) (rs : List (Told O)) (s t : Stream R A) → Each IsIt vs xs → HasLeft left s xs → Calls left g rs s t →
         s.settings.most ≡ limit → TellingWithin limit vs rs
@@ -273,24 +276,25 @@ module _ {V O : Type 0} (view : View O) (Pins : Type 0) (g : Grammar Bytes V O (
         let mid = c.0 in
         let d = c.1 in
         let u = d.filled in
-        let then = left_read left s u d.reads.given xs d.reads.gives has in
+        let then = left_read left s u d.reads.given xs d.reads.gives d.at_end has in
         let none : held_of u.held ≡ [] = nil (held_of u.held) (omega (arith, ap length then.2, ap length h, length-append (held_of u.held) then.0)) in
         let over : then.0 ≡ [] = nil then.0 (omega (arith, ap length then.2, ap length h, length-append (held_of u.held) then.0)) in
         no_item u mid none r rs (ap (λ z. z.most) d.settings.0 ∙ m) (ending_tells u mid first form item none r d.answers)
-        (λ e. tells [] [] rs mid t refl (still_left u mid then.0 [] d.source then.1 (ap (λ z. z ++ then.0) e ∙ over)) c.2
+        (λ e. tells [] [] rs mid t refl (still_left u mid then.0 [] d.source then.1 (λ f. then.3 (sym d.ended ∙ f)) (ap (λ z. z ++ then.0) e ∙ over)) c.2
         (ap (λ z. z.most) d.settings.1 ∙ m))
     tells (v ∷ vs) xs (r ∷ rs) s t h has c m =
         let mid = c.0 in
         let d = c.1 in
         let u = d.filled in
-        let then = left_read left s u d.reads.given xs d.reads.gives has in
+        let then = left_read left s u d.reads.given xs d.reads.gives d.at_end has in
         let e : held_of u.held ++ then.0 ≡ h.front ++ h.back = sym then.2 ∙ h.whole in
-        let ends : u.ended ≡ true → then.0 ≡ [] = λ f. end_known (left u.source.inner) then.0 then.1 (d.open_then.at_end f) in
+        let ends : u.ended ≡ true → then.0 ≡ [] = then.3 in
+        let ends_there : mid.ended ≡ true → then.0 ≡ [] = λ f. then.3 (sym d.ended ∙ f) in
         let limit_there = ap (λ z. z.most) d.settings.1 ∙ m in
         one_item u mid v h.front then.0 h.back h.first e ends vs r rs (ap (λ z. z.most) d.settings.0 ∙ m)
         (answer_tells u mid v h.front h.first then.0 h.back e ends r d.answers)
-        (λ z. tells vs h.back rs mid t h.second (still_left u mid then.0 h.back d.source then.1 z) c.2 limit_there)
-        (λ z. tells (v ∷ vs) xs rs mid t h (still_left u mid then.0 xs d.source then.1 (z ∙ sym h.whole)) c.2 limit_there)
+        (λ z. tells vs h.back rs mid t h.second (still_left u mid then.0 h.back d.source then.1 ends_there z) c.2 limit_there)
+        (λ z. tells (v ∷ vs) xs rs mid t h (still_left u mid then.0 xs d.source then.1 ends_there (z ∙ sym h.whole)) c.2 limit_there)
 
 -- what was appended to known bytes
 appended : (a b : Option (List ℕ)) (before taken written : List ℕ) → a ≡ Some before → b ≡ Some (before ++ taken) → Appends a b written →

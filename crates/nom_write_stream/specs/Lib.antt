@@ -1,3 +1,4 @@
 pub mod Outgoing
 pub mod Pipes
 pub mod Targets
+pub mod Told

@@ -1,7 +1,7 @@
 -- What becomes of items: each is held or written, whole and in its turn.
 use Rattle.std.specs.Prelude.{◌≡◌, ℕ, ◌+◌, ◌-◌, ◌^◌, ◌<◌, ◌≤◌, ◌⊎◌, Bool, true, false, List, [], ◌++◌, length, take}
-use Rattle.std.specs.Prelude.{Option, Some, None, Result, Ok, Err}
-use Rattle.std.specs.Prelude.{vec_capacity, get_or}
+use Rattle.std.specs.Prelude.{Option, Result, Ok, Err}
+use Rattle.std.specs.Prelude.{get_or}
 use Rattle.std.specs.Io.KnownBytes.{Appends}
 use Rattle.std_io.specs.declared.io.error.Error.{Error}
 use Rattle.nom_internal.specs.Prelude.{AreValues}
@@ -19,11 +19,6 @@ use Rattle.nom_write_stream.specs.Targets.{NoFault, OneFault, one_more}
 -- the bytes that aren't written yet
 abbrev pub held_of : {W A : Type 0} → Outgoing W A → List ℕ
 held_of o = o.held.bytes.items
-
--- no more bytes are held than may be, and these need no more memory
-pub record IsOpen {W A : Type 0} (o : Outgoing W A) : Type 0 where
-  pub bounded : length (held_of o) ≤ o.most
-  pub room : o.most ≤ vec_capacity o.held.bytes
 
 -- they are bytes, and not more than an input can have
 abbrev pub AreBytes : List ℕ → Type 0
@@ -46,13 +41,6 @@ abbrev pub Flushes : {W A T : Type 0} → (a b : Outgoing W A) → Result T Erro
 Flushes a b (Ok x) = b.target.flushes ≡ one_more a.target.flushes
 Flushes a b (Err e) =
     ((held_of b ≡ []) × (b.target.flushes ≡ one_more a.target.flushes)) ⊎ ((0 < length (held_of b)) × (b.target.flushes ≡ a.target.flushes))
-
--- why an item isn't written that begins at a place of what is held; none where there is no room for it beside what is held
-abbrev pub told_of : WriteError → (start : ℕ) → Option Unwritten
-told_of Write.OutOfMemory start = Some OutOfMemory
-told_of Write.Full start = None
-told_of (Write.TooLong place) start = Some (TooLong (place - start))
-told_of (Write.Mismatch place) start = Some (Mismatch (place - start))
 
 module _ (Form : List ℕ → Type 0) (Fails : Space → WriteError → Type 0) (most : ℕ) where
   -- its writer fails with this error, where some bytes are held and there is room for the most that may be, or for more

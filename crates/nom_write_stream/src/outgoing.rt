@@ -1,7 +1,6 @@
 //! Items that are written one after another.
-ghost use Rattle.std.specs.Prelude.{◌≡◌, ◌<◌, [], IfErr, IfOk, OnErr, OnOk, length};
-ghost use Rattle.nom_write_stream.specs.Outgoing.{Adds, AddsAll, Fits, Flushes, IsOpen, Sends, held_of, told_of};
-ghost use Rattle.nom_write_stream.specs.Targets.{CountsWrite, IsLate};
+ghost use Rattle.std.specs.Prelude.{◌≡◌, ◌≤◌, length, vec_capacity};
+ghost use Rattle.nom_write_stream.specs.Told.{told_of};
 
 use crate::held::Held;
 use crate::target::Target;
@@ -50,6 +49,10 @@ pub struct Outgoing<W, A: Allocator> {
     pub held: Held<A>,
     /// The maximum number of bytes that are held. A longer item can't be written.
     pub most: usize,
+    /// No more bytes are held than may be.
+    pub ghost bounded: { length held.bytes.items ≤ most },
+    /// They never need more memory.
+    pub ghost room: { most ≤ vec_capacity held.bytes },
 }
 
 // Why an item that begins at `start` of the held bytes isn't written, or `None` if it has no room beside them.
@@ -65,11 +68,14 @@ fn why_of(error: WriteError, start: usize) -> Option<Unwritten>
 }
 
 impl<W: Write, A: Allocator> Outgoing<W, A> {
+    ghost use Rattle.std.specs.Prelude.{◌<◌, [], IfErr, IfOk, OnErr, OnOk};
+    ghost use Rattle.nom_write_stream.specs.Outgoing.{Adds, AddsAll, Fits, Flushes, Sends, held_of};
+    ghost use Rattle.nom_write_stream.specs.Targets.{CountsWrite, IsLate};
+
     /// Returns an empty buffer before `target`, and takes the memory for `most` bytes.
     pub fn new(alloc: A, target: W, most: usize) -> Result<Self, OutOfMemory>
     where
         W: Drop,
-        ensures open { IfOk result (λ new. IsOpen new) }
         ensures none { IfOk result (λ new. held_of new ≡ []) }
         ensures target { IfOk result (λ new. (new.target.inner ≡ target) × (new.target.faults ≡ 0)) }
         ensures most { IfOk result (λ new. new.most ≡ most) }
@@ -93,8 +99,6 @@ impl<W: Write, A: Allocator> Outgoing<W, A> {
         value: &P::Output,
     ) -> Result<bool, Unwritten>
         requires can { P.CanWrite writer.now }
-        requires open { IsOpen self.old }
-        ensures open { IsOpen self.new }
         ensures added { Fits self.old self.new (P.Form writer.now value.now) (P.Fails writer.now value.now) result }
         ensures others { (self.new.target ≡ self.old.target) × (self.new.most ≡ self.old.most) }
     {
@@ -122,8 +126,6 @@ impl<W: Write, A: Allocator> Outgoing<W, A> {
 
     // Writes the held bytes.
     fn send(&mut self) -> io::Result<()>
-        requires { IsOpen self.old }
-        ensures open { IsOpen self.new }
         ensures none { OnOk result (held_of self.new ≡ []) }
         ensures some { OnErr result (0 < length (held_of self.new)) }
         ensures sends { Sends W.contents self.old self.new [] }
@@ -147,8 +149,6 @@ impl<W: Write, A: Allocator> Outgoing<W, A> {
         value: &P::Output,
     ) -> Result<(), Unwritten>
         requires can { P.CanWrite writer.now }
-        requires open { IsOpen self.old }
-        ensures open { IsOpen self.new }
         ensures adds { Adds W.contents self.old self.new (P.Form writer.now value.now) (P.Fails writer.now value.now) result }
         ensures flushes { self.new.target.flushes ≡ self.old.target.flushes }
         ensures most { self.new.most ≡ self.old.most }
@@ -176,8 +176,6 @@ impl<W: Write, A: Allocator> Outgoing<W, A> {
         values: &[P::Output],
     ) -> Result<(), Halted>
         requires can { P.CanWrite writer.now }
-        requires open { IsOpen self.old }
-        ensures open { IsOpen self.new }
         ensures adds { AddsAll W.contents self.old self.new (P.Form writer.now) (P.Fails writer.now) values.now result }
         ensures flushes { self.new.target.flushes ≡ self.old.target.flushes }
         ensures most { self.new.most ≡ self.old.most }
@@ -193,8 +191,6 @@ impl<W: Write, A: Allocator> Outgoing<W, A> {
 
     /// Writes the held bytes, and flushes the writer, once. After a failed write the writer isn't flushed.
     pub fn flush(&mut self) -> io::Result<()>
-        requires { IsOpen self.old }
-        ensures open { IsOpen self.new }
         ensures none { OnOk result (held_of self.new ≡ []) }
         ensures flushed { Flushes self.old self.new result }
         ensures sends { Sends W.contents self.old self.new [] }

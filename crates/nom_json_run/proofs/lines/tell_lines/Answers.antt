@@ -7,7 +7,6 @@ use Rattle.nom_json_run.proofs.lines.tell_lines.Goals as goal
 
 pub loop-turn-init : goal.loop-turn-init
 loop-turn-init g c = record {
-  opened = c.requires;
   going = going_none g.R.Read.remaining c.args.stream.now (g.W.Sink.held c.args.sink.now);
   writes = (refl, refl);
 }
@@ -59,7 +58,6 @@ loop-turn-preserved g c =
     c.in-Ok-Some.inside z c.loop-turn.wrong c.in-Ok.next)
     c.last.ensures wrote.0 in
     record {
-      opened = c.in-Ok-Some.ensures.open;
       going = going_on g.R.Read.remaining c.args.stream.now c.loop-turn.stream c.next_item.new.self (g.W.Sink.held c.args.sink.now)
           (g.W.Sink.held c.loop-turn.sink) (g.W.Sink.held c.list.new.sink) c.loop-turn.turn c.in-Ok-Some.used c.in-Ok-Some.inside c.loop-turn.wrong
           c.in-Ok.next i.going d listed;

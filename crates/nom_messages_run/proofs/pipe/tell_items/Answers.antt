@@ -83,7 +83,6 @@ loop-turn-preserved g c =
       fresh = λ h. absurd (omega (arith, h, c.in-Ok.ensures.room.1));
       writes = none_then _ _ _ _ _ _ i.writes c.in-Ok.ensures.wrote.1;
       kept = c.in-Ok-Some.ensures.kept ∙ i.kept;
-      opened = c.in-Ok-Some.ensures.open;
       going = goes_on _ _ _ _ _ _ _ _ i.going c.next_item.new.self c.in-Ok-Some.used c.in-Ok-Some.message c.in-Ok-Some.field-0
           c.in-Ok-Some.field-0-is d _ _ wrote;
     }
@@ -116,6 +115,5 @@ loop-turn-init g c = record {
   fresh = λ h. (refl, refl);
   writes = (refl, refl);
   kept = refl;
-  opened = c.requires.open;
   going = none_yet _ _ _ _ _ c.new-room.ensures.items;
 }

@@ -9,8 +9,6 @@ use Rattle.nom_messages_run.proofs.write.write_each.Goals as goal
 
 pub loop-turn-init : goal.loop-turn-init
 loop-turn-init g c = record {
-  reads = c.requires.stream;
-  writes = c.requires.open;
   going = none_yet g.R.Read.remaining g.W.Write.contents c.args.stream.now c.args.outgoing.now _;
   flushes = refl;
 }
@@ -63,8 +61,6 @@ loop-turn-preserved g c =
     c.in-Ok-Some.ensures.decides in
     let sent = c.in-None.ensures.sent in
     record {
-      reads = c.in-Ok-Some.ensures.open;
-      writes = c.in-None.ensures.open;
       going = one_more g.R.Read.remaining g.W.Write.contents _ _ _ _ _ _ _ _ _ c.loop-turn.invariant.going c.inside-line.result.now sent.0
           (c.in-Ok-Some.used, c.in-Ok-Some.length, d, c.inside-line.ensures ∙ ap (λ z. take c.in-Ok-Some.length z) c.last.ensures)
           sent.1 sent.2 c.in-None.ensures.room sent.3;

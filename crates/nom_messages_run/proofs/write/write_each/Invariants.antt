@@ -1,13 +1,9 @@
 use Rattle.std.specs.Prelude.{◌≡◌, vec_capacity}
-use Rattle.nom_stream.specs.Streams.{IsOpen}
-use Rattle.nom_write_stream.specs.Outgoing as Outgoings
 use Rattle.nom_messages_run.proofs.Lines.{Going}
 use Rattle.nom_messages_run.proofs.write.write_each.Given as goal
 
 abbrev pub invariant-loop-turn : goal.invariant-loop-turn
 invariant-loop-turn g l = record {
-  reads : IsOpen g.R.Read.remaining l.stream;
-  writes : Outgoings.IsOpen l.outgoing;
   going : Going g.R.Read.remaining g.W.Write.contents l.fn.stream l.fn.outgoing l.turn (vec_capacity l.room) l.stream l.outgoing;
   flushes : l.outgoing.target.flushes ≡ l.fn.outgoing.target.flushes;
 }

@@ -1,6 +1,7 @@
 use Rattle.std.proofs.Common.{◌≡◌, ◌∙◌, None, length, arith, refl, subst, sym}
 use Rattle.nom_sink.proofs.Lists.{undone}
-use Rattle.nom_write_stream.specs.Outgoing.{AreBytes, told_of}
+use Rattle.nom_write_stream.specs.Outgoing.{AreBytes}
+use Rattle.nom_write_stream.specs.Told.{told_of}
 use Rattle.nom_write_stream.proofs.Adding.{added_item, no_room_now, too_long}
 use Rattle.nom_write_stream.proofs.outgoing.Outgoing.add.Goals as goal
 
@@ -33,5 +34,5 @@ returns-in-None-clause-added g c =
       w.0,
       no_room_now (g.P.Writer.Form c.args.writer.now c.args.value.now) (g.P.Writer.Fails c.args.writer.now c.args.value.now) c.args.self.now.most
           w.1.0 (length old.items) c.len-start.result c.in-Err.error told
-          (omega (arith, c.requires.open.room, w.1.1)) w.1.2,
+          (omega (arith, c.args.self.now.room, w.1.1)) w.1.2,
     )

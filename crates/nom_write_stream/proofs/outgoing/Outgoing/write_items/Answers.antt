@@ -13,7 +13,6 @@ pub loop-count-preserved : goal.loop-count-preserved
 loop-count-preserved g c =
     let i = c.loop-count.invariant in
     record {
-      opened = c.in-Ok.ensures.open;
       added = one_added g.W.Write.contents (g.P.Writer.Form c.args.writer.now) (g.P.Writer.Fails c.args.writer.now) c.args.values.now c.loop-count.count
           c.args.self.now c.loop-count.self c.write_item.new.self i.added i.most c.index-values-count.result c.loop-count-test.true
           c.index-values-count.is c.in-Ok.field-0 c.in-Ok.ensures.adds;
