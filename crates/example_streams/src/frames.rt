@@ -15,19 +15,20 @@ pub fn frame(input: &[u8]) -> IResult<&[u8], usize> {
     Ok((rest, data.len()))
 }
 
+const SETTINGS: Settings = Settings {
+    read: 4096,
+    most: 65537,
+    patient: false,
+    complete: false,
+};
+
 /// How many bytes the frames of a reader have, of at most that many frames.
 pub fn count_bytes<R: Read + Drop, A: Allocator + Copy>(
     alloc: A,
     source: R,
     most: usize,
 ) -> Result<usize, Stop> {
-    let settings = Settings {
-        read: 4096,
-        most: 65537,
-        patient: false,
-        complete: false,
-    };
-    let mut stream = Stream::new(alloc, source, settings);
+    let mut stream = Stream::new(alloc, source, SETTINGS);
     let mut count = 0usize;
     for _turn in 0..most {
         match stream.next_item(&mut item_func(frame)) {
@@ -37,4 +38,34 @@ pub fn count_bytes<R: Read + Drop, A: Allocator + Copy>(
         }
     }
     Ok(count)
+}
+
+/// How many bytes all frames of a reader have.
+pub fn count_all<R: Read + Drop, A: Allocator + Copy>(alloc: A, source: R) -> Result<usize, Stop> {
+    let mut stream = Stream::new(alloc, source, SETTINGS);
+    stream.fold_items(
+        &mut item_func(frame),
+        0usize,
+        |count, len| count.saturating_add(len),
+    )
+}
+
+/// Hands the bytes of each frame, after its length, to a function, and returns the number of frames.
+pub fn handle_frames<R: Read + Drop, A: Allocator + Copy, F: FnMut(&[u8]) + Drop>(
+    alloc: A,
+    source: R,
+    mut handle: F,
+) -> Result<u64, Stop>
+    requires { F.IsAlwaysCallable handle }
+{
+    let mut stream = Stream::new(alloc, source, SETTINGS);
+    for turn in 0..u64::MAX {
+        match stream.next_item(&mut item_func(frame)) {
+            // They are the last ones of the item's.
+            Ok(Some((used, len))) => handle(stream.last(len.min(used))),
+            Ok(None) => return Ok(turn),
+            Err(why) => return Err(why),
+        }
+    }
+    Ok(u64::MAX)
 }
