@@ -2,3 +2,4 @@ pub mod Brackets
 pub mod Codes
 pub mod Colors
 pub mod Field
+pub mod Steps

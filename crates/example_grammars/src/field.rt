@@ -2,6 +2,7 @@
 //!
 //! A contract says the grammar: whatever the function answers, it answers by that grammar, with the place of each refusal.
 ghost use Rattle.std.specs.Prelude.{◌≡◌, codes, false, true};
+ghost use Rattle.nom.specs.BitWords as Bits;
 ghost use Rattle.nom.specs.Bytes as Bytes;
 ghost use Rattle.nom.specs.Texts.{Parses, alpha1_of, alt_of, char_of, crlf_of, decimal_of, delimited_of, digit1_of, hex_digit1_of};
 ghost use Rattle.nom.specs.Texts.{escaped_of, is_not_of, line_ending_of, many0_of, not_line_ending_of, one_of_of, opt_of, or_of, pair_of, preceded_of};
@@ -9,17 +10,34 @@ ghost use Rattle.nom.specs.Texts.{recognize_of, separated_list0_of, separated_li
 ghost use Rattle.nom.specs.Texts.{tuple_of_four, tuple_of_three};
 ghost use Rattle.example_grammars.specs.Field.{is_more};
 
+use nom::bits::{bits, bool, take as take_bits};
 use nom::branch::alt;
 use nom::bytes::{escaped, is_not, tag, take, take_while_m_n};
 use nom::character::{
-    alpha1, char, crlf, digit1, hex_digit1, line_ending, not_line_ending, one_of, space0, u32, u64,
+    alpha1, char, crlf, digit1, hex_digit1, line_ending, not_line_ending, one_of, space0, u8, u32,
+    u64,
 };
 use nom::combinator::{opt, recognize};
+use nom::error::Error;
 use nom::multi::{length_data, many_till, many0, separated_list0, separated_list1};
 use nom::number::{be_u8, be_u16, be_u32};
 use nom::sequence::{delimited, pair, preceded, separated_pair, terminated};
 use nom::{IResult, Parser};
 use std::alloc::Global;
+
+/// An IPv4 address, as `192.168.0.1`.
+pub fn ipv4(input: &str) -> IResult<&str, (u8, u8, u8, u8)>
+    ensures { Parses (tuple_of_four (terminated_of (decimal_of 8) (char_of 46)) (terminated_of (decimal_of 8) (char_of 46))
+        (terminated_of (decimal_of 8) (char_of 46)) (decimal_of 8)) false input.entry result }
+{
+    (
+        terminated(u8(), char('.')),
+        terminated(u8(), char('.')),
+        terminated(u8(), char('.')),
+        u8(),
+    )
+        .parse_complete(input)
+}
 
 /// The numbers of a semantic version, as `1.0.12`.
 pub fn version(input: &str) -> IResult<&str, (u64, u64, u64)>
@@ -193,4 +211,14 @@ pub fn image_header(input: &[u8]) -> IResult<&[u8], (u32, u32, &[u8], u32)>
 {
     let fields = (be_u32(), be_u32(), take(5usize), be_u32());
     preceded(pair(be_u32(), tag("IHDR")), fields).parse(input)
+}
+
+/// The header of a WebSocket frame: whether it is the last, its reserved bits, its kind, whether it is masked, and its length.
+pub fn frame_header(input: &[u8]) -> IResult<&[u8], (bool, u8, u8, bool, u8)>
+    ensures { Bytes.Parses (Bits.bits_of (Bits.tuple_of_five Bits.bool_of (Bits.take_of 8 3) (Bits.take_of 8 4) Bits.bool_of (Bits.take_of 8 7)))
+        true input.entry result }
+{
+    let length = take_bits(7usize);
+    let last = bool::<_, Error<(&[u8], usize)>>();
+    bits((last, take_bits(3usize), take_bits(4usize), bool(), length)).parse(input)
 }

@@ -12,6 +12,7 @@ mod hex;
 pub mod lengths;
 pub mod own;
 mod promises;
+pub mod steps;
 pub mod words;
 
 pub use crate::bits::twelve_bits;

@@ -1,9 +1,8 @@
 //! More functions whose contracts are their grammars, over texts and over bytes.
 ghost use Rattle.std.specs.Prelude.{◌≡◌, codes, false};
 ghost use Rattle.nom.specs.Bytes as Bytes;
-ghost use Rattle.nom.specs.Texts.{Parses, alpha1_of, char_of, not_line_ending_of, preceded_of, separated_pair_of, space0_of, tag_no_case_of};
-ghost use Rattle.nom.specs.Texts.{take_until_of, terminated_of};
-ghost use Rattle.nom.specs.grammars.Texts as Open;
+ghost use Rattle.nom.specs.Texts.{Parses, alpha1_of, char_of, decimal_of, map_opt_of, none_of_of, not_line_ending_of, one_of_of, pair_of, preceded_of};
+ghost use Rattle.nom.specs.Texts.{satisfy_of, separated_pair_of, space0_of, tag_no_case_of, take_until_of, terminated_of, value_of};
 ghost use Rattle.example_grammars.specs.Codes.{bit_in, is_hash};
 
 use nom::bytes::{tag_no_case, take_until};
@@ -32,7 +31,7 @@ pub fn before_end(input: &str) -> IResult<&str, &str>
 
 /// A number, and a 1 after it where `k` or `M` follows.
 pub fn scaled(input: &str) -> IResult<&str, (u32, u8)>
-    ensures { Open.Parses (Open.pair_of (Open.decimal_of 32) (Open.value_of 1 (Open.one_of_of (codes "kM")))) false input.entry result }
+    ensures { Parses (pair_of (decimal_of 32) (value_of 1 (one_of_of (codes "kM")))) false input.entry result }
 {
     pair(u32(), value(1u8, one_of("kM"))).parse_complete(input)
 }
@@ -56,8 +55,9 @@ fn bit(c: char) -> Option<u32>
 }
 
 /// A binary digit after a hash sign.
+#[tactic(auto, using(nom::specs::Same::words))]
 pub fn numbered(input: &str) -> IResult<&str, u32>
-    ensures { Open.Parses (Open.preceded_of (Open.satisfy_of is_hash) (Open.map_opt_of bit_in (Open.none_of_of (codes "#")))) false input.entry result }
+    ensures { Parses (preceded_of (satisfy_of is_hash) (map_opt_of bit_in (none_of_of (codes "#")))) false input.entry result }
 {
     preceded(satisfy(hash), map_opt(none_of("#"), bit)).parse_complete(input)
 }
