@@ -15,19 +15,20 @@ pub fn frame(input: &[u8]) -> IResult<&[u8], usize> {
     Ok((rest, data.len()))
 }
 
+const SETTINGS: Settings = Settings {
+    read: 4096,
+    most: 65537,
+    patient: false,
+    complete: false,
+};
+
 /// How many bytes the frames of a reader have, of at most that many frames.
 pub fn count_bytes<R: Read + Drop, A: Allocator + Copy>(
     alloc: A,
     source: R,
     most: usize,
 ) -> Result<usize, Stop> {
-    let settings = Settings {
-        read: 4096,
-        most: 65537,
-        patient: false,
-        complete: false,
-    };
-    let mut stream = Stream::new(alloc, source, settings);
+    let mut stream = Stream::new(alloc, source, SETTINGS);
     let mut count = 0usize;
     for _turn in 0..most {
         match stream.next_item(&mut item_func(frame)) {
@@ -37,4 +38,14 @@ pub fn count_bytes<R: Read + Drop, A: Allocator + Copy>(
         }
     }
     Ok(count)
+}
+
+/// How many bytes all frames of a reader have.
+pub fn count_all<R: Read + Drop, A: Allocator + Copy>(alloc: A, source: R) -> Result<usize, Stop> {
+    let mut stream = Stream::new(alloc, source, SETTINGS);
+    stream.fold_items(
+        &mut item_func(frame),
+        0usize,
+        |count, len| count.saturating_add(len),
+    )
 }
