@@ -49,23 +49,3 @@ pub fn count_all<R: Read + Drop, A: Allocator + Copy>(alloc: A, source: R) -> Re
         |count, len| count.saturating_add(len),
     )
 }
-
-/// Hands the bytes of each frame, after its length, to a function, and returns the number of frames.
-pub fn handle_frames<R: Read + Drop, A: Allocator + Copy, F: FnMut(&[u8]) + Drop>(
-    alloc: A,
-    source: R,
-    mut handle: F,
-) -> Result<u64, Stop>
-    requires { F.IsAlwaysCallable handle }
-{
-    let mut stream = Stream::new(alloc, source, SETTINGS);
-    for turn in 0..u64::MAX {
-        match stream.next_item(&mut item_func(frame)) {
-            // They are the last ones of the item's.
-            Ok(Some((used, len))) => handle(stream.last(len.min(used))),
-            Ok(None) => return Ok(turn),
-            Err(why) => return Err(why),
-        }
-    }
-    Ok(u64::MAX)
-}
