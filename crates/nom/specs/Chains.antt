@@ -40,13 +40,31 @@ module _ {I A V U O P E : Type 0} (w : Model I A) (g : Grammar I V O E) (h : Gra
         (RunsOutNext (record { length = n; tree = v; rest = j; accepted = a; rest_is = d; fact = c }))
     then_on r (Parsed (Accept m u) b p) = Parsed (Accept (n + m) (v, u)) (record { first = Accept n v; answered = a; goes_on = (j, Accept m u, d, b, refl) })
         (p.0, (x, p.1), rest_rest w l i n j m p.0 d p.2, (q, p.3), ap (paired x) p.4)
-    then_on r (Parsed Refuse b p) = Parsed Refuse (record { first = Accept n v; answered = a; goes_on = (j, Refuse, d, b, refl) })
-        (p.0, BlamesNext (record { length = n; tree = v; rest = j; accepted = a; rest_is = d;
-          fact = record { outcome = Refuse; answered = b; kind_is = tt; fact = p.1 } }), ap (paired x) p.2)
+    then_on r (Parsed Refuse b p) = Parsed Refuse (record { first = Accept n v; answered = a; goes_on = (j, Refuse, d, b, refl) }) (
+      p.0,
+      BlamesNext (record {
+        length = n;
+        tree = v;
+        rest = j;
+        accepted = a;
+        rest_is = d;
+        fact = record { outcome = Refuse; answered = b; kind_is = tt; fact = p.1 };
+      }),
+      ap (paired x) p.2,
+    )
     then_on r (Parsed (Stop (Fails cause)) b p) = Parsed (Stop (Fails cause))
-        (record { first = Accept n v; answered = a; goes_on = (j, Stop (Fails cause), d, b, refl) })
-        (p.0, BlamesNext (record { length = n; tree = v; rest = j; accepted = a; rest_is = d;
-          fact = record { outcome = Stop (Fails cause); answered = b; kind_is = tt; fact = p.1 } }), ap (paired x) p.2)
+        (record { first = Accept n v; answered = a; goes_on = (j, Stop (Fails cause), d, b, refl) }) (
+          p.0,
+          BlamesNext (record {
+            length = n;
+            tree = v;
+            rest = j;
+            accepted = a;
+            rest_is = d;
+            fact = record { outcome = Stop (Fails cause); answered = b; kind_is = tt; fact = p.1 };
+          }),
+          ap (paired x) p.2,
+        )
     then_on r (Parsed (Stop (Needs k)) b p) = Parsed (Stop (Needs k))
         (record { first = Accept n v; answered = a; goes_on = (j, Stop (Needs k), d, b, refl) }) (p.0, p.1, ap (paired x) p.2)
 
@@ -72,8 +90,13 @@ module _ {I A V O F E : Type 0} (w : Model I A) (pairs : F → O) (g : Grammar I
   tuple_gives j f (ParseRanOut e c) = cc (e)
   tuple_gives j f (Parsed (Accept n v) a p) =
       let same : ◌≡◌ {A = I × O} (j, pairs f) (p.0, p.1) = cc (p.4) in
-      Parsed (Accept n v) a (j, f, subst (λ k. IsSuffixOf w i n k) (sym (ap (λ t. t.0) same)) p.2,
-      subst (λ y. g.IsOutput v y) (sym (ap (λ t. t.1) same)) p.3, refl)
+      Parsed (Accept n v) a (
+        j,
+        f,
+        subst (λ k. IsSuffixOf w i n k) (sym (ap (λ t. t.0) same)) p.2,
+        subst (λ y. g.IsOutput v y) (sym (ap (λ t. t.1) same)) p.3,
+        refl,
+      )
   tuple_gives j f (Parsed Refuse a p) = cc (p.2)
   tuple_gives j f (Parsed (Stop (Fails cause)) a p) = cc (p.2)
   tuple_gives j f (Parsed (Stop (Needs k)) a p) = cc (p.2)
@@ -89,8 +112,13 @@ module _ {I A V O F E : Type 0} (w : Model I A) (pairs : F → O) (g : Grammar I
   gives_tuple j f (ParseRanOut e c) = cc (e)
   gives_tuple j f (Parsed (Accept n v) a p) =
       let same : ◌≡◌ {A = I × F} (j, f) (p.0, p.1) = cc (p.4) in
-      Parsed (Accept n v) a (j, pairs f, subst (λ k. IsSuffixOf w i n k) (sym (ap (λ t. t.0) same)) p.2,
-      subst (λ y. g.IsOutput v (pairs y)) (sym (ap (λ t. t.1) same)) p.3, refl)
+      Parsed (Accept n v) a (
+        j,
+        pairs f,
+        subst (λ k. IsSuffixOf w i n k) (sym (ap (λ t. t.0) same)) p.2,
+        subst (λ y. g.IsOutput v (pairs y)) (sym (ap (λ t. t.1) same)) p.3,
+        refl,
+      )
   gives_tuple j f (Parsed Refuse a p) = cc (p.2)
   gives_tuple j f (Parsed (Stop (Fails cause)) a p) = cc (p.2)
   gives_tuple j f (Parsed (Stop (Needs k)) a p) = cc (p.2)
@@ -133,9 +161,13 @@ module _ {I A V O P E : Type 0} (w : Model I A) (Takes : O → Type 0) (Gives : 
   map_gives j x y q (ParseRanOut e c) = cc (e)
   map_gives j x y q (Parsed (Accept n v) a p) =
       let same : ◌≡◌ {A = I × O} (j, x) (p.0, p.1) = cc (p.4) in
-      Parsed (Accept n v) (record { at = i; at_is = refl; outcome = Accept n v; answered = a; fact = refl })
-      (j, y, subst (λ k. IsSuffixOf w i n k) (sym (ap (λ t. t.0) same)) p.2,
-      record { output = x; is_output = subst (λ o. g.IsOutput v o) (sym (ap (λ t. t.1) same)) p.3; given = q }, refl)
+      Parsed (Accept n v) (record { at = i; at_is = refl; outcome = Accept n v; answered = a; fact = refl }) (
+        j,
+        y,
+        subst (λ k. IsSuffixOf w i n k) (sym (ap (λ t. t.0) same)) p.2,
+        record { output = x; is_output = subst (λ o. g.IsOutput v o) (sym (ap (λ t. t.1) same)) p.3; given = q },
+        refl,
+      )
   map_gives j x y q (Parsed Refuse a p) = cc (p.2)
   map_gives j x y q (Parsed (Stop (Fails cause)) a p) = cc (p.2)
   map_gives j x y q (Parsed (Stop (Needs k)) a p) = cc (p.2)
@@ -208,10 +240,18 @@ module _ {I T A B C E : Type 0} (w : Model I T) (a : Word I A E) (b : Word I B E
     three_stop_later l j x e one more = stop_more w a (pair_of w b c) s i (λ o. (o.0, (o.1, o.2))) is_three (λ o. (o.0, o.1)) (is_two w b c) l j x e
         one more
 
-    pub three_give : InputLaws w → (j k : I) (x : A) (y : B) (z : C) → Answers w a s i (Ok (j, x)) → Answers w (tuple_of_two w b c) s j (Ok (k, (y,
-        z))) → Answers w (tuple_of_three w a b c) s i (Ok (k, (x, y, z)))
-    three_give l j k x y z one more = give_more w a (pair_of w b c) s i (λ o. (o.0, (o.1, o.2))) is_three (λ o. (o.0, o.1)) (is_two w b c) l j k (x,
-        y, z) (y, z) refl one more
+    pub three_give : InputLaws w → (j k : I) (x : A) (y : B) (z : C) → Answers w a s i (Ok (j, x)) → Answers w (tuple_of_two w b c) s j (Ok (
+      k,
+      (
+        y,
+        z,
+      ),
+    )) → Answers w (tuple_of_three w a b c) s i (Ok (k, (x, y, z)))
+    three_give l j k x y z one more = give_more w a (pair_of w b c) s i (λ o. (o.0, (o.1, o.2))) is_three (λ o. (o.0, o.1)) (is_two w b c) l j k (
+      x,
+      y,
+      z,
+    ) (y, z) refl one more
 
     pub three_map : InputLaws w → {P : Type 0} (Takes : A × B × C → Type 0) (Gives : A × B × C → P → Type 0) (j1 j2 k : I) (x : A) (y : B) (z : C) (t
         : P) → Answers w a s i (Ok (j1, x)) → Answers w b s j1 (Ok (j2, y)) → Answers w c s j2 (Ok (k, z)) → Gives (x, y, z) t → Answers w (map_of
@@ -230,13 +270,23 @@ module _ {I T A B C D E : Type 0} (w : Model I T) (a : Word I A E) (b : Word I B
 
     pub four_stop_later : InputLaws w → (j : I) (x : A) (e : Answer.Err E E Needed) → Answers w a s i (Ok (j, x)) → Answers w (tuple_of_three w b c
         d) s j (Err e) → Answers w (tuple_of_four w a b c d) s i (Err e)
-    four_stop_later l j x e one more = stop_more w a (pair_of w b (pair_of w c d)) s i (λ o. (o.0, (o.1, (o.2, o.3)))) is_four (λ o. (o.0, (o.1,
-        o.2))) (is_three w b c d) l j x e one more
+    four_stop_later l j x e one more = stop_more w a (pair_of w b (pair_of w c d)) s i (λ o. (o.0, (o.1, (o.2, o.3)))) is_four (λ o. (
+      o.0,
+      (
+        o.1,
+        o.2,
+      ),
+    )) (is_three w b c d) l j x e one more
 
     pub four_give : InputLaws w → (j k : I) (x : A) (y : B) (z : C) (u : D) → Answers w a s i (Ok (j, x)) → Answers w (tuple_of_three w b c d) s j
         (Ok (k, (y, z, u))) → Answers w (tuple_of_four w a b c d) s i (Ok (k, (x, y, z, u)))
-    four_give l j k x y z u one more = give_more w a (pair_of w b (pair_of w c d)) s i (λ o. (o.0, (o.1, (o.2, o.3)))) is_four (λ o. (o.0, (o.1,
-        o.2))) (is_three w b c d) l j k (x, y, z, u) (y, z, u) refl one more
+    four_give l j k x y z u one more = give_more w a (pair_of w b (pair_of w c d)) s i (λ o. (o.0, (o.1, (o.2, o.3)))) is_four (λ o. (
+      o.0,
+      (
+        o.1,
+        o.2,
+      ),
+    )) (is_three w b c d) l j k (x, y, z, u) (y, z, u) refl one more
 
     pub four_map : InputLaws w → {P : Type 0} (Takes : A × B × C × D → Type 0) (Gives : A × B × C × D → P → Type 0) (j1 j2 j3 k : I) (x : A) (y : B)
         (z : C) (u : D) (t : P) → Answers w a s i (Ok (j1, x)) → Answers w b s j1 (Ok (j2, y)) → Answers w c s j2 (Ok (j3, z)) → Answers w d s j3 (Ok
@@ -285,20 +335,51 @@ module _ {I T A B C D F G E : Type 0} (w : Model I T) (a : Word I A E) (b : Word
 
     pub six_stop_later : InputLaws w → (j : I) (x : A) (e : Answer.Err E E Needed) → Answers w a s i (Ok (j, x)) → Answers w (tuple_of_five w b c d f
         g) s j (Err e) → Answers w (tuple_of_six w a b c d f g) s i (Err e)
-    six_stop_later l j x e one more = stop_more w a (pair_of w b (pair_of w c (pair_of w d (pair_of w f g)))) s i (λ o. (o.0, (o.1, (o.2, (o.3, (o.4,
-        o.5)))))) is_six (λ o. (o.0, (o.1, (o.2, (o.3, o.4))))) (is_five w b c d f g) l j x e one more
+    six_stop_later l j x e one more = stop_more w a (pair_of w b (pair_of w c (pair_of w d (pair_of w f g)))) s i (λ o. (
+      o.0,
+      (
+        o.1,
+        (
+          o.2,
+          (
+            o.3,
+            (
+              o.4,
+              o.5,
+            ),
+          ),
+        ),
+      ),
+    )) is_six (λ o. (o.0, (o.1, (o.2, (o.3, o.4))))) (is_five w b c d f g) l j x e one more
 
     pub six_give : InputLaws w → (j k : I) (x : A) (y : B) (z : C) (u : D) (v : F) (p : G) → Answers w a s i (Ok (j, x)) → Answers w (tuple_of_five w
         b c d f g) s j (Ok (k, (y, z, u, v, p))) → Answers w (tuple_of_six w a b c d f g) s i (Ok (k, (x, y, z, u, v, p)))
-    six_give l j k x y z u v p one more = give_more w a (pair_of w b (pair_of w c (pair_of w d (pair_of w f g)))) s i (λ o. (o.0, (o.1, (o.2, (o.3,
-        (o.4, o.5)))))) is_six (λ o. (o.0, (o.1, (o.2, (o.3, o.4))))) (is_five w b c d f g) l j k (x, y, z, u, v, p) (y, z, u, v, p) refl one more
+    six_give l j k x y z u v p one more = give_more w a (pair_of w b (pair_of w c (pair_of w d (pair_of w f g)))) s i (λ o. (
+      o.0,
+      (
+        o.1,
+        (
+          o.2,
+          (
+            o.3,
+            (o.4, o.5),
+          ),
+        ),
+      ),
+    )) is_six (λ o. (o.0, (o.1, (o.2, (o.3, o.4))))) (is_five w b c d f g) l j k (x, y, z, u, v, p) (y, z, u, v, p) refl one more
 
     pub six_map : InputLaws w → {P : Type 0} (Takes : A × B × C × D × F × G → Type 0) (Gives : A × B × C × D × F × G → P → Type 0) (j1 j2 j3 j4 j5 k
         : I) (x : A) (y : B) (z : C) (u : D) (v : F) (p : G) (t : P) → Answers w a s i (Ok (j1, x)) → Answers w b s j1 (Ok (j2, y)) → Answers w c s
         j2 (Ok (j3, z)) → Answers w d s j3 (Ok (j4, u)) → Answers w f s j4 (Ok (j5, v)) → Answers w g s j5 (Ok (k, p)) → Gives (x, y, z, u, v, p) t →
         Answers w (map_of Takes Gives (tuple_of_six w a b c d f g)) s i (Ok (k, t))
-    six_map l Takes Gives j1 j2 j3 j4 j5 k x y z u v p t h1 h2 h3 h4 h5 h6 given = map_give w (tuple_of_six w a b c d f g) s i Takes Gives k (x, y,
-        z, u, v, p) t given (six_give l j1 k x y z u v p h1 (five_give w b c d f g s j1 l j2 k y z u v p h2 (four_give w c d f g s j2 l j3 k z u v p
+    six_map l Takes Gives j1 j2 j3 j4 j5 k x y z u v p t h1 h2 h3 h4 h5 h6 given = map_give w (tuple_of_six w a b c d f g) s i Takes Gives k (
+      x,
+      y,
+      z,
+      u,
+      v,
+      p,
+    ) t given (six_give l j1 k x y z u v p h1 (five_give w b c d f g s j1 l j2 k y z u v p h2 (four_give w c d f g s j2 l j3 k z u v p
         h3 (three_give w d f g s j3 l j4 k u v p h4 (two_give w f g s j4 l j5 k v p h5 h6)))))
 
 module _ {I T A B C D F G M E : Type 0} (w : Model I T) (a : Word I A E) (b : Word I B E) (c : Word I C E) (d : Word I D E) (f : Word I F E) (g :
@@ -310,23 +391,53 @@ module _ {I T A B C D F G M E : Type 0} (w : Model I T) (a : Word I A E) (b : Wo
 
   module _ (s : Bool) (i : I) where
     pub seven_stop : (e : Answer.Err E E Needed) → Answers w a s i (Err e) → Answers w (tuple_of_seven w a b c d f g m) s i (Err e)
-    seven_stop e one = stop_first w a (pair_of w b (pair_of w c (pair_of w d (pair_of w f (pair_of w g m))))) s i (λ o. (o.0, (o.1, (o.2, (o.3, (o.4,
-        (o.5, o.6))))))) is_seven e one
+    seven_stop e one = stop_first w a (pair_of w b (pair_of w c (pair_of w d (pair_of w f (pair_of w g m))))) s i (λ o. (
+      o.0,
+      (
+        o.1,
+        (
+          o.2,
+          (
+            o.3,
+            (
+              o.4,
+              (o.5, o.6),
+            ),
+          ),
+        ),
+      ),
+    )) is_seven e one
 
     pub seven_stop_later : InputLaws w → (j : I) (x : A) (e : Answer.Err E E Needed) → Answers w a s i (Ok (j, x)) → Answers w (tuple_of_six w b c d
         f g m) s j (Err e) → Answers w (tuple_of_seven w a b c d f g m) s i (Err e)
-    seven_stop_later l j x e one more = stop_more w a (pair_of w b (pair_of w c (pair_of w d (pair_of w f (pair_of w g m))))) s i (λ o. (o.0, (o.1,
-        (o.2, (o.3, (o.4, (o.5, o.6))))))) is_seven (λ o. (o.0, (o.1, (o.2, (o.3, (o.4, o.5)))))) (is_six w b c d f g m) l j x e one more
+    seven_stop_later l j x e one more = stop_more w a (pair_of w b (pair_of w c (pair_of w d (pair_of w f (pair_of w g m))))) s i (λ o. (
+      o.0,
+      (
+        o.1,
+        (o.2, (o.3, (o.4, (o.5, o.6)))),
+      ),
+    )) is_seven (λ o. (o.0, (o.1, (o.2, (o.3, (o.4, o.5)))))) (is_six w b c d f g m) l j x e one more
 
     pub seven_give : InputLaws w → (j k : I) (x : A) (y : B) (z : C) (u : D) (v : F) (p : G) (q : M) → Answers w a s i (Ok (j, x)) → Answers w
         (tuple_of_six w b c d f g m) s j (Ok (k, (y, z, u, v, p, q))) → Answers w (tuple_of_seven w a b c d f g m) s i (Ok (k, (x, y, z, u, v, p, q)))
-    seven_give l j k x y z u v p q one more = give_more w a (pair_of w b (pair_of w c (pair_of w d (pair_of w f (pair_of w g m))))) s i (λ o. (o.0,
-        (o.1, (o.2, (o.3, (o.4, (o.5, o.6))))))) is_seven (λ o. (o.0, (o.1, (o.2, (o.3, (o.4, o.5)))))) (is_six w b c d f g m) l j k (x, y, z, u, v,
-        p, q) (y, z, u, v, p, q) refl one more
+    seven_give l j k x y z u v p q one more = give_more w a (pair_of w b (pair_of w c (pair_of w d (pair_of w f (pair_of w g m))))) s i (λ o. (
+      o.0,
+      (o.1, (o.2, (o.3, (o.4, (o.5, o.6))))),
+    )) is_seven (λ o. (o.0, (o.1, (o.2, (o.3, (o.4, o.5)))))) (is_six w b c d f g m) l j k (
+      x,
+      y,
+      z,
+      u,
+      v,
+      p,
+      q,
+    ) (y, z, u, v, p, q) refl one more
 
     pub seven_map : InputLaws w → {P : Type 0} (Takes : A × B × C × D × F × G × M → Type 0) (Gives : A × B × C × D × F × G × M → P → Type 0) (j1 j2
-        j3 j4 j5 j6 k : I) (x : A) (y : B) (z : C) (u : D) (v : F) (p : G) (q : M) (t : P) → Answers w a s i (Ok (j1, x)) → Answers w b s j1 (Ok (j2,
-        y)) → Answers w c s j2 (Ok (j3, z)) → Answers w d s j3 (Ok (j4, u)) → Answers w f s j4 (Ok (j5, v)) → Answers w g s j5 (Ok (j6, p)) → Answers
+        j3 j4 j5 j6 k : I) (x : A) (y : B) (z : C) (u : D) (v : F) (p : G) (q : M) (t : P) → Answers w a s i (Ok (j1, x)) → Answers w b s j1 (Ok (
+          j2,
+          y,
+        )) → Answers w c s j2 (Ok (j3, z)) → Answers w d s j3 (Ok (j4, u)) → Answers w f s j4 (Ok (j5, v)) → Answers w g s j5 (Ok (j6, p)) → Answers
         w m s j6 (Ok (k, q)) → Gives (x, y, z, u, v, p, q) t → Answers w (map_of Takes Gives (tuple_of_seven w a b c d f g m)) s i (Ok (k, t))
     seven_map l Takes Gives j1 j2 j3 j4 j5 j6 k x y z u v p q t h1 h2 h3 h4 h5 h6 h7 given = map_give w (tuple_of_seven w a b c d f g m) s i Takes
         Gives k (x, y, z, u, v, p, q) t given (seven_give l j1 k x y z u v p q h1 (six_give w b c d f g m s j1 l j2 k y z u v p q h2 (five_give w c d
@@ -337,14 +448,39 @@ module _ {I T A B C D F G M N E : Type 0} (w : Model I T) (a : Word I A E) (b : 
     Word I G E) (m : Word I M E) (n : Word I N E) where
   is_eight : tuple_of_eight w a b c d f g m n ≡ tuple_of (λ o. (o.0, (o.1, (o.2, (o.3, (o.4, (o.5, (o.6, o.7)))))))) (pair_of w a (pair_of w b
       (pair_of w c (pair_of w d (pair_of w f (pair_of w g (pair_of w m n)))))))
-  is_eight = tuple_of_eight_worded w refl refl refl refl refl refl refl refl ∙ sym (tuple_worded (λ o. (o.0, (o.1, (o.2, (o.3, (o.4, (o.5, (o.6,
-      o.7)))))))) (pair_worded w refl (pair_worded w refl (pair_worded w refl (pair_worded w refl (pair_worded w refl (pair_worded w refl
+  is_eight = tuple_of_eight_worded w refl refl refl refl refl refl refl refl ∙ sym (tuple_worded (λ o. (
+    o.0,
+    (
+      o.1,
+      (
+        o.2,
+        (
+          o.3,
+          (
+            o.4,
+            (
+              o.5,
+              (
+                o.6,
+                o.7,
+              ),
+            ),
+          ),
+        ),
+      ),
+    ),
+  )) (pair_worded w refl (pair_worded w refl (pair_worded w refl (pair_worded w refl (pair_worded w refl (pair_worded w refl
       (pair_worded w refl refl))))))))
 
   module _ (s : Bool) (i : I) where
     pub eight_stop : (e : Answer.Err E E Needed) → Answers w a s i (Err e) → Answers w (tuple_of_eight w a b c d f g m n) s i (Err e)
-    eight_stop e one = stop_first w a (pair_of w b (pair_of w c (pair_of w d (pair_of w f (pair_of w g (pair_of w m n)))))) s i (λ o. (o.0, (o.1,
-        (o.2, (o.3, (o.4, (o.5, (o.6, o.7)))))))) is_eight e one
+    eight_stop e one = stop_first w a (pair_of w b (pair_of w c (pair_of w d (pair_of w f (pair_of w g (pair_of w m n)))))) s i (λ o. (
+      o.0,
+      (
+        o.1,
+        (o.2, (o.3, (o.4, (o.5, (o.6, o.7))))),
+      ),
+    )) is_eight e one
 
     pub eight_stop_later : InputLaws w → (j : I) (x : A) (e : Answer.Err E E Needed) → Answers w a s i (Ok (j, x)) → Answers w (tuple_of_seven w b c
         d f g m n) s j (Err e) → Answers w (tuple_of_eight w a b c d f g m n) s i (Err e)
@@ -353,8 +489,19 @@ module _ {I T A B C D F G M N E : Type 0} (w : Model I T) (a : Word I A E) (b : 
         n) l j x e one more
 
     pub eight_give : InputLaws w → (j k : I) (x : A) (y : B) (z : C) (u : D) (v : F) (p : G) (q : M) (r : N) → Answers w a s i (Ok (j, x)) → Answers
-        w (tuple_of_seven w b c d f g m n) s j (Ok (k, (y, z, u, v, p, q, r))) → Answers w (tuple_of_eight w a b c d f g m n) s i (Ok (k, (x, y, z,
-        u, v, p, q, r)))
+        w (tuple_of_seven w b c d f g m n) s j (Ok (k, (y, z, u, v, p, q, r))) → Answers w (tuple_of_eight w a b c d f g m n) s i (Ok (
+          k,
+          (
+            x,
+            y,
+            z,
+            u,
+            v,
+            p,
+            q,
+            r,
+          ),
+        ))
     eight_give l j k x y z u v p q r one more = give_more w a (pair_of w b (pair_of w c (pair_of w d (pair_of w f (pair_of w g (pair_of w m n)))))) s
         i (λ o. (o.0, (o.1, (o.2, (o.3, (o.4, (o.5, (o.6, o.7)))))))) is_eight (λ o. (o.0, (o.1, (o.2, (o.3, (o.4, (o.5, o.6))))))) (is_seven w b c d
         f g m n) l j k (x, y, z, u, v, p, q, r) (y, z, u, v, p, q, r) refl one more

@@ -50,8 +50,19 @@ module _ {I T E : Type 0} (w : Model I T) {A B C D F : Type 0} where
   tuple_of_five a b c d f = tuple_of (λ o. (o.0, (o.1, (o.2, (o.3, o.4))))) (pair_of w a (pair_of w b (pair_of w c (pair_of w d f))))
 
   module _ {a a' : Word I A E} {b b' : Word I B E} {c c' : Word I C E} {d d' : Word I D E} {f f' : Word I F E} where
-    pub tuple_of_five_worded : a ≡ a' → b ≡ b' → c ≡ c' → d ≡ d' → f ≡ f' → tuple_of_five a b c d f ≡ tuple_meant (λ o. (o.0, (o.1, (o.2, (o.3,
-        o.4))))) (pair_meant w a' (pair_meant w b' (pair_meant w c' (pair_meant w d' f'))))
+    pub tuple_of_five_worded : a ≡ a' → b ≡ b' → c ≡ c' → d ≡ d' → f ≡ f' → tuple_of_five a b c d f ≡ tuple_meant (λ o. (
+      o.0,
+      (
+        o.1,
+        (
+          o.2,
+          (
+            o.3,
+            o.4,
+          ),
+        ),
+      ),
+    )) (pair_meant w a' (pair_meant w b' (pair_meant w c' (pair_meant w d' f'))))
     unfolding tuple_of_five
     tuple_of_five_worded p1 p2 p3 p4 p5 = tuple_worded (λ o. (o.0, (o.1, (o.2, (o.3, o.4))))) (pair_worded w p1 (pair_worded w p2 (pair_worded w p3
         (pair_worded w p4 p5))))
@@ -67,8 +78,16 @@ module _ {I T E : Type 0} (w : Model I T) {A B C D F G : Type 0} where
       g)))))
 
   module _ {a a' : Word I A E} {b b' : Word I B E} {c c' : Word I C E} {d d' : Word I D E} {f f' : Word I F E} {g g' : Word I G E} where
-    pub tuple_of_six_worded : a ≡ a' → b ≡ b' → c ≡ c' → d ≡ d' → f ≡ f' → g ≡ g' → tuple_of_six a b c d f g ≡ tuple_meant (λ o. (o.0, (o.1, (o.2,
-        (o.3, (o.4, o.5)))))) (pair_meant w a' (pair_meant w b' (pair_meant w c' (pair_meant w d' (pair_meant w f' g')))))
+    pub tuple_of_six_worded : a ≡ a' → b ≡ b' → c ≡ c' → d ≡ d' → f ≡ f' → g ≡ g' → tuple_of_six a b c d f g ≡ tuple_meant (λ o. (
+      o.0,
+      (
+        o.1,
+        (
+          o.2,
+          (o.3, (o.4, o.5)),
+        ),
+      ),
+    )) (pair_meant w a' (pair_meant w b' (pair_meant w c' (pair_meant w d' (pair_meant w f' g')))))
     unfolding tuple_of_six
     tuple_of_six_worded p1 p2 p3 p4 p5 p6 = tuple_worded (λ o. (o.0, (o.1, (o.2, (o.3, (o.4, o.5)))))) (pair_worded w p1 (pair_worded w p2
         (pair_worded w p3 (pair_worded w p4 (pair_worded w p5 p6)))))
@@ -85,8 +104,10 @@ module _ {I T E : Type 0} (w : Model I T) {A B C D F G H : Type 0} where
 
   module _ {a a' : Word I A E} {b b' : Word I B E} {c c' : Word I C E} {d d' : Word I D E} {f f' : Word I F E} {g g' : Word I G E} {h h' : Word I H
       E} where
-    pub tuple_of_seven_worded : a ≡ a' → b ≡ b' → c ≡ c' → d ≡ d' → f ≡ f' → g ≡ g' → h ≡ h' → tuple_of_seven a b c d f g h ≡ tuple_meant (λ o. (o.0,
-        (o.1, (o.2, (o.3, (o.4, (o.5, o.6))))))) (pair_meant w a' (pair_meant w b' (pair_meant w c' (pair_meant w d' (pair_meant w f' (pair_meant w
+    pub tuple_of_seven_worded : a ≡ a' → b ≡ b' → c ≡ c' → d ≡ d' → f ≡ f' → g ≡ g' → h ≡ h' → tuple_of_seven a b c d f g h ≡ tuple_meant (λ o. (
+      o.0,
+      (o.1, (o.2, (o.3, (o.4, (o.5, o.6))))),
+    )) (pair_meant w a' (pair_meant w b' (pair_meant w c' (pair_meant w d' (pair_meant w f' (pair_meant w
         g' h'))))))
     unfolding tuple_of_seven
     tuple_of_seven_worded p1 p2 p3 p4 p5 p6 p7 = tuple_worded (λ o. (o.0, (o.1, (o.2, (o.3, (o.4, (o.5, o.6))))))) (pair_worded w p1 (pair_worded w

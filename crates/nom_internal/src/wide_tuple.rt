@@ -108,8 +108,7 @@ impl<
 
     ghost word = { λ s. Words.tuple_of_six I.model (A.word s.0) (B.word s.1) (C.word s.2) (D.word s.3) (E.word s.4) (F.word s.5) };
 
-    ghost worded = { λ s. Words.tuple_of_six_worded I.model (A.worded s.0) (B.worded s.1) (C.worded s.2) (D.worded s.3) (E.worded s.4) (F.worded s.5)
-        };
+    ghost worded = { λ s. Words.tuple_of_six_worded I.model (A.worded s.0) (B.worded s.1) (C.worded s.2) (D.worded s.3) (E.worded s.4) (F.worded s.5) };
 
     ghost Besides = { λ mode old new i. ThenBesides (A.Besides (with_outputs true mode) old.0 new.0 i) (λ j. ThenBesides (B.Besides (with_outputs
         true mode) old.1 new.1 j) (λ k. ThenBesides (C.Besides (with_outputs true mode) old.2 new.2 k) (λ l. ThenBesides (D.Besides (with_outputs
@@ -143,8 +142,22 @@ impl<
 > StreamParser<I> for (A, B, C, D, E, F) {
     ghost Pins = { λ p. A.Pins p.0 × B.Pins p.1 × C.Pins p.2 × D.Pins p.3 × E.Pins p.4 × F.Pins p.5 };
 
-    ghost pinned = { λ p k h. flat_pinned (λ v. (v.0, v.1.0, v.1.1.0, v.1.1.1.0, v.1.1.1.1.0, v.1.1.1.1.1)) (λ o. (o.0, (o.1, (o.2, (o.3, (o.4,
-        o.5)))))) (λ _. refl) (pair_pinned (A.pinned p.0 k.0 h.0) (pair_pinned (B.pinned p.1 k.1.0 h.1) (pair_pinned (C.pinned p.2 k.1.1.0 h.2)
+    ghost pinned = { λ p k h. flat_pinned (λ v. (v.0, v.1.0, v.1.1.0, v.1.1.1.0, v.1.1.1.1.0, v.1.1.1.1.1)) (λ o. (
+      o.0,
+      (
+        o.1,
+        (
+          o.2,
+          (
+            o.3,
+            (
+              o.4,
+              o.5,
+            ),
+          ),
+        ),
+      ),
+    )) (λ _. refl) (pair_pinned (A.pinned p.0 k.0 h.0) (pair_pinned (B.pinned p.1 k.1.0 h.1) (pair_pinned (C.pinned p.2 k.1.1.0 h.2)
         (pair_pinned (D.pinned p.3 k.1.1.1.0 h.3) (pair_pinned (E.pinned p.4 k.1.1.1.1.0 h.4) (F.pinned p.5 k.1.1.1.1.1 h.5)))))) };
 
     ghost steady = { λ s k. built_steady (pair_steady I.lawful (A.steady s.0 k.0) (pair_steady I.lawful (B.steady s.1 k.1.0) (pair_steady I.lawful
@@ -223,8 +236,16 @@ impl<
 > StreamParser<I> for (A, B, C, D, E, F, G) {
     ghost Pins = { λ p. A.Pins p.0 × B.Pins p.1 × C.Pins p.2 × D.Pins p.3 × E.Pins p.4 × F.Pins p.5 × G.Pins p.6 };
 
-    ghost pinned = { λ p k h. flat_pinned (λ v. (v.0, v.1.0, v.1.1.0, v.1.1.1.0, v.1.1.1.1.0, v.1.1.1.1.1.0, v.1.1.1.1.1.1)) (λ o. (o.0, (o.1, (o.2,
-        (o.3, (o.4, (o.5, o.6))))))) (λ _. refl) (pair_pinned (A.pinned p.0 k.0 h.0) (pair_pinned (B.pinned p.1 k.1.0 h.1) (pair_pinned (C.pinned p.2
+    ghost pinned = { λ p k h. flat_pinned (λ v. (v.0, v.1.0, v.1.1.0, v.1.1.1.0, v.1.1.1.1.0, v.1.1.1.1.1.0, v.1.1.1.1.1.1)) (λ o. (
+      o.0,
+      (
+        o.1,
+        (
+          o.2,
+          (o.3, (o.4, (o.5, o.6))),
+        ),
+      ),
+    )) (λ _. refl) (pair_pinned (A.pinned p.0 k.0 h.0) (pair_pinned (B.pinned p.1 k.1.0 h.1) (pair_pinned (C.pinned p.2
         k.1.1.0 h.2) (pair_pinned (D.pinned p.3 k.1.1.1.0 h.3) (pair_pinned (E.pinned p.4 k.1.1.1.1.0 h.4) (pair_pinned (F.pinned p.5 k.1.1.1.1.1.0
         h.5) (G.pinned p.6 k.1.1.1.1.1.1 h.6))))))) };
 

@@ -415,6 +415,26 @@ impl<
 
     ghost leads = { λ p. both_leads (tuple_leads (pair_leads (P.leads p.0) (pair_of I.model (Q.grammar (Q.state p.1)) (pair_of I.model (R.grammar
         (R.state p.2)) (pair_of I.model (S.grammar (S.state p.3)) (pair_of I.model (T.grammar (T.state p.4)) (pair_of I.model (U.grammar (U.state
-        p.5)) (pair_of I.model (V.grammar (V.state p.6)) (W.grammar (W.state p.7))))))))) (λ o. (o.0, (o.1, (o.2, (o.3, (o.4, (o.5, (o.6,
-        o.7))))))))) };
+        p.5)) (pair_of I.model (V.grammar (V.state p.6)) (W.grammar (W.state p.7))))))))) (λ o. (
+          o.0,
+          (
+            o.1,
+            (
+              o.2,
+              (
+                o.3,
+                (
+                  o.4,
+                  (
+                    o.5,
+                    (
+                      o.6,
+                      o.7,
+                    ),
+                  ),
+                ),
+              ),
+            ),
+          ),
+        ))) };
 }

@@ -25,8 +25,13 @@ pub returns-clause-shown : goal.returns-clause-shown
 returns-clause-shown g c =
     let l = g.met.I.Items.lawful in
     then_ok l c.in_ok-rest.ensures.shown (λ t1 b1. then_ok l c.in_ok-rest-2.ensures.shown (λ t2 b2. output_ok c.in_ok-rest-3.ensures.shown (λ t3 b3.
-    built_as _ _ _ c.built.ensures (some_fact ((g.A.Parser.grammar _).IsOutput t1) _ b1, (some_fact ((g.B.Parser.grammar _).IsOutput t2) _ b2,
-    some_fact ((g.C.Parser.grammar _).IsOutput t3) _ b3)))))
+    built_as _ _ _ c.built.ensures (
+      some_fact ((g.A.Parser.grammar _).IsOutput t1) _ b1,
+      (
+        some_fact ((g.B.Parser.grammar _).IsOutput t2) _ b2,
+        some_fact ((g.C.Parser.grammar _).IsOutput t3) _ b3,
+      ),
+    ))))
 
 pub returns-in_err-rest-clause-besides : goal.returns-in_err-rest-clause-besides
 returns-in_err-rest-clause-besides g c = Stopped c.in_err-rest.ensures.besides (ap rest_of (err_from_residual c.from_residual.ensures))

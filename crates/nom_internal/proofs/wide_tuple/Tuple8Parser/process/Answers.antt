@@ -59,10 +59,28 @@ returns-clause-shown g c =
     let l = g.met.I.Items.lawful in
     then_ok l c.in_ok-rest.ensures.shown (λ t1 b1. then_ok l c.in_ok-rest-2.ensures.shown (λ t2 b2. then_ok l c.in_ok-rest-3.ensures.shown (λ t3 b3.
     then_ok l c.in_ok-rest-4.ensures.shown (λ t4 b4. then_ok l c.in_ok-rest-5.ensures.shown (λ t5 b5. then_ok l c.in_ok-rest-6.ensures.shown (λ t6
-    b6. then_ok l c.in_ok-rest-7.ensures.shown (λ t7 b7. output_ok c.in_ok-rest-8.ensures.shown (λ t8 b8. built_as _ _ _ c.built.ensures (some_fact
-    ((g.A.Parser.grammar _).IsOutput t1) _ b1, (some_fact ((g.B.Parser.grammar _).IsOutput t2) _ b2, (some_fact ((g.C.Parser.grammar _).IsOutput t3)
-    _ b3, (some_fact ((g.D.Parser.grammar _).IsOutput t4) _ b4, (some_fact ((g.E.Parser.grammar _).IsOutput t5) _ b5, (some_fact ((g.F.Parser.grammar
-    _).IsOutput t6) _ b6, (some_fact ((g.G.Parser.grammar _).IsOutput t7) _ b7, some_fact ((g.H.Parser.grammar _).IsOutput t8) _ b8)))))))))))))))
+    b6. then_ok l c.in_ok-rest-7.ensures.shown (λ t7 b7. output_ok c.in_ok-rest-8.ensures.shown (λ t8 b8. built_as _ _ _ c.built.ensures (
+      some_fact
+          ((g.A.Parser.grammar _).IsOutput t1) _ b1,
+      (
+        some_fact ((g.B.Parser.grammar _).IsOutput t2) _ b2,
+        (
+          some_fact ((g.C.Parser.grammar _).IsOutput t3)
+              _ b3,
+          (
+            some_fact ((g.D.Parser.grammar _).IsOutput t4) _ b4,
+            (
+              some_fact ((g.E.Parser.grammar _).IsOutput t5) _ b5,
+              (
+                some_fact ((g.F.Parser.grammar
+                    _).IsOutput t6) _ b6,
+                (some_fact ((g.G.Parser.grammar _).IsOutput t7) _ b7, some_fact ((g.H.Parser.grammar _).IsOutput t8) _ b8),
+              ),
+            ),
+          ),
+        ),
+      ),
+    )))))))))
 
 pub returns-in_err-rest-clause-besides : goal.returns-in_err-rest-clause-besides
 returns-in_err-rest-clause-besides g c = Stopped c.in_err-rest.ensures.besides (ap rest_of (err_from_residual c.from_residual.ensures))
