@@ -52,12 +52,11 @@ word_of = word_by (codes "null") (codes "true") (codes "false")
 abbrev pub number_by : (minus : ℕ) (zero : List ℕ) (dot : ℕ) (marks signs : List ℕ) (mark_kind sign_kind : ErrorKind) → TextGrammar Part Json
 number_by minus zero dot marks signs mark_kind sign_kind = terminated_of
     (map_of Value.Number (sliced text_model (recognized_meaning text_model
-    (pair_meaning text_model (pair_meaning text_model (pair_meaning text_model
-    (opt_of (char_of minus)).meaning
-    (alt_of (or_of (tag_of zero) digit1_of)).meaning)
-    (opt_of (pair_of (char_of dot) digit1_of)).meaning)
-    (opt_meaning (pair_meaning text_model (pair_meaning text_model (one_by marks mark_kind).meaning (opt_of (one_by signs sign_kind)).meaning)
-    digit1_of.meaning)))))) spaces_of
+    (pair_meaning text_model (opt_of (char_of minus)).meaning
+    (pair_meaning text_model (alt_of (or_of (tag_of zero) digit1_of)).meaning
+    (pair_meaning text_model (opt_of (pair_of (char_of dot) digit1_of)).meaning
+    (opt_meaning (pair_meaning text_model (one_by marks mark_kind).meaning
+    (pair_meaning text_model (opt_of (one_by signs sign_kind)).meaning digit1_of.meaning))))))))) spaces_of
 
 abbrev pub number_of : TextGrammar Part Json
 number_of = number_by 45 (codes "0") 46 (codes "eE") (codes "+-") Kind.OneOf Kind.OneOf
