@@ -21,14 +21,14 @@ Pair = FuncAnswers text_model itself AnswersPair
 abbrev Two : Text → Outcome (ℕ × ℕ) → Type 0
 Two = Then text_model (λ u v. (u, v)) Pair (λ _. Pair)
 
-abbrev Three : Text → Outcome ((ℕ × ℕ) × ℕ) → Type 0
-Three = Then text_model (λ t v. (t, v)) Two (λ _. Pair)
+abbrev Three : Text → Outcome (ℕ × (ℕ × ℕ)) → Type 0
+Three = Then text_model (λ u t. (u, t)) Pair (λ _. Two)
 
 abbrev TwoBlames : Text → Error Text → Type 0
 TwoBlames = ThenBlames text_model Pair (FuncBlames text_model plain_errors AnswersPair) (λ _. Pair) (λ _. FuncBlames text_model plain_errors AnswersPair)
 
 abbrev ThreeBlames : Text → Error Text → Type 0
-ThreeBlames = ThenBlames text_model Two TwoBlames (λ _. Pair) (λ _. FuncBlames text_model plain_errors AnswersPair)
+ThreeBlames = ThenBlames text_model Pair (FuncBlames text_model plain_errors AnswersPair) (λ _. Two) (λ _. TwoBlames)
 
 abbrev RanOut : Text → Type 0
 RanOut i = FuncRunsOut text_model plain_errors AnswersPair i
@@ -37,11 +37,11 @@ abbrev TwoRunsOut : Text → Type 0
 TwoRunsOut = ThenRunsOut text_model Pair RanOut (λ _. RanOut)
 
 abbrev ThreeRunsOut : Text → Type 0
-ThreeRunsOut = ThenRunsOut text_model Two TwoRunsOut (λ _. RanOut)
+ThreeRunsOut = ThenRunsOut text_model Pair RanOut (λ _. TwoRunsOut)
 
 -- what the tuple of three answers at i
 abbrev pub TripleAnswer : Text → IResult Text (ℕ × ℕ × ℕ) (Error Text) → Type 0
-TripleAnswer i r = ParsesAnswer text_model (λ t o. PairOutput (PairOutput (IsViewed itself) (IsViewed itself)) (IsViewed itself) t ((o.0, o.1), o.2)) i
+TripleAnswer i r = ParsesAnswer text_model (λ t o. PairOutput (IsViewed itself) (PairOutput (IsViewed itself) (IsViewed itself)) t (o.0, (o.1, o.2))) i
     (Three i) (ThreeBlames i) (ThreeRunsOut i) r
 
 -- a pair that was read
@@ -89,28 +89,30 @@ record TwoRead (i j : Text) (n : ℕ) (t : ℕ × ℕ) : Type 0 where
   first : IsRead i middle t.0
   second : IsRead middle j t.1
 
-two_by : (i j : Text) (n : ℕ) (t : ℕ × ℕ) (b : Both text_model (λ u v. (u, v)) Pair (λ _. Pair) i n t) → IsSuffixOf text_model i n j → TwoRead i j n t
-two_by i j n t b r =
-    let first = read_by i b.rest b.size b.left b.first b.rest_is in
-    let second = last_read i b.rest j b.size b.more b.right b.rest_is b.next (subst (λ k. IsSuffixOf text_model i k j) b.length_is r) in
+-- the last two of three pairs
+two_last : (i j k : Text) (n m : ℕ) (t : ℕ × ℕ) → IsSuffixOf text_model i n j → (b : Both text_model (λ u v. (u, v)) Pair (λ _. Pair) j m t) →
+    IsSuffixOf text_model i (n + m) k → TwoRead j k m t
+two_last i j k n m t p b r =
+    let first = read_by j b.rest b.size b.left b.first b.rest_is in
+    let before = rest_rest text_model text_lawful i n j b.size b.rest p b.rest_is in
+    let whole : n + m ≡ (n + b.size) + b.more = omega (arith, b.length_is) in
+    let second = last_read i b.rest k (n + b.size) b.more b.right before b.next (subst (λ z. IsSuffixOf text_model i z k) whole r) in
     record {
       middle = b.rest;
-      first = subst (λ v. IsRead i b.rest v) (sym (ap (λ p. p.0) b.tree_is)) first;
-      second = subst (λ v. IsRead b.rest j v) (sym (ap (λ p. p.1) b.tree_is)) second;
+      first = subst (λ v. IsRead j b.rest v) (sym (ap (λ p. p.0) b.tree_is)) first;
+      second = subst (λ v. IsRead b.rest k v) (sym (ap (λ p. p.1) b.tree_is)) second;
     }
 
-two_read : (i j : Text) (n : ℕ) (t : ℕ × ℕ) → Two i (Accept n t) → IsSuffixOf text_model i n j → TwoRead i j n t
-two_read i j n t a r = two_by i j n t (both text_model (λ u v. (u, v)) Pair (λ _. Pair) i n t a) r
-
-three_by : (i j : Text) (n : ℕ) (t : (ℕ × ℕ) × ℕ) (b : Both text_model (λ t v. (t, v)) Two (λ _. Pair) i n t) → IsSuffixOf text_model i n j →
-    IsTriple i j (t.0.0, t.0.1, t.1)
+three_by : (i j : Text) (n : ℕ) (t : ℕ × (ℕ × ℕ)) (b : Both text_model (λ u t. (u, t)) Pair (λ _. Two) i n t) → IsSuffixOf text_model i n j →
+    IsTriple i j (t.0, t.1.0, t.1.1)
 three_by i j n t b r =
-    let two = two_read i b.rest b.size b.left b.first b.rest_is in
-    let third = last_read i b.rest j b.size b.more b.right b.rest_is b.next (subst (λ k. IsSuffixOf text_model i k j) b.length_is r) in
-    subst (λ p. IsTriple i j (p.0.0, p.0.1, p.1)) (sym b.tree_is) (color_by two.first two.second third)
+    let first = read_by i b.rest b.size b.left b.first b.rest_is in
+    let two = two_last i b.rest j b.size b.more b.right b.rest_is (both text_model (λ u v. (u, v)) Pair (λ _. Pair) b.rest b.more b.right b.next)
+    (subst (λ k. IsSuffixOf text_model i k j) b.length_is r) in
+    subst (λ p. IsTriple i j (p.0, p.1.0, p.1.1)) (sym b.tree_is) (color_by first two.first two.second)
 
-three_read : (i j : Text) (n : ℕ) (t : (ℕ × ℕ) × ℕ) → Three i (Accept n t) → IsSuffixOf text_model i n j → IsTriple i j (t.0.0, t.0.1, t.1)
-three_read i j n t a r = three_by i j n t (both text_model (λ t v. (t, v)) Two (λ _. Pair) i n t a) r
+three_read : (i j : Text) (n : ℕ) (t : ℕ × (ℕ × ℕ)) → Three i (Accept n t) → IsSuffixOf text_model i n j → IsTriple i j (t.0, t.1.0, t.1.1)
+three_read i j n t a r = three_by i j n t (both text_model (λ u t. (u, t)) Pair (λ _. Two) i n t a) r
 
 -- one is missing, with the error there
 pub record IsNoTriple (i : Text) (e : Error Text) : Type 0 where
@@ -151,44 +153,41 @@ none_third i j k u v e r q m = record {
   kind = m.kind;
 }
 
-two_none : (i : Text) (e : Error Text) → TwoBlames i e → IsNoTriple i e
-two_none i e (BlamesFirst x) = none_first i e (pair_missed i e x.fact)
-two_none i e (BlamesNext x) = none_second i x.rest x.tree e (read_by i x.rest x.length x.tree x.accepted x.rest_is) (pair_missed x.rest e x.fact.fact)
-
-third_none : (i j : Text) (n : ℕ) (t : ℕ × ℕ) (e : Error Text) → TwoRead i j n t → IsMissed j e → IsNoTriple i e
-third_none i j n t e r m = none_third i r.middle j t.0 t.1 e r.first r.second m
+two_none : (i j : Text) (v : ℕ) (e : Error Text) → IsRead i j v → TwoBlames j e → IsNoTriple i e
+two_none i j v e r (BlamesFirst x) = none_second i j v e r (pair_missed j e x.fact)
+two_none i j v e r (BlamesNext x) =
+    none_third i j x.rest v x.tree e r (read_by j x.rest x.length x.tree x.accepted x.rest_is) (pair_missed x.rest e x.fact.fact)
 
 three_none : (i : Text) (e : Error Text) → ThreeBlames i e → IsNoTriple i e
-three_none i e (BlamesFirst x) = two_none i e x.fact
-three_none i e (BlamesNext x) =
-    third_none i x.rest x.length x.tree e (two_read i x.rest x.length x.tree x.accepted x.rest_is) (pair_missed x.rest e x.fact.fact)
+three_none i e (BlamesFirst x) = none_first i e (pair_missed i e x.fact)
+three_none i e (BlamesNext x) = two_none i x.rest x.tree e (read_by i x.rest x.length x.tree x.accepted x.rest_is) x.fact.fact
 
 -- the tuple is plain, and takes no memory
-three_plain : (i : Text) (o : Outcome ((ℕ × ℕ) × ℕ)) → Three i o → IsPlain o
-three_plain i o a = sequence_plain text_model (λ t v. (t, v)) Two (λ _. Pair) i
-    (sequence_plain text_model (λ u v. (u, v)) Pair (λ _. Pair) i (pair_plain i) (λ u j. pair_plain j)) (λ u j. pair_plain j) o a
+three_plain : (i : Text) (o : Outcome (ℕ × (ℕ × ℕ))) → Three i o → IsPlain o
+three_plain i o a = sequence_plain text_model (λ u t. (u, t)) Pair (λ _. Two) i (pair_plain i)
+    (λ u j. sequence_plain text_model (λ u v. (u, v)) Pair (λ _. Pair) j (pair_plain j) (λ v k. pair_plain k)) o a
 
 two_frugal : (i : Text) → TwoRunsOut i → ⊥
 two_frugal i (RunsOutFirst x) = pair_frugal i x
 two_frugal i (RunsOutNext x) = pair_frugal x.rest x.fact
 
 three_frugal : (i : Text) → ThreeRunsOut i → ⊥
-three_frugal i (RunsOutFirst x) = two_frugal i x
-three_frugal i (RunsOutNext x) = pair_frugal x.rest x.fact
+three_frugal i (RunsOutFirst x) = pair_frugal i x
+three_frugal i (RunsOutNext x) = two_frugal x.rest x.fact
 
-pairs_are : (t : ℕ × ℕ × ℕ) (u : (ℕ × ℕ) × ℕ) → PairOutput (PairOutput (IsViewed itself) (IsViewed itself)) (IsViewed itself) u ((t.0, t.1), t.2) →
-    ((t.0, t.1), t.2) ≡ u
+pairs_are : (t : ℕ × ℕ × ℕ) (u : ℕ × (ℕ × ℕ)) → PairOutput (IsViewed itself) (PairOutput (IsViewed itself) (IsViewed itself)) u (t.0, (t.1, t.2)) →
+    (t.0, (t.1, t.2)) ≡ u
 pairs_are t u h =
-    let make : ℕ → ℕ → ℕ → (ℕ × ℕ) × ℕ = λ x y z. ((x, y), z) in
-    ap (λ x. make x t.1 t.2) h.0.0 ∙ (ap (λ y. make u.0.0 y t.2) h.0.1 ∙ ap (λ z. make u.0.0 u.0.1 z) h.1)
+    let make : ℕ → ℕ → ℕ → ℕ × (ℕ × ℕ) = λ x y z. (x, (y, z)) in
+    ap (λ x. make x t.1 t.2) h.0 ∙ (ap (λ y. make u.0 y t.2) h.1.0 ∙ ap (λ z. make u.0 u.1.0 z) h.1.1)
 
 -- what the tuple accepts
 pub triple_read : {i j : Text} {t : ℕ × ℕ × ℕ} → TripleAnswer i (Ok (j, t)) → IsTriple i j t
 triple_read (ParseRanOut e h) = cc (e)
 triple_read {i} {j} {t} (Parsed (Accept n u) a p) =
     let same : ◌≡◌ {A = Text × (ℕ × ℕ × ℕ)} (j, t) (p.0, p.1) = cc (p.4) in
-    let outputs = ap (λ x. ((x.0, x.1), x.2)) (ap (λ q. q.1) same) ∙ pairs_are p.1 u p.3 in
-    three_read i j n ((t.0, t.1), t.2) (subst (λ x. Three i (Accept n x)) (sym outputs) a)
+    let outputs = ap (λ x. (x.0, (x.1, x.2))) (ap (λ q. q.1) same) ∙ pairs_are p.1 u p.3 in
+    three_read i j n (t.0, (t.1, t.2)) (subst (λ x. Three i (Accept n x)) (sym outputs) a)
     (subst (λ k. IsSuffixOf text_model i n k) (sym (ap (λ q. q.0) same)) p.2)
 triple_read (Parsed Refuse a p) = cc (p.2)
 triple_read (Parsed (Stop (Fails cause)) a p) = cc (p.2)
