@@ -13,8 +13,8 @@ loop-turn-init g c = record {
   flushes = refl;
 }
 
-pub returns-in-Some-clause-sent : goal.returns-in-Some-clause-sent
-returns-in-Some-clause-sent g c =
+pub returns-in-Some : goal.returns-in-Some
+returns-in-Some g c =
     let d = subst (λ f. Decides g.R.Read.remaining json_line_of c.loop-turn.stream c.next_item.new.self (Ok f)) c.in-Ok-Some.field-0-is
     c.in-Ok-Some.ensures.decides in
     let before = c.loop-turn.invariant.going in
@@ -31,8 +31,8 @@ returns-in-Some-clause-sent g c =
       flushes = c.in-Some.ensures.flushes ∙ c.loop-turn.invariant.flushes;
     }
 
-pub returns-in-Ok-None-clause-sent : goal.returns-in-Ok-None-clause-sent
-returns-in-Ok-None-clause-sent g c = record {
+pub returns-in-Ok-None : goal.returns-in-Ok-None
+returns-in-Ok-None g c = record {
   messages = c.loop-turn.invariant.going.messages;
   stream = c.loop-turn.stream;
   outgoing = c.loop-turn.outgoing;
@@ -43,8 +43,8 @@ returns-in-Ok-None-clause-sent g c = record {
   flushes = c.loop-turn.invariant.flushes;
 }
 
-pub returns-in-Err-clause-sent : goal.returns-in-Err-clause-sent
-returns-in-Err-clause-sent g c = record {
+pub returns-in-Err : goal.returns-in-Err
+returns-in-Err g c = record {
   messages = c.loop-turn.invariant.going.messages;
   stream = c.loop-turn.stream;
   outgoing = c.loop-turn.outgoing;
@@ -67,8 +67,8 @@ loop-turn-preserved g c =
       flushes = c.in-None.ensures.flushes ∙ c.loop-turn.invariant.flushes;
     }
 
-pub returns-clause-sent : goal.returns-clause-sent
-returns-clause-sent g c = record {
+pub returns : goal.returns
+returns g c = record {
   messages = c.loop-turn.invariant.going.messages;
   stream = c.loop-turn.stream;
   outgoing = c.loop-turn.outgoing;

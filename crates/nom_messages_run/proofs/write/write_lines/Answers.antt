@@ -3,8 +3,8 @@ use Rattle.nom_write_stream.proofs.Sending.{sends_none}
 use Rattle.nom_messages_run.specs.Sent.{Finishes, is_failed_write}
 use Rattle.nom_messages_run.proofs.write.write_lines.Goals as goal
 
-pub returns-then-is_failed_write-clause-sent : goal.returns-then-is_failed_write-clause-sent
-returns-then-is_failed_write-clause-sent g c =
+pub returns-then-is_failed_write : goal.returns-then-is_failed_write
+returns-then-is_failed_write g c =
     let there = c.write_each-halt.new.outgoing in
     let failed : is_failed_write c.write_each-halt.result ≡ true = cc in
     record {
@@ -15,8 +15,8 @@ returns-then-is_failed_write-clause-sent g c =
       finishes = Finishes.Left failed refl refl;
     }
 
-pub returns-in-Ok-clause-sent : goal.returns-in-Ok-clause-sent
-returns-in-Ok-clause-sent g c =
+pub returns-in-Ok : goal.returns-in-Ok
+returns-in-Ok g c =
     let other : is_failed_write c.write_each-halt.result ≡ false = cc in
     record {
       halt = c.write_each-halt.result;
@@ -26,8 +26,8 @@ returns-in-Ok-clause-sent g c =
       finishes = Finishes.Flushed other refl c.in-Ok.ensures.none c.in-Ok.ensures.counts c.in-Ok.ensures.flushed;
     }
 
-pub returns-in-Err-clause-sent : goal.returns-in-Err-clause-sent
-returns-in-Err-clause-sent g c =
+pub returns-in-Err : goal.returns-in-Err
+returns-in-Err g c =
     let other : is_failed_write c.write_each-halt.result ≡ false = cc in
     record {
       halt = c.write_each-halt.result;
