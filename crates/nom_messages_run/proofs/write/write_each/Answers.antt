@@ -19,40 +19,46 @@ returns-in-Some g c =
     c.in-Ok-Some.ensures.decides in
     let before = c.loop-turn.invariant.going in
     record {
-      messages = before.messages;
-      stream = c.loop-turn.stream;
-      outgoing = c.loop-turn.outgoing;
-      lines = before.lines;
-      nothing = c.in-Some.ensures.sent.0;
-      why = HaltsAt.Taken c.inside-line.result.now (vec_capacity c.loop-turn.room)
-          (c.in-Ok-Some.used, c.in-Ok-Some.length, d, c.inside-line.ensures ∙ ap (λ z. take c.in-Ok-Some.length z) c.last.ensures) before.within
-          (subst (λ n. HaltsLine (vec_capacity c.loop-turn.room) c.loop-turn.outgoing c.write_line.new.outgoing c.inside-line.result.now (n + 1)
-          c.in-Some.halt) (sym before.counted) c.in-Some.ensures.sent.1);
-      flushes = c.in-Some.ensures.flushes ∙ c.loop-turn.invariant.flushes;
+      sent = record {
+        messages = before.messages;
+        stream = c.loop-turn.stream;
+        outgoing = c.loop-turn.outgoing;
+        lines = before.lines;
+        nothing = c.in-Some.ensures.sent.0;
+        why = HaltsAt.Taken c.inside-line.result.now (vec_capacity c.loop-turn.room)
+            (c.in-Ok-Some.used, c.in-Ok-Some.length, d, c.inside-line.ensures ∙ ap (λ z. take c.in-Ok-Some.length z) c.last.ensures) before.within
+            (subst (λ n. HaltsLine (vec_capacity c.loop-turn.room) c.loop-turn.outgoing c.write_line.new.outgoing c.inside-line.result.now (n + 1)
+            c.in-Some.halt) (sym before.counted) c.in-Some.ensures.sent.1);
+        flushes = c.in-Some.ensures.flushes ∙ c.loop-turn.invariant.flushes;
+      };
     }
 
 pub returns-in-Ok-None : goal.returns-in-Ok-None
 returns-in-Ok-None g c = record {
-  messages = c.loop-turn.invariant.going.messages;
-  stream = c.loop-turn.stream;
-  outgoing = c.loop-turn.outgoing;
-  lines = c.loop-turn.invariant.going.lines;
-  nothing = sends_none g.W.Write.contents c.loop-turn.outgoing c.loop-turn.outgoing refl refl;
-  why = HaltsAt.Ended (subst (λ f. Decides g.R.Read.remaining json_line_of c.loop-turn.stream c.next_item.new.self (Ok f)) c.in-Ok-None.field-0-is
-      c.in-Ok-None.ensures.decides) (refl, refl) refl;
-  flushes = c.loop-turn.invariant.flushes;
+  sent = record {
+    messages = c.loop-turn.invariant.going.messages;
+    stream = c.loop-turn.stream;
+    outgoing = c.loop-turn.outgoing;
+    lines = c.loop-turn.invariant.going.lines;
+    nothing = sends_none g.W.Write.contents c.loop-turn.outgoing c.loop-turn.outgoing refl refl;
+    why = HaltsAt.Ended (subst (λ f. Decides g.R.Read.remaining json_line_of c.loop-turn.stream c.next_item.new.self (Ok f)) c.in-Ok-None.field-0-is
+        c.in-Ok-None.ensures.decides) (refl, refl) refl;
+    flushes = c.loop-turn.invariant.flushes;
+  };
 }
 
 pub returns-in-Err : goal.returns-in-Err
 returns-in-Err g c = record {
-  messages = c.loop-turn.invariant.going.messages;
-  stream = c.loop-turn.stream;
-  outgoing = c.loop-turn.outgoing;
-  lines = c.loop-turn.invariant.going.lines;
-  nothing = sends_none g.W.Write.contents c.loop-turn.outgoing c.loop-turn.outgoing refl refl;
-  why = HaltsAt.Stopped c.in-Err.why c.in-Err.ensures.decides (refl, refl)
-      (c.stopped.ensures ∙ ap (λ n. halt_by (n + 1) c.in-Err.why) (sym c.loop-turn.invariant.going.counted));
-  flushes = c.loop-turn.invariant.flushes;
+  sent = record {
+    messages = c.loop-turn.invariant.going.messages;
+    stream = c.loop-turn.stream;
+    outgoing = c.loop-turn.outgoing;
+    lines = c.loop-turn.invariant.going.lines;
+    nothing = sends_none g.W.Write.contents c.loop-turn.outgoing c.loop-turn.outgoing refl refl;
+    why = HaltsAt.Stopped c.in-Err.why c.in-Err.ensures.decides (refl, refl)
+        (c.stopped.ensures ∙ ap (λ n. halt_by (n + 1) c.in-Err.why) (sym c.loop-turn.invariant.going.counted));
+    flushes = c.loop-turn.invariant.flushes;
+  };
 }
 
 pub loop-turn-preserved : goal.loop-turn-preserved
@@ -69,11 +75,13 @@ loop-turn-preserved g c =
 
 pub returns : goal.returns
 returns g c = record {
-  messages = c.loop-turn.invariant.going.messages;
-  stream = c.loop-turn.stream;
-  outgoing = c.loop-turn.outgoing;
-  lines = c.loop-turn.invariant.going.lines;
-  nothing = sends_none g.W.Write.contents c.loop-turn.outgoing c.loop-turn.outgoing refl refl;
-  why = HaltsAt.Full (omega (arith, c.loop-turn.invariant.going.counted, c.loop-turn-test.false)) refl (refl, refl) refl;
-  flushes = c.loop-turn.invariant.flushes;
+  sent = record {
+    messages = c.loop-turn.invariant.going.messages;
+    stream = c.loop-turn.stream;
+    outgoing = c.loop-turn.outgoing;
+    lines = c.loop-turn.invariant.going.lines;
+    nothing = sends_none g.W.Write.contents c.loop-turn.outgoing c.loop-turn.outgoing refl refl;
+    why = HaltsAt.Full (omega (arith, c.loop-turn.invariant.going.counted, c.loop-turn-test.false)) refl (refl, refl) refl;
+    flushes = c.loop-turn.invariant.flushes;
+  };
 }
