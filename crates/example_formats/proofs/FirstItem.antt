@@ -6,9 +6,7 @@ use Rattle.std.specs.List.{All}
 use Rattle.std.proofs.lemmas.Bool.Decides.{nat_tests}
 use Rattle.nom_internal.specs.Prelude.{IResult, IsSuffixOf, same_cut, Stops, Slice, IsModelledBy, text_model, text_lawful, Accept, Refuse, Stop, Fails, Needs}
 use Rattle.nom_internal.specs.Prelude.{ParsesAnswer, ParseRanOut, Parsed, LeafAnswers}
-use Rattle.nom_traits.specs.declared.character.AsciiClass.TheVariants.{Digit}
 use Rattle.nom_bytes.specs.ParsedRuns.{runs}
-use Rattle.nom_character.specs.ClassRuns.{IsOf}
 use Rattle.nom_character_first.specs.FirstItem.{heads}
 
 abbrev Text : Type 0
@@ -66,7 +64,3 @@ run_read Test i d j n t a r s =
       stops = subst (λ xs. Stops (λ c. Test c false) xs) cut.1 (stops_at Test a.0.first.rest a.0.stops);
       whole = a.0.first.whole ∙ (ap (λ ys. t.items ++ ys) cut.1 ∙ ap (λ xs. xs ++ chars j.now) (sym s.elements_are));
     }
-
-abbrev DigitsAnswer : {E : Type 0} → (E → Type 0) → Type 0 → Text → IResult Text Text E → Type 0
-DigitsAnswer IsError RunsOut i r = ParsesAnswer text_model (IsModelledBy text_model) i (LeafAnswers (runs text_model (IsOf (λ x. x) Digit) None 1) false i)
-    IsError RunsOut r

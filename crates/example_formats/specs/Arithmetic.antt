@@ -9,7 +9,7 @@ use Rattle.nom_internal.specs.Prelude.{EitherOutput, Meaning, ParsesMeaning}
 use Rattle.nom_error.specs.declared.answer.Err.TheVariants as Answered
 use Rattle.nom_error.specs.declared.kind.ErrorKind.TheVariants as Kind
 use Rattle.nom_traits.specs.declared.character.AsciiClass.TheVariants.{Digit}
-use Rattle.nom_func.specs.Func.{IsParser, IsViewed, TakesAll, func_meaning}
+use Rattle.nom_calls.specs.Func.{IsParser, IsViewed, TakesAll, func_meaning}
 use Rattle.nom_character.specs.ClassRuns.{class_meaning}
 use Rattle.nom_character_first.specs.FirstItem.{char_meaning, satisfy_meaning}
 use Rattle.nom_sequence.specs.Sequences.{preceded_meaning, terminated_meaning}

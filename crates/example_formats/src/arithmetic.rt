@@ -1,7 +1,7 @@
 //! Whole numbers with operators between them, and brackets, to their value: by `precedence`.
 ghost use Rattle.std.specs.Prelude.{◌≡◌, codes};
 ghost use Rattle.nom_internal.specs.Prelude.{text_model};
-ghost use Rattle.nom_func.specs.Func.{TakesAll};
+ghost use Rattle.nom_calls.specs.Func.{TakesAll};
 ghost use Rattle.example_formats.specs.Arithmetic.{
   Answers,
   Applies,

@@ -1,7 +1,7 @@
 //! A name and its value, as `color=dark red`.
 ghost use Rattle.std.specs.Prelude.{◌≡◌, false, chars, IfOk};
 ghost use Rattle.nom_internal.specs.Prelude.{text_model};
-ghost use Rattle.nom.specs.grammars.Grammar.{Parses};
+ghost use Rattle.nom.specs.Grammar.{Answers};
 ghost use Rattle.example_formats.specs.Named.{IsNamed, in_name, in_value, line_of};
 
 use nom::bytes::take_while1;
@@ -34,10 +34,11 @@ fn is_value(c: char) -> bool
 ///
 /// The end of the line, or of the input, is left. The error type is the caller's: a `Report` of `nom_report` says where a name
 /// or a value is missing.
+#[tactic(auto, using(nom::specs::Same::words))]
 pub fn named_value<'a, E: ParseError<&'a str> + ContextError<&'a str>>(
     input: &'a str,
 ) -> IResult<&'a str, (&'a str, &'a str), E>
-    ensures grammar { Parses text_model (line_of E.errors E.contexts) false input.entry result }
+    ensures grammar { Answers text_model (line_of E.errors E.contexts) false input.entry result }
     ensures named { IfOk result (λ a. IsNamed (chars input.now) (chars a.1.0.now) (chars a.1.1.now) (chars a.0.now)) }
 {
     let name = context("a name", take_while1(is_named));

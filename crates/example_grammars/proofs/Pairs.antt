@@ -12,10 +12,10 @@ use Rattle.nom_error.specs.declared.answer.Err.TheVariants as Answered
 use Rattle.nom_error.specs.declared.kind.ErrorKind.TheVariants.{TakeWhileMN}
 use Rattle.nom_error.specs.declared.value.Error.{Error}
 use Rattle.nom_traits.specs.Cuts.{CutsNowhere, suffix_somewhere}
-use Rattle.nom_func.specs.Func.{FuncAnswers, FuncBlames, FuncRunsOut}
-use Rattle.nom_func.specs.Func.FuncBlames.{OfRefusal, OfFailure, OfNoRest}
-use Rattle.nom_func.specs.Func.FuncRunsOut.{RunsOutInside, RunsOutNoRest}
-use Rattle.nom_func.proofs.FuncSound.{taken_once}
+use Rattle.nom_calls.specs.Func.{FuncAnswers, FuncBlames, FuncRunsOut}
+use Rattle.nom_calls.specs.Func.FuncBlames.{OfRefusal, OfFailure, OfNoRest}
+use Rattle.nom_calls.specs.Func.FuncRunsOut.{RunsOutInside, RunsOutNoRest}
+use Rattle.nom_calls.proofs.FuncSound.{taken_once}
 use Rattle.example_grammars.specs.Colors.{Text, are_digits, on_pair, pair_of, place_missing, IsFault as IsFaultAt, AnswersPair}
 
 abbrev Fault : Type 0

@@ -8,7 +8,7 @@ use Rattle.nom_error.specs.declared.answer.Err.TheVariants as Answered
 use Rattle.nom_error.specs.declared.kind.ErrorKind.TheVariants.{TakeWhileMN}
 use Rattle.nom_error.specs.declared.value.Error.{Error}
 use Rattle.nom_internal.specs.Sequence.ThenBlames.{BlamesFirst, BlamesNext}
-use Rattle.nom_func.specs.Func.{FuncAnswers, FuncBlames, FuncRunsOut, IsViewed}
+use Rattle.nom_calls.specs.Func.{FuncAnswers, FuncBlames, FuncRunsOut, IsViewed}
 use Rattle.nom_internal.specs.Sequence.{PairOutput}
 use Rattle.example_grammars.specs.Colors.{Text, on_pair, parts_of, place_missing, AnswersPair}
 use Rattle.example_grammars.proofs.Pairs.{IsPair, IsMissed, IsPlain, Both, both, sequence_plain, pair_accepted, on_pair_at, on_pair_none, missing_at}

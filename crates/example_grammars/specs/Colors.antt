@@ -8,7 +8,7 @@ use Rattle.nom_error.specs.declared.answer.Err as Answer
 use Rattle.nom_error.specs.declared.answer.Err.TheVariants as Answered
 use Rattle.nom_error.specs.declared.kind.ErrorKind.TheVariants.{Tag, TakeWhileMN}
 use Rattle.nom_error.specs.declared.value.Error.{Error}
-use Rattle.nom_func.specs.Func.{TellsItems}
+use Rattle.nom_calls.specs.Func.{TellsItems}
 use Rattle.example_grammars.specs.declared.hex.Color.{Color}
 
 abbrev pub Text : Type 0

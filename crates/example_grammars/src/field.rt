@@ -7,7 +7,7 @@ ghost use Rattle.nom.specs.Bytes as Bytes;
 ghost use Rattle.nom.specs.Texts.{Parses, alpha1_of, alt_of, char_of, crlf_of, decimal_of, delimited_of, digit1_of, hex_digit1_of};
 ghost use Rattle.nom.specs.Texts.{escaped_of, is_not_of, line_ending_of, many0_of, not_line_ending_of, one_of_of, opt_of, or_of, pair_of, preceded_of};
 ghost use Rattle.nom.specs.Texts.{recognize_of, separated_list0_of, separated_list1_of, separated_pair_of, space0_of, tag_of, terminated_of};
-ghost use Rattle.nom.specs.Texts.{tuple_of_four, tuple_of_three};
+ghost use Rattle.nom.specs.Texts.{tuple_of_five, tuple_of_four, tuple_of_three};
 ghost use Rattle.example_grammars.specs.Field.{is_more};
 
 use nom::bits::{bits, bool, take as take_bits};
@@ -39,17 +39,41 @@ pub fn ipv4(input: &str) -> IResult<&str, (u8, u8, u8, u8)>
         .parse_complete(input)
 }
 
-/// The numbers of a semantic version, as `1.0.12`.
-pub fn version(input: &str) -> IResult<&str, (u64, u64, u64)>
-    ensures { Parses (tuple_of_three (terminated_of (decimal_of 64) (char_of 46)) (terminated_of (decimal_of 64) (char_of 46)) (decimal_of 64))
+/// A semantic version, as `1.0.12-beta.2+linux`: its three numbers, what comes before it, and its build.
+pub fn version(input: &str) -> IResult<&str, (u64, u64, u64, Option<&str>, Option<&str>)>
+    ensures { Parses (tuple_of_five (terminated_of (decimal_of 64) (char_of 46)) (terminated_of (decimal_of 64) (char_of 46)) (decimal_of 64)
+        (opt_of (preceded_of (char_of 45) (is_not_of (codes "+")))) (opt_of (preceded_of (char_of 43) (is_not_of (codes " ")))))
         false input.entry result }
 {
+    let before = opt(preceded(char('-'), is_not("+")));
+    let build = opt(preceded(char('+'), is_not(" ")));
     (
         terminated(u64(), char('.')),
         terminated(u64(), char('.')),
         u64(),
+        before,
+        build,
     )
         .parse_complete(input)
+}
+
+/// A date and a time, as `2026-11-28T09:30:00`.
+pub fn date_time(input: &str) -> IResult<&str, ((u32, u8, u8), (u8, u8, u8))>
+    ensures { Parses (separated_pair_of
+        (tuple_of_three (terminated_of (decimal_of 32) (char_of 45)) (terminated_of (decimal_of 8) (char_of 45)) (decimal_of 8)) (char_of 84)
+        (tuple_of_three (terminated_of (decimal_of 8) (char_of 58)) (terminated_of (decimal_of 8) (char_of 58)) (decimal_of 8))) false input.entry result }
+{
+    let date = (
+        terminated(u32(), char('-')),
+        terminated(u8(), char('-')),
+        u8(),
+    );
+    let time = (
+        terminated(u8(), char(':')),
+        terminated(u8(), char(':')),
+        u8(),
+    );
+    separated_pair(date, char('T'), time).parse_complete(input)
 }
 
 /// The zone of a time: `Z`, or an offset as `+02:00`.
@@ -68,16 +92,19 @@ pub fn hex_colour(input: &str) -> IResult<&str, &str>
     preceded(char('#'), hex_digit1()).parse_complete(input)
 }
 
-/// The parts of a URI before its fragment: scheme, authority, path and query.
-pub fn uri(input: &str) -> IResult<&str, (&str, Option<&str>, Option<&str>, Option<&str>)>
-    ensures { Parses (tuple_of_four (terminated_of (is_not_of (codes ":/?#")) (char_of 58))
+/// The parts of a URI: scheme, authority, path, query and fragment.
+pub fn uri(
+    input: &str,
+) -> IResult<&str, (&str, Option<&str>, Option<&str>, Option<&str>, Option<&str>)>
+    ensures { Parses (tuple_of_five (terminated_of (is_not_of (codes ":/?#")) (char_of 58))
         (opt_of (preceded_of (tag_of (codes "//")) (is_not_of (codes "/?#")))) (opt_of (is_not_of (codes "?#")))
-        (opt_of (preceded_of (char_of 63) (is_not_of (codes "#"))))) false input.entry result }
+        (opt_of (preceded_of (char_of 63) (is_not_of (codes "#")))) (opt_of (preceded_of (char_of 35) (is_not_of (codes " "))))) false input.entry result }
 {
     let scheme = terminated(is_not(":/?#"), char(':'));
     let authority = opt(preceded(tag("//"), is_not("/?#")));
     let query = opt(preceded(char('?'), is_not("#")));
-    (scheme, authority, opt(is_not("?#")), query).parse_complete(input)
+    let fragment = opt(preceded(char('#'), is_not(" ")));
+    (scheme, authority, opt(is_not("?#")), query, fragment).parse_complete(input)
 }
 
 /// The request line of HTTP/1.1: method, target, and the two numbers of the version. More input may come.
@@ -186,6 +213,14 @@ pub fn log_line(alloc: Global, input: &str) -> IResult<&str, Vec<(&str, &str)>>
 {
     let entry = separated_pair(is_not("= \n"), char('='), is_not(" \n"));
     separated_list1(alloc, char(' '), entry).parse_complete(input)
+}
+
+/// An atom of an S-expression: a whole number, or a symbol.
+pub fn atom(input: &str) -> IResult<&str, &str>
+    ensures { Parses (alt_of (or_of (recognize_of (pair_of (opt_of (tag_of (codes "-"))) digit1_of)) (is_not_of (codes "() \n")))) false input.entry result }
+{
+    let number = recognize(pair(opt(tag("-")), digit1()));
+    alt((number, is_not("() \n"))).parse_complete(input)
 }
 
 /// A quoted string, in which a backslash escapes a quote, a backslash or an `n`.

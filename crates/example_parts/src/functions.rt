@@ -3,8 +3,8 @@ ghost use Rattle.std.specs.Prelude.{◌≡◌, Ok, length};
 ghost use Rattle.std.specs.Prelude as Std;
 ghost use Rattle.nom_error.specs.declared.answer.Err.TheVariants as Answer;
 ghost use Rattle.nom_internal.specs.Prelude.{bytes_model, itself};
-ghost use Rattle.nom_func.specs.Func.{TellsItems};
-ghost use Rattle.nom_growing.specs.Growing.{AreCuts};
+ghost use Rattle.nom_calls.specs.Func.{TellsItems};
+ghost use Rattle.nom_calls.specs.Growing.{AreCuts};
 ghost use Rattle.example_parts.specs.Firsts.{first_outcome, small_outcome};
 
 use nom::combinator::verify;

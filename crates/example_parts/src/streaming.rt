@@ -1,6 +1,6 @@
 //! Functions of the library as stream parsers of inputs that grow.
 ghost use Rattle.nom_internal.specs.Prelude.{bytes_model};
-ghost use Rattle.nom_growing.specs.Growing.{AreCuts};
+ghost use Rattle.nom_calls.specs.Growing.{AreCuts};
 
 use crate::functions::grown;
 use nom::Grown;

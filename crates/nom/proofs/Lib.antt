@@ -7,3 +7,7 @@ pub use Rattle.nom_internal.proofs.Shown
 pub use Rattle.nom_repeat.proofs.Accumulating
 pub use Rattle.nom_repeat.proofs.Parts
 pub use Rattle.nom_repeat.proofs.Repeated
+pub mod ItemsGrow
+pub mod ListsGrow
+pub mod PiecesGrow
+pub mod UntilGrow

@@ -5,11 +5,11 @@ use Rattle.std.specs.Prelude.{◌≡◌, ℕ, Bool, false, List, Option, Vec}
 use Rattle.nom_internal.specs.Prelude.{Errors, Model, View}
 use Rattle.nom_internal.specs.Words as Internal
 use Rattle.nom_combinator.specs.Words as Combinator
-use Rattle.nom_multi_length.specs.Words as Length
+use Rattle.nom_multi.specs.LengthWords as Length
 pub use Rattle.nom_internal.specs.Word.{Answers, Word, Words, answers_by, answers_same, keyed, parses_by, word}
 pub use Rattle.nom_internal.specs.TupleWords.{tuple_of_two, tuple_of_three, tuple_of_four, tuple_of_five, tuple_of_six, tuple_of_seven, tuple_of_eight}
 pub use Rattle.nom_internal.specs.Words.{and_then_of, either_of, fixed_of, flat_map_of, into_of, map_res_of, pair_of, tuple_of}
-pub use Rattle.nom_func.specs.Words.{called, called_with, given_of, stream_called, stream_called_with, stream_given_of}
+pub use Rattle.nom_calls.specs.Words.{called, called_with, given_of, stream_called, stream_called_with, stream_given_of}
 pub use Rattle.nom_sequence.specs.Words.{delimited_of, preceded_of, separated_pair_of, terminated_of}
 pub use Rattle.nom_branch.specs.Words.{alt_of, list_of, or_of}
 pub use Rattle.nom_permutation.specs.Words.{permutation_of_eight, permutation_of_five, permutation_of_four, permutation_of_seven, permutation_of_six}
@@ -17,9 +17,11 @@ pub use Rattle.nom_permutation.specs.Words.{permutation_of_three, permutation_of
 pub use Rattle.nom_combinator.specs.Words.{all_consuming_of, complete_of, cond_of, consumed_of, context_of, cut_of, fail_of, not_of, opt_of, peek_of}
 pub use Rattle.nom_combinator.specs.Words.{recognize_of}
 pub use Rattle.nom_bytes_escaped.specs.Words.{escaped_of}
-pub use Rattle.nom_multi.specs.Words.{count_of, fill_of, many0_of, many1_of, many_m_n_of, many_till_of, separated_list0_of, separated_list1_of}
+pub use Rattle.nom_multi.specs.Words.{count_of, fill_of, many0_of, many1_of, many_m_n_of, many_till_of}
+pub use Rattle.nom_separated.specs.Words.{separated_list0_of, separated_list1_of}
 pub use Rattle.nom_multi_fold.specs.Words.{fold_many0_of, fold_many1_of, fold_many_m_n_of, fold_of, many0_count_of, many1_count_of, many_m_n_count_of, many_of}
-pub use Rattle.nom_alloc.specs.Words.{fold_many0_alloc_of, fold_many1_alloc_of, map_alloc_of, value_alloc_of}
+pub use Rattle.nom_combinator.specs.AllocWords.{map_alloc_of, value_alloc_of}
+pub use Rattle.nom_multi_fold.specs.AllocWords.{fold_many0_alloc_of, fold_many1_alloc_of}
 
 -- a part that is a function which answers by a word as `parse_complete` does
 abbrev pub called_complete : {I A O E : Type 0} → Model I A → Errors I E → View O → Word I O E → Word I O E

@@ -4,8 +4,8 @@ pub use Rattle.nom_located.specs.Located.{IsAfter, Place, line_ends, located, pa
 use Rattle.std.specs.Prelude.{ℕ, List, length}
 use Rattle.std.specs.Borrow.{Bor}
 use Rattle.nom_internal.specs.Prelude.{bytes_model}
-use Rattle.nom_growing.specs.ByteCuts.{AllWithin, byte_cuts}
-use Rattle.nom_growing.specs.Growing.{AreCuts}
+use Rattle.nom_calls.specs.ByteCuts.{AllWithin, byte_cuts}
+use Rattle.nom_calls.specs.Growing.{AreCuts}
 use Rattle.nom_located.specs.Moving.{Moving, moving_model}
 use Rattle.nom_located.specs.laws.MovingLaws.{place_moving}
 

@@ -6,7 +6,7 @@ use Rattle.nom_internal.specs.TupleWords.{tuple_of_two_same, tuple_of_three_same
 use Rattle.nom_internal.specs.TupleWords.{tuple_of_six_same, tuple_of_seven_same, tuple_of_eight_same}
 use Rattle.nom_internal.specs.Words.{and_then_same, either_same, fixed_same, flat_map_same, into_same}
 use Rattle.nom_internal.specs.Words.{map_opt_same, map_res_same, map_same, pair_same, tuple_same}
-use Rattle.nom_func.specs.Words.{given_same, stream_given_same}
+use Rattle.nom_calls.specs.Words.{given_same, stream_given_same}
 use Rattle.nom_bytes.specs.Tests.{failing_same, outside_same, passing_same, within_same}
 use Rattle.nom_bytes.specs.Words.{bounded_same, run_same, run1_same, tag_same, take_same, until_same}
 use Rattle.nom_character.specs.Tests.{char_outside_same, char_passing_same, char_within_same}
@@ -18,10 +18,11 @@ use Rattle.nom_branch.specs.Words.{alt_same, or_same}
 use Rattle.nom_permutation.specs.Words.{first_same, more_same, permutation_same}
 use Rattle.nom_combinator.specs.Words.{all_consuming_same, complete_same, cond_same, consumed_same, context_same, cut_same, not_same, opt_same, peek_same}
 use Rattle.nom_combinator.specs.Words.{recognize_same, value_same, verify_same}
-use Rattle.nom_multi.specs.Words.{count_same, fill_same, many0_same, many1_same, many_m_n_same, many_till_same, separated_list0_same, separated_list1_same}
+use Rattle.nom_multi.specs.Words.{count_same, fill_same, many0_same, many1_same, many_m_n_same, many_till_same}
+use Rattle.nom_separated.specs.Words.{separated_list0_same, separated_list1_same}
 use Rattle.nom_multi_fold.specs.Words.{fold_many0_same, fold_many1_same, fold_many_m_n_same, fold_same, many0_count_same, many1_count_same, many_m_n_count_same}
 use Rattle.nom_multi_fold.specs.Words.{many_same}
-use Rattle.nom_multi_length.specs.Words.{length_count_same, length_data_same, length_value_same}
+use Rattle.nom_multi.specs.LengthWords.{length_count_same, length_data_same, length_value_same}
 
 pub ruleset words = (
   answers_same,

@@ -4,7 +4,7 @@
 ghost use Rattle.std.specs.Prelude.{◌≡◌, ◌≤◌, false};
 ghost use Rattle.std.specs.Result.{IfOk};
 ghost use Rattle.nom_internal.specs.Prelude.{bits_model, itself};
-ghost use Rattle.nom_func.specs.Func.{AnswersBy};
+ghost use Rattle.nom_calls.specs.Func.{AnswersBy};
 ghost use Rattle.nom_bits.specs.BitRests.{StandsAfter};
 ghost use Rattle.nom_bits.specs.Fields.{bool_meaning};
 

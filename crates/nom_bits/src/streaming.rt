@@ -4,7 +4,7 @@
 ghost use Rattle.std.specs.Prelude.{◌≡◌, ◌≤◌, true};
 ghost use Rattle.std.specs.Result.{IfOk};
 ghost use Rattle.nom_internal.specs.Prelude.{bits_model, itself};
-ghost use Rattle.nom_func.specs.Func.{StreamsBy};
+ghost use Rattle.nom_calls.specs.Func.{StreamsBy};
 ghost use Rattle.nom_bits.specs.BitRests.{StandsAfter};
 ghost use Rattle.nom_bits.specs.Fields.{bool_meaning};
 

@@ -4,7 +4,7 @@
 ghost use Rattle.std.specs.Prelude.{◌≡◌, false};
 ghost use Rattle.nom_internal.specs.Prelude.{is_alpha_code, is_alphanum_code, is_bin_digit_code, is_dec_digit_code, is_hex_digit_code, is_newline_code};
 ghost use Rattle.nom_internal.specs.Prelude.{is_oct_digit_code, is_space_code, itself};
-ghost use Rattle.nom_func.specs.Func.{AnswersBy};
+ghost use Rattle.nom_calls.specs.Func.{AnswersBy};
 ghost use Rattle.nom_character_first.specs.FirstItem.{anychar_meaning};
 
 mod class;
@@ -25,10 +25,10 @@ pub use crate::runs::{
     alpha0, alpha1, alphanumeric0, alphanumeric1, bin_digit0, bin_digit1, digit0, hex_digit0,
     hex_digit1, multispace1, oct_digit0, oct_digit1, space0, space1,
 };
+use nom_calls::answer::answer;
 use nom_error::answer::IResult;
 use nom_error::kind::ErrorKind;
 use nom_error::value::ParseError;
-use nom_func::answer::answer;
 pub use nom_internal::fixed::Fixed;
 use nom_traits::character::AsChar;
 use nom_traits::input::Input;

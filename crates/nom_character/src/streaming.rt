@@ -1,7 +1,7 @@
 //! Parsers of characters that always run in streaming mode, whatever mode is requested.
 ghost use Rattle.std.specs.Prelude.{◌≡◌, Some, None, true};
 ghost use Rattle.nom_internal.specs.Prelude.{IsModelledBy, itself};
-ghost use Rattle.nom_func.specs.Func.{StreamsBy};
+ghost use Rattle.nom_calls.specs.Func.{StreamsBy};
 ghost use Rattle.nom_character.specs.ClassRuns.{class_meaning};
 ghost use Rattle.nom_character_first.specs.FirstItem.{anychar_meaning, char_meaning};
 ghost use Rattle.nom_character.specs.LineMatches.{crlf_meaning, line_ending_meaning, line_meaning};
@@ -10,11 +10,11 @@ use crate::class::ClassRun;
 use crate::line::{Crlf, LineEnding, NotLineEnding};
 use crate::predicate::{CharOutside, CharWhere, CharWithin};
 use crate::{AnyChar, Char, Fixed, Satisfy};
+use nom_calls::answer::stream_answer;
 use nom_error::answer::IResult;
 use nom_error::kind::ErrorKind;
 use nom_error::mode::Streaming;
 use nom_error::value::ParseError;
-use nom_func::answer::stream_answer;
 use nom_internal::one_mode::fixed;
 use nom_traits::character::{AsChar, AsciiClass};
 use nom_traits::input::Input;

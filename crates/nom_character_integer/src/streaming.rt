@@ -6,13 +6,13 @@
 ghost use Rattle.std.specs.Prelude.{◌≡◌, pos, true};
 ghost use Rattle.std.specs.Int.{w8, w16, w32, w64, w128};
 ghost use Rattle.nom_internal.specs.Prelude.{itself};
-ghost use Rattle.nom_func.specs.Func.{StreamsBy};
+ghost use Rattle.nom_calls.specs.Func.{StreamsBy};
 ghost use Rattle.nom_character_integer.specs.Integers.{integer_meaning, signed_meaning, unsigned_meaning};
 
 use crate::integer::Integer;
+use nom_calls::answer::stream_answer;
 use nom_error::answer::IResult;
 use nom_error::value::ParseError;
-use nom_func::answer::stream_answer;
 use nom_traits::character::AsChar;
 use nom_traits::input::Input;
 use nom_traits::view::Viewed;

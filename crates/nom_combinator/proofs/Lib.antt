@@ -5,3 +5,4 @@ pub mod Contextual
 pub mod Promised
 pub mod Rests
 pub mod WholeLeft
+pub mod MapsAlloc

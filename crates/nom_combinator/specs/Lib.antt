@@ -6,3 +6,6 @@ pub mod Verdicts
 pub mod laws
 pub mod Ends
 pub mod Words
+pub mod MapAlloc
+pub mod ValueAlloc
+pub mod AllocWords

@@ -3,3 +3,5 @@ pub mod OutputLaws
 pub mod VerdictLaws
 pub mod AllLaws
 pub mod EndLaws
+pub mod MapAllocLaws
+pub mod ValueAllocLaws

@@ -1,7 +1,7 @@
 //! Parsers that consume nothing, or everything that is left.
 ghost use Rattle.std.specs.Prelude.{◌≡◌, false};
 ghost use Rattle.nom_internal.specs.Prelude.{IsModelledBy, itself};
-ghost use Rattle.nom_func.specs.Func.{AnswersBy};
+ghost use Rattle.nom_calls.specs.Func.{AnswersBy};
 ghost use Rattle.nom_combinator.specs.Ends.{eof_meaning, rest_meaning, rest_len_meaning};
 
 use crate::consuming::AllConsuming;

@@ -3,6 +3,8 @@
 
 ghost use Rattle.std.specs.Prelude.{◌≡◌};
 
+mod alloc_map;
+mod alloc_value;
 mod condition;
 mod consuming;
 pub mod ends;
@@ -14,6 +16,8 @@ mod piece;
 pub mod promises;
 mod verdict;
 
+pub use crate::alloc_map::MapAlloc;
+pub use crate::alloc_value::ValueAlloc;
 pub use crate::condition::Cond;
 pub use crate::consuming::AllConsuming;
 pub use crate::ends::{all_consuming, eof, fail, rest, rest_len, success};
@@ -22,6 +26,7 @@ pub use crate::named::Context;
 pub use crate::outputs::{Value, Verify};
 pub use crate::piece::{Consumed, Recognize};
 pub use crate::verdict::{Cut, MakeComplete, Not, Opt, Peek};
+use nom_error::answer::OutOfMemory;
 use nom_error::outside::FromExternalError;
 use nom_error::value::ParseError;
 use nom_internal::and_then::AndThen;
@@ -243,4 +248,37 @@ pub fn into<F, O, E>(parser: F) -> Into<F, O, E>
         parser,
         of: PhantomData,
     }
+}
+
+/// Runs `parser`, and applies a closure that may take memory to its output.
+///
+/// It works like `map`, but answers `OutOfMemory` if the closure finds no memory. The closure captures its
+/// allocator. It is called only if outputs are built.
+#[inline(always)]
+pub fn map_alloc<I: Items, O: Drop, F: Parser<I>, G: Fn(F::Output) -> Result<O, OutOfMemory>>(
+    parser: F,
+    map: G,
+) -> MapAlloc<F, G>
+    ensures parser { result.parser ≡ parser }
+    ensures map { result.map ≡ map }
+{
+    MapAlloc { parser, map }
+}
+
+/// Runs `parser`, and returns a value from a closure that may take memory, in place of its output.
+///
+/// It works like `value`, but makes a new value for each acceptance, and answers `OutOfMemory` if the closure
+/// finds no memory. The value may therefore own memory.
+///
+/// The closure captures its allocator. It is called only if outputs are built, after `parser` accepted. The
+/// outputs of `parser` are dropped.
+#[inline(always)]
+pub fn value_alloc<I: Items, O: Drop, G: Fn() -> Result<O, OutOfMemory>, F: Parser<I>>(
+    make: G,
+    parser: F,
+) -> ValueAlloc<G, F>
+    ensures make { result.make ≡ make }
+    ensures parser { result.parser ≡ parser }
+{
+    ValueAlloc { make, parser }
 }

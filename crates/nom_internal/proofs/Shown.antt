@@ -3,7 +3,7 @@ use Rattle.std.proofs.Common.{◌≡◌, ℕ, Bool, true, false, Result, Ok, Err
 use Rattle.std.specs.Result.{IsErrAnd, IsErr}
 use Rattle.std.proofs.lemmas.Result.{err_from_is_err_and}
 use Rattle.nom_internal.specs.Prelude.{Needed, Incomplete, Error, Failure, OutOfMemory, Built, Modes, modes, with_outputs, PResult, IResult, Refuses, size_of}
-use Rattle.nom_internal.specs.Prelude.{IsFull, HoldsSame, rest_of, Model, InputLaws, IsSuffixOf, rest_rest, Outcome, Accept, Refuse, Stop, Fails, Needs}
+use Rattle.nom_internal.specs.Prelude.{HoldsSame, rest_of, Model, InputLaws, IsSuffixOf, rest_rest, Outcome, Accept, Refuse, Stop, Fails, Needs}
 use Rattle.nom_internal.specs.Prelude.{IsFault, ShowsOutcome, ShowsAnswer, ParsesOutcome, ParsesAnswer, RanOut, Shown, ParseRanOut, Parsed, after, Then}
 use Rattle.nom_internal.specs.Prelude.{ThenBlames}
 use Rattle.nom_internal.specs.Prelude.{ThenRunsOut, RunsOutFirst, RunsOutNext}
@@ -168,12 +168,6 @@ both_built IsFirst IsSecond false x y z p q both none = none p
 
 -- what `process` shows is shown by a result without its options
 module _ {I A V O E : Type 0} (w : Model I A) (IsOutput : V → O → Type 0) (streaming : Bool) (i : I) (IsError : E → Type 0) where
-  full_of : (o : Outcome V) (r : PResult I O E) → ShowsOutcome w IsOutput (modes true true streaming) i IsError o r → IsFull r
-  full_of (Accept n v) r s = subst (λ x. IsFull x) (sym (s.4 ∙ ap (λ b. Ok (s.0, b)) s.3.1)) tt
-  full_of Refuse r s = subst (λ x. IsFull x) (sym (s.2 ∙ ap (λ b. Err (Error b)) s.1.1)) tt
-  full_of (Stop (Fails cause)) r s = subst (λ x. IsFull x) (sym s.2) tt
-  full_of (Stop (Needs k)) r s = subst (λ x. IsFull x) (sym s.2) tt
-
   parses_of : (o : Outcome V) (p : PResult I O E) (r : IResult I O E) →
       HoldsSame p r → ShowsOutcome w IsOutput (modes true true streaming) i IsError o p → ParsesOutcome w IsOutput i IsError o r
   parses_of (Accept n v) p r h s = (s.0, s.3.0, s.2, s.3.2, subst (λ x. HoldsSame x r) (s.4 ∙ ap (λ b. Ok (s.0, b)) s.3.1) h)
@@ -182,11 +176,6 @@ module _ {I A V O E : Type 0} (w : Model I A) (IsOutput : V → O → Type 0) (s
   parses_of (Stop (Needs k)) p r h s = (s.0, s.1, subst (λ x. HoldsSame x r) s.2 h)
 
 module _ {I A V O E : Type 0} {w : Model I A} {IsOutput : V → O → Type 0} {streaming : Bool} {i : I} {Answers : Outcome V → Type 0} {IsError : E → Type 0} where
-  pub answer_full : {RunsOut : Type 0} {r : PResult I O E} →
-      ShowsAnswer w IsOutput (modes true true streaming) i Answers IsError RunsOut r → IsFull r
-  answer_full (RanOut e h) = subst (λ x. IsFull x) (sym e) tt
-  answer_full {r = r} (Shown o a s) = full_of w IsOutput streaming i IsError o r s
-
   pub parsed : {RunsOut : Type 0} {p : PResult I O E} {r : IResult I O E} →
       HoldsSame p r → ShowsAnswer w IsOutput (modes true true streaming) i Answers IsError RunsOut p → ParsesAnswer w IsOutput i Answers IsError RunsOut r
   parsed {r = r} h (RanOut e k) = ParseRanOut (subst (λ x. HoldsSame x r) e h) k

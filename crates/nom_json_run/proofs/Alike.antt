@@ -1,8 +1,10 @@
 -- Bytes that begin alike.
-use Rattle.std.proofs.Common.{arith, ◌≡◌, ◌∙◌, ℕ, ◌+◌, ◌==◌, ◌<◌, ◌≤◌, Bool, true, false, List, [], ◌∷◌, length, take, drop, ap, sym, refl, subst}
+use Rattle.std.proofs.Common.{arith, ◌≡◌, ◌∙◌, ℕ, ◌+◌, ◌==◌, ◌<◌, ◌≤◌, Bool, true, List, [], ◌∷◌, length, take, drop, ap, sym, refl, subst}
 use Rattle.std.proofs.lemmas.List.{drop-take, length-take, take-take}
-use Rattle.std.specs.Prelude.{Option, None, Some, Result, Ok, Err, IfOk, IfErr, if◌then◌else◌}
-use Rattle.nom_json_run.specs.Json.{after_exponent, after_fraction, after_integer, after_minus, after_number, after_sign, and_then, first_is, is_sign, rest}
+use Rattle.std.specs.Prelude.{Option, None, Some, Result, Ok, Err, IfOk, IfErr}
+use Rattle.nom_json_run.specs.Classes.{in_class}
+use Rattle.nom_json_run.specs.declared.class.Class.TheVariants.{Minus}
+use Rattle.nom_json_run.specs.Json.{after_exponent, after_fraction, after_integer, after_number, after_one, and_then, first_is}
 use Rattle.nom_json_run.specs.Scans.{BeginsAs, FailsAt, FailsFor, LeadsTo}
 use Rattle.nom_json_run.specs.Walk.{IsWordAt}
 use Rattle.nom_json_run.specs.Walk.IsWordAt.{as_null, as_true, as_false}
@@ -89,24 +91,18 @@ fails_for_map bytes Fails Others i j fault le other h = record {
   fails = λ bs s m. other bs (before bytes bs j fault.at h.begins s) (h.fails bs s m);
 }
 
-pub sign_over : (xs : List ℕ) → first_is is_sign xs ≡ false → xs ≡ after_sign xs
-sign_over xs e = sym (ap (λ t. if t then rest xs else xs) e)
-
-pub minus_over : (xs : List ℕ) → first_is (λ b. b == 45) xs ≡ false → xs ≡ after_minus xs
-minus_over xs e = sym (ap (λ t. if t then rest xs else xs) e)
-
 -- a number, by its parts
-pub number_of_parts : (i j k l : List ℕ) → j ≡ after_minus i → after_integer j ≡ Some k → after_fraction k ≡ Some l → after_number i ≡ after_exponent l
+pub number_of_parts : (i j k l : List ℕ) → j ≡ after_one (in_class Minus) i → after_integer j ≡ Some k → after_fraction k ≡ Some l → after_number i ≡ after_exponent l
 number_of_parts i j k l m w f =
     ap (λ x. and_then (and_then (after_integer x) after_fraction) after_exponent) (sym m)
     ∙ (ap (λ x. and_then (and_then x after_fraction) after_exponent) w ∙ ap (λ x. and_then x after_exponent) f)
 
-pub no_whole : (i j : List ℕ) → j ≡ after_minus i → after_integer j ≡ None → after_number i ≡ None
+pub no_whole : (i j : List ℕ) → j ≡ after_one (in_class Minus) i → after_integer j ≡ None → after_number i ≡ None
 no_whole i j m w =
     ap (λ x. and_then (and_then (after_integer x) after_fraction) after_exponent) (sym m)
     ∙ ap (λ x. and_then (and_then x after_fraction) after_exponent) w
 
-pub no_part : (i j k : List ℕ) → j ≡ after_minus i → after_integer j ≡ Some k → after_fraction k ≡ None → after_number i ≡ None
+pub no_part : (i j k : List ℕ) → j ≡ after_one (in_class Minus) i → after_integer j ≡ Some k → after_fraction k ≡ None → after_number i ≡ None
 no_part i j k m w f =
     ap (λ x. and_then (and_then (after_integer x) after_fraction) after_exponent) (sym m)
     ∙ (ap (λ x. and_then (and_then x after_fraction) after_exponent) w ∙ ap (λ x. and_then x after_exponent) f)

@@ -3,8 +3,9 @@ use Rattle.std.specs.Prelude.{◌≡◌, ℕ, suc, ◌+◌, ◌-◌, ◌==◌, �
 use Rattle.std.specs.Prelude.{Option, None, Some, length, drop, slice_index, refl}
 use Rattle.std.proofs.Common.{arith, sym, ◌∙◌, ap, length-drop}
 use Rattle.std.proofs.lemmas.List.{drop_more, drop_all}
-use Rattle.nom_json_run.specs.Json.{after_digits, after_hex, after_sign, after_minus, after_spaces, after_word, begins, first_is}
-use Rattle.nom_json_run.specs.Json.{is_digit, is_hex, is_sign, is_space, rest}
+use Rattle.nom_json_run.specs.Classes.{in_class}
+use Rattle.nom_json_run.specs.declared.class.Class.TheVariants.{Hex}
+use Rattle.nom_json_run.specs.Json.{after_all, after_hex, after_one, after_word, begins, first_is, rest}
 
 pub first_over : (test : ℕ → Bool) (bs : List ℕ) (i : ℕ) → length bs ≤ i → first_is test (drop i bs) ≡ false
 first_over test bs i h = ap (first_is test) (drop_all i bs h)
@@ -19,27 +20,16 @@ first_within test bs i e = omega (arith, some test (drop i bs) e, length-drop i 
 pub rest_at : (test : ℕ → Bool) (bs : List ℕ) (i : ℕ) → first_is test (drop i bs) ≡ true → rest (drop i bs) ≡ drop (i + 1) bs
 rest_at test bs i e = ap rest (drop_more bs i 0 (first_within test bs i e))
 
-spaces_on : (xs : List ℕ) → first_is is_space xs ≡ true → after_spaces (rest xs) ≡ after_spaces xs
-spaces_on [] e = absurd (cc)
-spaces_on (b ∷ bs) e = sym (ap (λ t. if t then after_spaces bs else b ∷ bs) e)
+all_on : (test : ℕ → Bool) (xs : List ℕ) → first_is test xs ≡ true → after_all test (rest xs) ≡ after_all test xs
+all_on test [] e = absurd (cc)
+all_on test (b ∷ bs) e = sym (ap (λ t. if t then after_all test bs else b ∷ bs) e)
 
-pub spaces_pass : (bs : List ℕ) (i : ℕ) → first_is is_space (drop i bs) ≡ true → after_spaces (drop (i + 1) bs) ≡ after_spaces (drop i bs)
-spaces_pass bs i e = ap after_spaces (sym (rest_at is_space bs i e)) ∙ spaces_on (drop i bs) e
+pub all_pass : (test : ℕ → Bool) (bs : List ℕ) (i : ℕ) → first_is test (drop i bs) ≡ true → after_all test (drop (i + 1) bs) ≡ after_all test (drop i bs)
+all_pass test bs i e = ap (after_all test) (sym (rest_at test bs i e)) ∙ all_on test (drop i bs) e
 
-pub spaces_stop : (xs : List ℕ) → first_is is_space xs ≡ false → after_spaces xs ≡ xs
-spaces_stop [] e = refl
-spaces_stop (b ∷ bs) e = ap (λ t. if t then after_spaces bs else b ∷ bs) e
-
-digits_on : (xs : List ℕ) → first_is is_digit xs ≡ true → after_digits (rest xs) ≡ after_digits xs
-digits_on [] e = absurd (cc)
-digits_on (b ∷ bs) e = sym (ap (λ t. if t then after_digits bs else b ∷ bs) e)
-
-pub digits_pass : (bs : List ℕ) (i : ℕ) → first_is is_digit (drop i bs) ≡ true → after_digits (drop (i + 1) bs) ≡ after_digits (drop i bs)
-digits_pass bs i e = ap after_digits (sym (rest_at is_digit bs i e)) ∙ digits_on (drop i bs) e
-
-pub digits_stop : (xs : List ℕ) → first_is is_digit xs ≡ false → after_digits xs ≡ xs
-digits_stop [] e = refl
-digits_stop (b ∷ bs) e = ap (λ t. if t then after_digits bs else b ∷ bs) e
+pub all_stop : (test : ℕ → Bool) (xs : List ℕ) → first_is test xs ≡ false → after_all test xs ≡ xs
+all_stop test [] e = refl
+all_stop test (b ∷ bs) e = ap (λ t. if t then after_all test bs else b ∷ bs) e
 
 -- where the first byte passes a test, what follows it decides
 pub taken : (test : ℕ → Bool) (bs : List ℕ) (i : ℕ) (next : List ℕ → Option (List ℕ)) (other : Option (List ℕ)) → first_is test (drop i bs) ≡ true →
@@ -49,25 +39,25 @@ taken test bs i next other e = ap (λ t. if t then next (rest (drop i bs)) else 
 pub passed_over : (next : Option (List ℕ)) (other : Option (List ℕ)) (t : Bool) → t ≡ false → (if t then next else other) ≡ other
 passed_over next other t e = ap (λ u. if u then next else other) e
 
-pub sign_taken : (bs : List ℕ) (i : ℕ) → first_is is_sign (drop i bs) ≡ true → drop (i + 1) bs ≡ after_sign (drop i bs)
-sign_taken bs i e = sym (ap (λ t. if t then rest (drop i bs) else drop i bs) e ∙ rest_at is_sign bs i e)
+pub one_taken : (test : ℕ → Bool) (bs : List ℕ) (i : ℕ) → first_is test (drop i bs) ≡ true → drop (i + 1) bs ≡ after_one test (drop i bs)
+one_taken test bs i e = sym (ap (λ t. if t then rest (drop i bs) else drop i bs) e ∙ rest_at test bs i e)
 
-pub minus_taken : (bs : List ℕ) (i : ℕ) → begins 45 (drop i bs) ≡ true → drop (i + 1) bs ≡ after_minus (drop i bs)
-minus_taken bs i e = sym (ap (λ t. if t then rest (drop i bs) else drop i bs) e ∙ rest_at (λ b. b == 45) bs i e)
+pub one_over : (test : ℕ → Bool) (xs : List ℕ) → first_is test xs ≡ false → xs ≡ after_one test xs
+one_over test xs e = sym (ap (λ t. if t then rest xs else xs) e)
 
 hex_count : (k : ℕ) → k < 4 → 4 - k ≡ suc (4 - (k + 1))
 hex_count k h = omega (arith, h)
 
-pub hex_step : (bs : List ℕ) (s k : ℕ) → k < 4 → first_is is_hex (drop (s + k) bs) ≡ true →
+pub hex_step : (bs : List ℕ) (s k : ℕ) → k < 4 → first_is (in_class Hex) (drop (s + k) bs) ≡ true →
     after_hex (4 - (k + 1)) (drop (s + (k + 1)) bs) ≡ after_hex (4 - k) (drop (s + k) bs)
 hex_step bs s k h e =
     let p : (s + k) + 1 ≡ s + (k + 1) = omega arith in
-    sym (ap (λ m. after_hex m (drop (s + k) bs)) (hex_count k h) ∙ (taken is_hex bs (s + k) (after_hex (4 - (k + 1))) None e
+    sym (ap (λ m. after_hex m (drop (s + k) bs)) (hex_count k h) ∙ (taken (in_class Hex) bs (s + k) (after_hex (4 - (k + 1))) None e
     ∙ ap (λ i. after_hex (4 - (k + 1)) (drop i bs)) p))
 
-pub hex_stop : (bs : List ℕ) (s k : ℕ) → k < 4 → first_is is_hex (drop (s + k) bs) ≡ false → after_hex (4 - k) (drop (s + k) bs) ≡ None
+pub hex_stop : (bs : List ℕ) (s k : ℕ) → k < 4 → first_is (in_class Hex) (drop (s + k) bs) ≡ false → after_hex (4 - k) (drop (s + k) bs) ≡ None
 hex_stop bs s k h e = ap (λ m. after_hex m (drop (s + k) bs)) (hex_count k h)
-    ∙ passed_over (after_hex (4 - (k + 1)) (rest (drop (s + k) bs))) None (first_is is_hex (drop (s + k) bs)) e
+    ∙ passed_over (after_hex (4 - (k + 1)) (rest (drop (s + k) bs))) None (first_is (in_class Hex) (drop (s + k) bs)) e
 
 pub hex_start : (bs : List ℕ) (s : ℕ) → after_hex 4 (drop (s + 0) bs) ≡ after_hex 4 (drop s bs)
 hex_start bs s =

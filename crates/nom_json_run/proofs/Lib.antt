@@ -1,6 +1,5 @@
 pub mod Alike
 pub mod Firsts
-pub mod LineParts
 pub mod Listed
 pub mod Strings
 pub mod Values

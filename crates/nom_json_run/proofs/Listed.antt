@@ -12,7 +12,8 @@ use Rattle.nom_stream.specs.declared.stream.Stream.{Stream}
 use Rattle.nom_stream.specs.Held.{last_of}
 use Rattle.nom_stream.specs.Streams.{Decides}
 use Rattle.nom_json_run.specs.Lines.{BeginsLine, BeginsNext, CheckedLines, Going, IsLine, IsUnread, LacksNext, ListsLine, ReadsNoLine, ToldLines}
-use Rattle.nom_json_run.specs.Lines.{json_line_of, long_line}
+use Rattle.nom_stream.specs.Lines.{line_of}
+use Rattle.nom_json_run.specs.Lines.{long_line}
 use Rattle.nom_json_run.specs.Lines.CheckedLines.{none, good, bad}
 
 module _ {R A : Type 0} (left : R → Option (List ℕ)) (s : Stream R A) where
@@ -20,7 +21,7 @@ module _ {R A : Type 0} (left : R → Option (List ℕ)) (s : Stream R A) where
   going_none held = record { text = []; lines = none; wrote = appends-none held }
 
   going_line : (t u : Stream R A) (held a b : Option (List ℕ)) (count n x : ℕ) (before then_ : Bool) (more : List ℕ) → Going left s t held a count before →
-      Decides left json_line_of t u (Ok (Some (n, x))) → IsLine (count + 1) x (last_of n u.held) more before then_ → Appends a b more →
+      Decides left line_of t u (Ok (Some (n, x))) → IsLine (count + 1) x (last_of n u.held) more before then_ → Appends a b more →
       Going left s u held b (count + 1) then_
   going_line t u held a b count n x before then_ more g d (inl (j, e, w)) p = record {
     text = g.text;
@@ -34,11 +35,11 @@ module _ {R A : Type 0} (left : R → Option (List ℕ)) (s : Stream R A) where
   }
 
   pub going_on : (t u : Stream R A) (held a b : Option (List ℕ)) (count n x : ℕ) (before then_ : Bool) → Going left s t held a count before →
-      Decides left json_line_of t u (Ok (Some (n, x))) → ListsLine a b (count + 1) x (last_of n u.held) before then_ → Going left s u held b (count + 1) then_
+      Decides left line_of t u (Ok (Some (n, x))) → ListsLine a b (count + 1) x (last_of n u.held) before then_ → Going left s u held b (count + 1) then_
   going_on t u held a b count n x before then_ g d h = going_line t u held a b count n x before then_ h.0 g d h.1 h.2
 
   pub ended : (t u : Stream R A) (held a : Option (List ℕ)) (count status : ℕ) (wrong : Bool) → Going left s t held a count wrong →
-      Decides left json_line_of t u (Ok None) → status ≡ (if wrong then 1 else 0) → ToldLines left s u held a status
+      Decides left line_of t u (Ok None) → status ≡ (if wrong then 1 else 0) → ToldLines left s u held a status
   ended t u held a count status wrong g d e = record {
     count = count;
     before = t;
@@ -49,7 +50,7 @@ module _ {R A : Type 0} (left : R → Option (List ℕ)) (s : Stream R A) where
   }
 
   pub too_long : (t u : Stream R A) (held a b : Option (List ℕ)) (count status : ℕ) (wrong : Bool) → Going left s t held a count wrong →
-      Decides left json_line_of t u (Err Stop.TooLong) → status ≡ 3 → Appends a b (long_line (count + 1)) → ToldLines left s u held b status
+      Decides left line_of t u (Err Stop.TooLong) → status ≡ 3 → Appends a b (long_line (count + 1)) → ToldLines left s u held b status
   too_long t u held a b count status wrong g d e h = record {
     count = count;
     before = t;
@@ -87,7 +88,7 @@ module _ {R A W : Type 0} (left : R → Option (List ℕ)) (s t u : Stream R A) 
   none_failed : b ≡ a → NoWriteFailed (failures old) (failures b) (stalls old) (stalls b)
   none_failed e = subst (λ z. NoWriteFailed (failures old) (failures z) (stalls old) (stalls z)) (sym e) writes
 
-  pub on_list : (n x : ℕ) → Decides left json_line_of t u (Ok (Some (n, x))) → (e : RunError) →
+  pub on_list : (n x : ℕ) → Decides left line_of t u (Ok (Some (n, x))) → (e : RunError) →
       MatchRunError e ⊥ (BeginsLine (holds a) (holds b) (count + 1) x (last_of n u.held) wrong
       × WriteFailed (failures a) (failures b) (stalls a) (stalls b)) (b ≡ a) ⊥ → Told e
   on_list n x d Read h = absurd h
@@ -98,12 +99,12 @@ module _ {R A W : Type 0} (left : R → Option (List ℕ)) (s t u : Stream R A) 
   )
   on_list n x d Usage h = absurd h
 
-  lacks : (why : Stops.Stop) → Decides left json_line_of t u (Err why) → (why ≡ Stop.OutOfMemory) ⊎ (why ≡ Stop.TooLong) →
+  lacks : (why : Stops.Stop) → Decides left line_of t u (Err why) → (why ≡ Stop.OutOfMemory) ⊎ (why ≡ Stop.TooLong) →
       LacksNext left s u (holds old) (holds a)
-  lacks why d (inl m) = (count, t, wrong, g, inl (subst (λ z. Decides left json_line_of t u (Err z)) m d))
-  lacks why d (inr m) = (count, t, wrong, g, inr (inl (subst (λ z. Decides left json_line_of t u (Err z)) m d)))
+  lacks why d (inl m) = (count, t, wrong, g, inl (subst (λ z. Decides left line_of t u (Err z)) m d))
+  lacks why d (inr m) = (count, t, wrong, g, inr (inl (subst (λ z. Decides left line_of t u (Err z)) m d)))
 
-  on_stop : (why : Stops.Stop) → Decides left json_line_of t u (Err why) → (e : RunError) →
+  on_stop : (why : Stops.Stop) → Decides left line_of t u (Err why) → (e : RunError) →
       MatchRunError e ((b ≡ a) × IsUnread why) ((why ≡ Stop.TooLong) × WroteFront (holds a) (holds b) (long_line (count + 1))
       × WriteFailed (failures a) (failures b) (stalls a) (stalls b)) ((b ≡ a) × ((why ≡ Stop.OutOfMemory) ⊎ (why ≡ Stop.TooLong))) ⊥ → Told e
   on_stop why d Read h = (
@@ -111,7 +112,7 @@ module _ {R A W : Type 0} (left : R → Option (List ℕ)) (s t u : Stream R A) 
     none_failed h.0,
   )
   on_stop why d Write h = (
-    (count, t, wrong, holds a, g, inr (subst (λ z. Decides left json_line_of t u (Err z)) h.0 d, h.1)),
+    (count, t, wrong, holds a, g, inr (subst (λ z. Decides left line_of t u (Err z)) h.0 d, h.1)),
     none_then_one _ _ _ _ _ _ writes h.2,
   )
   on_stop why d OutOfMemory h = (
@@ -121,17 +122,17 @@ module _ {R A W : Type 0} (left : R → Option (List ℕ)) (s t u : Stream R A) 
   on_stop why d Usage h = absurd h
 
   -- of what is told where no line comes
-  pub on_stop_status : (why : Stops.Stop) → Decides left json_line_of t u (Err why) → (r : Result ℕ RunError) →
+  pub on_stop_status : (why : Stops.Stop) → Decides left line_of t u (Err why) → (r : Result ℕ RunError) →
       IfOk r (λ status. (why ≡ Stop.TooLong) × (status ≡ 3) × Appends (holds a) (holds b) (long_line (count + 1))
       × NoWriteFailed (failures a) (failures b) (stalls a) (stalls b)) →
       IfOk r (λ status. ToldLines left s u (holds old) (holds b) status × NoWriteFailed (failures old) (failures b) (stalls old) (stalls b))
   on_stop_status why d (Ok status) h = (
-    too_long left s t u (holds old) (holds a) (holds b) count status wrong g (subst (λ z. Decides left json_line_of t u (Err z)) h.0 d) h.1 h.2,
+    too_long left s t u (holds old) (holds a) (holds b) count status wrong g (subst (λ z. Decides left line_of t u (Err z)) h.0 d) h.1 h.2,
     none_then _ _ _ _ _ _ writes h.3,
   )
   on_stop_status why d (Err e) h = tt
 
-  pub on_stop_error : (why : Stops.Stop) → Decides left json_line_of t u (Err why) → (r : Result ℕ RunError) →
+  pub on_stop_error : (why : Stops.Stop) → Decides left line_of t u (Err why) → (r : Result ℕ RunError) →
       IfErr r (λ e. MatchRunError e ((b ≡ a) × IsUnread why) ((why ≡ Stop.TooLong) × WroteFront (holds a) (holds b) (long_line (count + 1))
       × WriteFailed (failures a) (failures b) (stalls a) (stalls b)) ((b ≡ a) × ((why ≡ Stop.OutOfMemory) ⊎ (why ≡ Stop.TooLong))) ⊥) → IfErr r Told
   on_stop_error why d (Ok status) h = tt

@@ -1,10 +1,12 @@
 -- JSON, by RFC 8259. A text is read as the bytes of its UTF-8 form: a character above 127 has no byte below 128 in it, so its bytes may be
 -- read one by one. A relation of two lists says that something of its name stands at the beginning of the first, and that the second is
 -- what follows it. White space is taken with what stands before it.
-use Rattle.std.specs.Prelude.{◌≡◌, ℕ, zero, suc, Bool, true, false, ◌==◌, ◌||◌, ◌&&◌, nat_le, if◌then◌else◌, List, [], ◌∷◌, Option, None, Some}
+use Rattle.std.specs.Prelude.{◌≡◌, ℕ, zero, suc, Bool, true, false, ◌==◌, if◌then◌else◌, List, [], ◌∷◌, Option, None, Some}
 use Rattle.std.specs.Prelude.{codes, IsUtf8}
 use Rattle.nom_json_run.specs.declared.bracket.Bracket.{Bracket}
 use Rattle.nom_json_run.specs.declared.bracket.Bracket.TheVariants.{Array, Object}
+use Rattle.nom_json_run.specs.declared.class.Class.TheVariants.{Space, Digit, Hex, Minus, Sign, Mark, Plain, Letter}
+use Rattle.nom_json_run.specs.Classes.{in_class}
 
 -- whether the first byte passes a test
 abbrev pub first_is : (ℕ → Bool) → List ℕ → Bool
@@ -20,31 +22,27 @@ abbrev pub rest : List ℕ → List ℕ
 rest [] = []
 rest (b ∷ bs) = bs
 
--- white space: a space, a tab, or the end of a line
-abbrev pub is_space : ℕ → Bool
-is_space b = b == 32 || b == 10 || b == 13 || b == 9
+-- what follows the bytes that pass a test, as many as there are
+abbrev pub after_all : (ℕ → Bool) → List ℕ → List ℕ
+after_all test [] = []
+after_all test (b ∷ bs) = if test b then after_all test bs else b ∷ bs
+
+-- what follows one byte that passes a test, where there is one
+abbrev pub after_one : (ℕ → Bool) → List ℕ → List ℕ
+after_one test bs = if first_is test bs then rest bs else bs
 
 -- what follows white space, of which there may be none
 abbrev pub after_spaces : List ℕ → List ℕ
-after_spaces [] = []
-after_spaces (b ∷ bs) = if is_space b then after_spaces bs else b ∷ bs
+after_spaces = after_all (in_class Space)
 
 -- what follows a word
 abbrev pub after_word : (word bs : List ℕ) → Option (List ℕ)
 after_word [] bs = Some bs
 after_word (c ∷ word) bs = if begins c bs then after_word word (rest bs) else None
 
-abbrev pub is_digit : ℕ → Bool
-is_digit b = nat_le 48 b && nat_le b 57
-
--- what follows digits, as many as there are
-abbrev pub after_digits : List ℕ → List ℕ
-after_digits [] = []
-after_digits (b ∷ bs) = if is_digit b then after_digits bs else b ∷ bs
-
 -- what follows digits, one at least
 abbrev pub after_digits1 : List ℕ → Option (List ℕ)
-after_digits1 bs = if first_is is_digit bs then Some (after_digits (rest bs)) else None
+after_digits1 bs = if first_is (in_class Digit) bs then Some (after_all (in_class Digit) (rest bs)) else None
 
 -- integer = '0' | digit+, where the first isn't 0
 abbrev pub after_integer : List ℕ → Option (List ℕ)
@@ -54,21 +52,9 @@ after_integer bs = if begins 48 bs then Some (rest bs) else after_digits1 bs
 abbrev pub after_fraction : List ℕ → Option (List ℕ)
 after_fraction bs = if begins 46 bs then after_digits1 (rest bs) else Some bs
 
-abbrev pub is_sign : ℕ → Bool
-is_sign b = b == 43 || b == 45
-
-abbrev pub after_sign : List ℕ → List ℕ
-after_sign bs = if first_is is_sign bs then rest bs else bs
-
-abbrev pub is_mark : ℕ → Bool
-is_mark b = b == 101 || b == 69
-
 -- exponent = (('e' | 'E') ('+' | '-')? digit+)?
 abbrev pub after_exponent : List ℕ → Option (List ℕ)
-after_exponent bs = if first_is is_mark bs then after_digits1 (after_sign (rest bs)) else Some bs
-
-abbrev pub after_minus : List ℕ → List ℕ
-after_minus bs = if begins 45 bs then rest bs else bs
+after_exponent bs = if first_is (in_class Mark) bs then after_digits1 (after_one (in_class Sign) (rest bs)) else Some bs
 
 abbrev pub and_then : Option (List ℕ) → (List ℕ → Option (List ℕ)) → Option (List ℕ)
 and_then None next = None
@@ -76,27 +62,15 @@ and_then (Some bs) next = next bs
 
 -- number = '-'? integer fraction exponent
 abbrev pub after_number : List ℕ → Option (List ℕ)
-after_number bs = and_then (and_then (after_integer (after_minus bs)) after_fraction) after_exponent
-
--- a character that stands for itself in a string: no quote, no backslash, and none below a space
-abbrev pub is_plain : ℕ → Bool
-is_plain b = nat_le 32 b && (nat_le b 33 || (nat_le 35 b && (nat_le b 91 || nat_le 93 b)))
-
--- one of "\/bfnrt
-abbrev pub is_letter : ℕ → Bool
-is_letter b = b == 34 || b == 92 || b == 47 || b == 98 || b == 102 || b == 110 || b == 114 || b == 116
-
--- a digit in base 16
-abbrev pub is_hex : ℕ → Bool
-is_hex b = is_digit b || (nat_le 65 b && nat_le b 70) || (nat_le 97 b && nat_le b 102)
+after_number bs = and_then (and_then (after_integer (after_one (in_class Minus) bs)) after_fraction) after_exponent
 
 -- what follows that many digits in base 16
 abbrev pub after_hex : ℕ → List ℕ → Option (List ℕ)
 after_hex zero bs = Some bs
-after_hex (suc n) bs = if first_is is_hex bs then after_hex n (rest bs) else None
+after_hex (suc n) bs = if first_is (in_class Hex) bs then after_hex n (rest bs) else None
 
 abbrev pub after_letter : List ℕ → Option (List ℕ)
-after_letter bs = if first_is is_letter bs then Some (rest bs) else None
+after_letter bs = if first_is (in_class Letter) bs then Some (rest bs) else None
 
 -- escape = letter | 'u' hex hex hex hex, after a backslash
 abbrev pub after_escape : List ℕ → Option (List ℕ)
@@ -105,7 +79,7 @@ after_escape bs = if begins 117 bs then after_hex 4 (rest bs) else after_letter 
 -- the characters of a string, and the quote that closes it
 pub data JsonCharacters : (i r : List ℕ) → Type 0 where
   close : {i r : List ℕ} → begins 34 i ≡ true → r ≡ rest i → JsonCharacters i r
-  plain : {i r : List ℕ} → first_is is_plain i ≡ true → JsonCharacters (rest i) r → JsonCharacters i r
+  plain : {i r : List ℕ} → first_is (in_class Plain) i ≡ true → JsonCharacters (rest i) r → JsonCharacters i r
   escape : {i r : List ℕ} (j : List ℕ) → begins 92 i ≡ true → after_escape (rest i) ≡ Some j → JsonCharacters j r → JsonCharacters i r
 
 -- string = '"' characters '"'

@@ -1,3 +1,4 @@
+pub mod Classes
 pub mod Json
 pub mod Lines
 pub mod Report

@@ -1,14 +1,12 @@
 -- JSON Lines: what is told of lines that come one after another.
-use Rattle.std.specs.Prelude.{◌≡◌, ℕ, ◌+◌, ◌-◌, ◌^◌, ◌==◌, ◌⊎◌, min, Bool, true, false, if◌then◌else◌, List, [], ◌∷◌, ◌++◌, length, take, count_by}
+use Rattle.std.specs.Prelude.{◌≡◌, ℕ, ◌+◌, ◌-◌, ◌^◌, ◌==◌, ◌⊎◌, min, Bool, true, false, if◌then◌else◌, List, [], ◌++◌, take, count_by}
 use Rattle.std.specs.Prelude.{IsUtf8, Option, None, Some, Ok, Err, codes}
-use Rattle.std.specs.Borrow.{Bor}
 use Rattle.std.specs.Fmt.{decimal}
 use Rattle.std.specs.Io.KnownBytes.{Appends}
 use Rattle.std.specs.List.{before_first}
 use Rattle.std.specs.Str.Lossy.{utf8_valid_len}
-use Rattle.nom_internal.specs.Prelude.{bytes_model, Slice}
-use Rattle.nom.specs.grammars.Bytes.{BytesGrammar, is_not_of, map_of, opt_of, tag_of, terminated_of}
 use Rattle.nom_located.specs.Lines.{begins_character}
+use Rattle.nom_stream.specs.Lines.{line_of}
 use Rattle.nom_run.specs.Stream.{WroteFront}
 use Rattle.nom_stream.specs.declared.stream.Stop as Stops
 use Rattle.nom_stream.specs.declared.stream.Stop.TheVariants as Stop
@@ -19,15 +17,6 @@ use Rattle.nom_json_run.specs.declared.bracket.Fault.{Fault}
 use Rattle.nom_json_run.specs.Json.{IsJson}
 use Rattle.nom_json_run.specs.Report.{IsOctetsReport, IsTextReport}
 use Rattle.nom_json_run.specs.Walk.{IsFault}
-
--- the length of a line, without its end
-abbrev pub line_len : Option (Bor (List ℕ)) → ℕ
-line_len None = 0
-line_len (Some bytes) = length bytes.now
-
--- line = (any byte but the end of a line)+? end?, where the end is the byte 10; only the last line of the data may lack it
-abbrev pub json_line_of : BytesGrammar (Option (Slice bytes_model)) ℕ
-json_line_of = map_of line_len (terminated_of (opt_of (is_not_of (10 ∷ []))) (opt_of (tag_of (10 ∷ []))))
 
 -- the text for a line that is no JSON text: its number, a column in it, and what is wrong there
 abbrev pub fault_line : (number column : ℕ) (message : List ℕ) → List ℕ
@@ -85,9 +74,9 @@ IsUnread Stop.OutOfMemory = ⊥
 pub data CheckedLines {R A : Type 0} (left : R → Option (List ℕ)) (s : Stream R A) : (count : ℕ) (t : Stream R A) (text : List ℕ) (wrong : Bool) → Type 0 where
   none : CheckedLines left s 0 s [] false
   good : {count : ℕ} {t u : Stream R A} {n x : ℕ} {text : List ℕ} {wrong : Bool} → CheckedLines left s count t text wrong →
-      Decides left json_line_of t u (Ok (Some (n, x))) → IsJson (last_of n u.held) → CheckedLines left s (count + 1) u text wrong
+      Decides left line_of t u (Ok (Some (n, x))) → IsJson (last_of n u.held) → CheckedLines left s (count + 1) u text wrong
   bad : {count : ℕ} {t u : Stream R A} {n x : ℕ} {text more : List ℕ} {wrong : Bool} → CheckedLines left s count t text wrong →
-      Decides left json_line_of t u (Ok (Some (n, x))) → (IsJson (last_of n u.held) → ⊥) → IsLineText (count + 1) x (last_of n u.held) more →
+      Decides left line_of t u (Ok (Some (n, x))) → (IsJson (last_of n u.held) → ⊥) → IsLineText (count + 1) x (last_of n u.held) more →
       CheckedLines left s (count + 1) u (text ++ more) true
 
 module _ {R A : Type 0} (left : R → Option (List ℕ)) (s t : Stream R A) (held held' : Option (List ℕ)) where
@@ -105,24 +94,24 @@ pub record ToldLines {R A : Type 0} (left : R → Option (List ℕ)) (s t : Stre
   pub text : List ℕ
   pub wrong : Bool
   pub lines : CheckedLines left s count before text wrong
-  pub ends : (Decides left json_line_of before t (Ok None) × (status ≡ (if wrong then 1 else 0)) × Appends held held' text) ⊎
-      (Decides left json_line_of before t (Err Stop.TooLong) × (status ≡ 3) × Appends held held' (text ++ long_line (count + 1)))
+  pub ends : (Decides left line_of before t (Ok None) × (status ≡ (if wrong then 1 else 0)) × Appends held held' text) ⊎
+      (Decides left line_of before t (Err Stop.TooLong) × (status ≡ 3) × Appends held held' (text ++ long_line (count + 1)))
 
 -- What was written where there is no status: what is told of the lines before one.
 module _ {R A : Type 0} (left : R → Option (List ℕ)) (s t : Stream R A) (held held' : Option (List ℕ)) where
   -- the stream gave no line after them, and says why; or they are as many as can be counted
   abbrev pub ReadsNoLine : Type 0
   ReadsNoLine = (count : ℕ) × (before : Stream R A) × (wrong : Bool) × Going left s before held held' count wrong ×
-      (((why : Stops.Stop) × Decides left json_line_of before t (Err why) × IsUnread why) ⊎ ((count ≡ 2 ^ 64 - 1) × (t ≡ before)))
+      (((why : Stops.Stop) × Decides left line_of before t (Err why) × IsUnread why) ⊎ ((count ≡ 2 ^ 64 - 1) × (t ≡ before)))
 
   -- and a beginning of what is told of that one
   abbrev pub BeginsNext : Type 0
   BeginsNext = (count : ℕ) × (before : Stream R A) × (wrong : Bool) × (between : Option (List ℕ)) × Going left s before held between count wrong ×
-      (((n x : ℕ) × Decides left json_line_of before t (Ok (Some (n, x))) × BeginsLine between held' (count + 1) x (last_of n t.held) wrong) ⊎
-      (Decides left json_line_of before t (Err Stop.TooLong) × WroteFront between held' (long_line (count + 1))))
+      (((n x : ℕ) × Decides left line_of before t (Ok (Some (n, x))) × BeginsLine between held' (count + 1) x (last_of n t.held) wrong) ⊎
+      (Decides left line_of before t (Err Stop.TooLong) × WroteFront between held' (long_line (count + 1))))
 
   -- memory was wanted by the stream, or for what is told of that one
   abbrev pub LacksNext : Type 0
   LacksNext = (count : ℕ) × (before : Stream R A) × (wrong : Bool) × Going left s before held held' count wrong ×
-      (Decides left json_line_of before t (Err Stop.OutOfMemory) ⊎ Decides left json_line_of before t (Err Stop.TooLong) ⊎
-      ((n x : ℕ) × Decides left json_line_of before t (Ok (Some (n, x)))))
+      (Decides left line_of before t (Err Stop.OutOfMemory) ⊎ Decides left line_of before t (Err Stop.TooLong) ⊎
+      ((n x : ℕ) × Decides left line_of before t (Ok (Some (n, x)))))

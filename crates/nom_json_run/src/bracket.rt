@@ -8,7 +8,7 @@ pub enum Bracket {
 }
 
 /// The part that is awaited at a place.
-#[derive(Clone, Copy, Debug, PartialEq, Eq)]
+#[derive(Clone, Copy)]
 pub enum Awaits {
     Value,
     /// The part after a value: a comma or the closing bracket, or the end if no bracket is open.
@@ -45,7 +45,7 @@ pub struct Fault {
 }
 
 /// The result of a step.
-#[derive(Clone, Copy, Debug, PartialEq, Eq)]
+#[derive(Clone, Copy)]
 pub enum Step {
     /// The check continues at a place.
     Go(usize, Awaits),

@@ -2,62 +2,25 @@
 ghost use Rattle.std.specs.Prelude.{◌≡◌, ◌++◌, ◌≤◌, ◌<◌, ◌^◌, ◌==◌, ◌⊎◌, ⊤, Option, if◌then◌else◌, IfErr, IfOk, count_by, length, string_bytes};
 ghost use Rattle.std.specs.Io.KnownBytes.{Appends};
 ghost use Rattle.std.specs.List.{before_first};
-ghost use Rattle.nom_internal.specs.Prelude.{bytes_model, Slice};
 ghost use Rattle.nom_located.specs.Lines.{begins_character};
 ghost use Rattle.nom_run.specs.Stream.{MatchRunError, NoWriteFailed, WriteFailed, WroteFront};
 ghost use Rattle.nom_json_run.specs.Lines.{BeginsLine, BeginsNext, IsFaultLine, IsLine, IsOctetsLine, IsUnread, LacksNext};
-ghost use Rattle.nom_json_run.specs.Lines.{ListsLine, ReadsNoLine, ToldLines, fault_line, json_line_of, line_len, long_line};
+ghost use Rattle.nom_json_run.specs.Lines.{ListsLine, ReadsNoLine, ToldLines, fault_line, long_line};
 
 use crate::bracket::Fault;
 use crate::check::verdict;
 use crate::report::{error_of, named};
-use nom::IResult;
-use nom::bytes::{is_not, tag};
-use nom::combinator::{map, opt};
-use nom::error::Error;
-use nom::sequence::terminated;
 use nom_error::answer::OutOfMemory;
 use nom_report::{Placed, render_bytes, render_from};
 use nom_run::error::RunError;
 use nom_run::run::write_all;
 use nom_run::stream::Sink;
-use nom_stream::grammar::{Grammar, parse_item};
+use nom_stream::lines::Lines;
 use nom_stream::stream::{Stop, Stream};
 use std::alloc::Allocator;
 use std::fmt::Write;
 use std::io::Read;
 use std::str;
-
-/// Lines, each as its length without its end.
-#[derive(Clone, Copy)]
-pub struct Lines;
-
-fn len_of<'a>(bytes: Option<&'a [u8]>) -> usize
-    ensures { result ≡ line_len bytes.entry }
-{
-    match bytes {
-        Some(bytes) => bytes.len(),
-        None => 0,
-    }
-}
-
-impl Grammar for Lines {
-    type Item = usize;
-
-    ghost State = { Unit {0} };
-
-    ghost state = { λ _. tt };
-
-    ghost Tree = { Option (Slice bytes_model) };
-
-    ghost grammar = { λ _. json_line_of };
-
-    fn item<'a>(&mut self, input: &'a [u8], more: bool) -> IResult<&'a [u8], usize> {
-        let inside = opt(is_not::<_, _, Error<&[u8]>>(&b"\n"[..]));
-        let end = opt(tag::<_, _, Error<&[u8]>>(&b"\n"[..]));
-        parse_item(map(terminated(inside, end), len_of), input, more)
-    }
-}
 
 // Adds the text for a line.
 fn add_line<A: Allocator + Copy>(

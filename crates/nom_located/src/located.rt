@@ -12,8 +12,6 @@ ghost use Rattle.nom_located.specs.Located.{Fits, located, place, past_bytes, lo
 use crate::source::column_in_characters;
 use memchr::memchr;
 use nom_error::answer::{Needed, OutOfMemory};
-use nom_hex::hex::HexDisplay;
-use nom_parse_to::parse::ParseTo;
 use nom_search::bytes::{AsBytes, ByteItems};
 use nom_search::extend::ExtendInto;
 use nom_search::substring::FindSubstring;
@@ -24,6 +22,8 @@ use nom_traits::input::{Input, Items, Value};
 use nom_traits::offset::Offset;
 use nom_traits::rests::{CountItems, CutRest};
 use nom_traits::view::Viewed;
+use nom_values::hex::HexDisplay;
+use nom_values::parse::ParseTo;
 use std::alloc::{AllocError, Allocator};
 use std::fmt;
 

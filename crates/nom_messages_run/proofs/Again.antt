@@ -6,7 +6,7 @@ use Rattle.std.specs.Prelude.{codes}
 use Rattle.std.specs.Io.KnownBytes.{Appends}
 use Rattle.nom_internal.specs.Prelude.{bytes_lawful, bytes_model, AreValues, IsPinned, IsSuffixOf, NeverTooLarge, Outcome, Accept, items_len}
 use Rattle.nom_internal.specs.Prelude.{items_len-ones, itself}
-use Rattle.nom_iterator.specs.Iterated.{AreItems}
+use Rattle.nom_calls.specs.Iterated.{AreItems}
 use Rattle.nom_run.specs.Texts.{bytes_text, lines_text}
 use Rattle.nom_sink.specs.Lists.{Each}
 use Rattle.nom_stream.specs.declared.stream.Stop as Why
@@ -24,12 +24,12 @@ use Rattle.nom_write_stream.specs.Pipes.{TellsItems}
 use Rattle.nom_write_stream.proofs.Everywhere.{rest_of, values_after}
 use Rattle.nom_write_stream.proofs.Piped.{items_of_forms}
 use Rattle.nom_write_stream.proofs.Sending.{sends_none, sends_then}
-use Rattle.example_streams.specs.declared.protocol.Message.{Message}
-use Rattle.example_streams.specs.declared.protocol.Message.TheVariants as Sent
-use Rattle.example_streams.specs.Protocol.{Body}
-use Rattle.example_streams.specs.Messages.{message_of}
-use Rattle.example_streams.specs.declared.messages.Received.{Received}
-use Rattle.example_streams.specs.declared.messages.Received.TheVariants.{Ping, Text, Close}
+use Rattle.nom_messages_run.specs.declared.protocol.Message.{Message}
+use Rattle.nom_messages_run.specs.declared.protocol.Message.TheVariants as Sent
+use Rattle.nom_messages_run.specs.Protocol.{Body}
+use Rattle.nom_messages_run.specs.Messages.{message_of}
+use Rattle.nom_messages_run.specs.declared.messages.Received.{Received}
+use Rattle.nom_messages_run.specs.declared.messages.Received.TheVariants.{Ping, Text, Close}
 use Rattle.nom_messages_run.specs.Back.{CutsShort, IsReceived, SentReadBack, TellsBack, received}
 use Rattle.nom_messages_run.specs.Forms.{IsBody, IsMessage}
 use Rattle.nom_messages_run.specs.Pipe.{Ends, Lines, ending_status, ending_text, received_text, stopped}

@@ -16,9 +16,9 @@ use Rattle.nom_bytes.specs.laws.TagLaws.{tag_lawful}
 use Rattle.nom_bytes.specs.laws.TakeLaws.{take_lawful, take_steady}
 use Rattle.nom_combinator.specs.Ends.{all_of, eof_meaning}
 use Rattle.nom_combinator.specs.laws.AllLaws.{eof_lawful}
-use Rattle.nom_multi_length.specs.Values.{settled, values_by_length}
-use Rattle.nom_multi_length.specs.laws.LengthLaws.{length_data_lawful}
-use Rattle.nom_multi_length.specs.laws.ValueLaws.{length_value_lawful, length_value_steady}
+use Rattle.nom_multi.specs.Values.{settled, values_by_length}
+use Rattle.nom_multi.specs.laws.LengthLaws.{length_data_lawful}
+use Rattle.nom_multi.specs.laws.ValueLaws.{length_value_lawful, length_value_steady}
 use Rattle.nom_number.specs.Numbers.{binary_number, bytes_lack}
 use Rattle.nom_sequence.specs.laws.SequenceLaws.{preceded_lawful}
 use Rattle.nom.specs.grammars.Bytes.{Big, Bytes, all_consuming_of, length_data_of, number_of, pair_of, plain_errors, preceded_of, tag_of}
@@ -26,7 +26,7 @@ use Rattle.nom_error.specs.declared.value.Error.{Error}
 use Rattle.nom_write_stream.specs.Pipes.{HasOutcome}
 use Rattle.nom_write_stream.proofs.Everywhere.{case_outcome, of_value_outcome, rest_of, then_outcome}
 use Rattle.nom_write_stream.proofs.Members.{length_data_outcome, number_outcome}
-use Rattle.example_streams.specs.Messages.{body_of, message_of}
+use Rattle.nom_messages_run.specs.Messages.{body_of, message_of}
 use Rattle.nom_messages_run.proofs.ReadBack.{one_size, values_before}
 
 -- one of two

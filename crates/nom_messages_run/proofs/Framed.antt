@@ -14,7 +14,7 @@ use Rattle.nom_write.specs.Reads.{Holds}
 use Rattle.nom_write_stream.specs.declared.outgoing.Outgoing.{Outgoing}
 use Rattle.nom_write_stream.specs.declared.outgoing.Unwritten.{Unwritten}
 use Rattle.nom_write_stream.specs.declared.outgoing.Unwritten.TheVariants.{TooLong, Mismatch, Nothing, OverLimit, Fault, OutOfMemory}
-use Rattle.nom_write_stream.specs.Outgoing.{Adds, Counts, FailsWith, NoRoom, WhyNot}
+use Rattle.nom_write_stream.specs.Outgoing.{WritesItem, Counts, FailsWith, NoRoom, WhyNot}
 use Rattle.nom_messages_run.specs.Sent.{SendsNone, WhyUnframed}
 
 -- Bytes after their length, as the writer of these has it.
@@ -77,7 +77,7 @@ module _ (order : Endianness) (body : Bytes) where
     unframed (Fault e) w n = n
     unframed OutOfMemory w n = never w.0 Write.OutOfMemory (λ e. absurd (cc (e))) (λ e. absurd (cc (e))) w.2
 
-    pub not_framed : (contents : W → Option (List ℕ)) (r : Result (Unit {0}) Unwritten) → Adds contents a b FrameForm FrameFails r →
+    pub not_framed : (contents : W → Option (List ℕ)) (r : Result (Unit {0}) Unwritten) → WritesItem contents a b FrameForm FrameFails r →
         IfErr r (λ why. SendsNone contents a b × WhyUnframed a b body.now why)
     not_framed contents (Ok x) h = tt
     not_framed contents (Err why) h = (h.0, unframed why h.1 h.2)

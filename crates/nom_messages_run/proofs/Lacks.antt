@@ -11,8 +11,8 @@ use Rattle.nom_internal.specs.Outcome.ParsesAnswer.{ParseRanOut, Parsed}
 use Rattle.nom_internal.specs.Prelude.{bytes_model, IResult, Meaning, Outcome, Accept, Refuse, Slice, Stop, Fails, Needs, ParsesOutcome}
 use Rattle.nom_internal.specs.Prelude.{RunsOutFirst, RunsOutNext}
 use Rattle.nom.specs.grammars.Bytes.{Bytes, BytesGrammar, Parses, decimal_of, map_of, or_of, pair_of, plain_errors, preceded_of, tag_of, take_of}
-use Rattle.example_streams.specs.declared.protocol.Message.{Message}
-use Rattle.example_streams.specs.declared.protocol.Message.TheVariants.{Ping, Text, Close}
+use Rattle.nom_messages_run.specs.declared.protocol.Message.{Message}
+use Rattle.nom_messages_run.specs.declared.protocol.Message.TheVariants.{Ping, Text, Close}
 use Rattle.nom_messages_run.specs.Typed.{Line, typed_of}
 
 abbrev NoLack : {V : Type 0} → Meaning Bytes V (Error Bytes) → Type 0

@@ -3,9 +3,11 @@ pub mod Answered
 pub mod Framed
 pub mod Lacks
 pub mod Lines
+mod MessageParts
 mod Piped
 mod Putting
 pub mod ReadBack
 pub mod Reported
 mod TypedParts
 mod Whole
+pub mod WrittenMessages

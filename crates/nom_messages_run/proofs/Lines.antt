@@ -4,7 +4,7 @@ use Rattle.std.specs.List.{All}
 use Rattle.std.proofs.lemmas.List.Elements.{All-nil, All-push}
 use Rattle.nom_stream.specs.declared.stream.Stream.{Stream}
 use Rattle.nom_write_stream.specs.declared.outgoing.Outgoing.{Outgoing}
-use Rattle.example_streams.specs.declared.protocol.Message.{Message}
+use Rattle.nom_messages_run.specs.declared.protocol.Message.{Message}
 use Rattle.nom_messages_run.specs.Forms.{body_len}
 use Rattle.nom_messages_run.specs.Sent.{Says, SendsMessage, SentLines, TakesLine}
 

@@ -16,7 +16,7 @@ use Rattle.nom_stream.specs.declared.stream.Stream.{Stream}
 use Rattle.nom_stream.specs.Held.{last_of}
 use Rattle.nom_stream.specs.Items.{Bytes}
 use Rattle.nom_stream.specs.Streams.{Decides}
-use Rattle.example_streams.specs.declared.messages.Received.{Received}
+use Rattle.nom_messages_run.specs.declared.messages.Received.{Received}
 use Rattle.nom_messages_run.specs.Pipe.{Ends, LacksRoom, Lines, Lists, WroteAll, WroteLines, WroteSome}
 use Rattle.nom_messages_run.specs.Pipe.{ending_status, ending_text, received_text, stopped}
 

@@ -4,7 +4,7 @@ use Rattle.std.proofs.Common.{arith, sym, ◌∙◌, ap, subst, inl, inr, length
 use Rattle.nom_internal.specs.Prelude.{bytes_lawful, bytes_model, AreValues, IsOne, Slice}
 use Rattle.nom.specs.grammars.Bytes.{Big, Bytes, BytesGrammar, all_consuming_of, alt_of, length_data_of, length_value_of, map_of, number_of, or_of}
 use Rattle.nom.specs.grammars.Bytes.{pair_of, plain_errors, preceded_of, tag_of}
-use Rattle.nom_multi_length.specs.Lengths.{HasSize}
+use Rattle.nom_multi.specs.Lengths.{HasSize}
 use Rattle.nom_number.specs.Numbers.{binary_number}
 use Rattle.nom_sink.specs.declared.error.WriteError.{WriteError}
 use Rattle.nom_sink.specs.declared.error.WriteError.TheVariants as Write
@@ -22,10 +22,10 @@ use Rattle.nom_write.specs.laws.LengthReads.{length_data_reads, length_value_rea
 use Rattle.nom_write.specs.laws.SequenceReads.{pair_reads, preceded_reads}
 use Rattle.nom_write.specs.laws.WholeReads.{whole_reads}
 use Rattle.nom_write_stream.proofs.Everywhere.{values_after}
-use Rattle.example_streams.specs.Protocol.{Body}
-use Rattle.example_streams.specs.declared.protocol.Message.{Message}
-use Rattle.example_streams.specs.declared.protocol.Message.TheVariants as Sent
-use Rattle.example_streams.specs.declared.messages.Received.TheVariants as Received
+use Rattle.nom_messages_run.specs.Protocol.{Body}
+use Rattle.nom_messages_run.specs.declared.protocol.Message.{Message}
+use Rattle.nom_messages_run.specs.declared.protocol.Message.TheVariants as Sent
+use Rattle.nom_messages_run.specs.declared.messages.Received.TheVariants as Received
 use Rattle.nom_messages_run.specs.Forms.{IsBody, IsMessage}
 use Rattle.nom_messages_run.specs.Back.{FileReadsBack, StreamReadsBack, received}
 

@@ -3,11 +3,11 @@ use Rattle.std.proofs.Common.{◌≡◌, ℕ, true, ◌<◌, ◌≤◌, List, le
 use Rattle.nom_error.specs.declared.value.Error.{Error}
 use Rattle.std.specs.Prelude.{codes}
 use Rattle.nom_internal.specs.Prelude.{IResult, bytes_model, Cause}
-use Rattle.nom_growing.specs.Growing.{IsGrown}
+use Rattle.nom_calls.specs.Growing.{IsGrown}
 use Rattle.nom_internal.specs.Promises.{HasNoFailure}
 use Rattle.nom.specs.grammars.Bytes.{Bytes}
-use Rattle.example_streams.specs.declared.protocol.Message.{Message}
-use Rattle.example_streams.specs.Protocol.{Body, body_of, messages_of}
+use Rattle.nom_messages_run.specs.declared.protocol.Message.{Message}
+use Rattle.nom_messages_run.specs.Protocol.{Body, body_of, messages_of}
 use Rattle.nom_run.specs.Report.{IsTold}
 use Rattle.nom_run.specs.Texts.{bytes_text}
 use Rattle.nom_run.proofs.Reported.{reported}

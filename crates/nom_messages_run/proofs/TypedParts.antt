@@ -4,8 +4,8 @@ use Rattle.nom_internal.specs.Prelude.{bytes_model}
 use Rattle.std.specs.Int.{FitsUnsignedBits}
 use Rattle.nom_character_integer.specs.Integers.{integer_meaning}
 use Rattle.nom.specs.grammars.Bytes.{BytesGrammar, all_consuming_of, alt_of, map_of, or_of, pair_of, plain_errors, preceded_of, tag_of, take_of}
-use Rattle.example_streams.specs.declared.protocol.Message.{Message}
-use Rattle.example_streams.specs.declared.protocol.Message.TheVariants.{Ping, Text, Close}
+use Rattle.nom_messages_run.specs.declared.protocol.Message.{Message}
+use Rattle.nom_messages_run.specs.declared.protocol.Message.TheVariants.{Ping, Text, Close}
 use Rattle.nom_messages_run.specs.Typed.{Line, typed_of}
 
 -- the grammar, by the word of each message, whether a number may have a sign, and how long a text is

@@ -5,8 +5,8 @@ use Rattle.std.specs.Io.KnownBytes.{Appends}
 use Rattle.std.specs.List.{AllZip}
 use Rattle.nom_error.specs.declared.value.Error.{Error}
 use Rattle.nom_internal.specs.Prelude.{bytes_model, bytes_lawful, IsSuffixOf, rest_rest, Outcome, Accept, Stop, Needs, Meaning, IsLawful, Grammar}
-use Rattle.nom_iterator.specs.Iterated.{AreItems}
-use Rattle.nom_iterator.specs.Iterated as Iterated
+use Rattle.nom_calls.specs.Iterated.{AreItems}
+use Rattle.nom_calls.specs.Iterated as Iterated
 use Rattle.nom_stream.specs.declared.stream.Stop as Why
 use Rattle.nom_stream.specs.declared.stream.Stop.TheVariants as Stop
 use Rattle.nom_stream.specs.declared.stream.Stream.{Stream}
@@ -15,7 +15,7 @@ use Rattle.nom_stream.specs.Items.{Bytes}
 use Rattle.nom_stream.specs.Streams.{Answers, Decides, Told, counted}
 use Rattle.nom_stream.specs.Streams.Answers.{Decided, AtEnd, Full, Faulted, Lacking}
 use Rattle.nom_stream.specs.Wholes.{AnswersWhole, AtWhole, BytesOfWhole, HasLeft, ItemsOfWhole, TellsWhole}
-use Rattle.example_streams.specs.declared.messages.Received.{Received}
+use Rattle.nom_messages_run.specs.declared.messages.Received.{Received}
 use Rattle.nom_messages_run.specs.Pipe.{Ends, Lines, received_text, stopped}
 use Rattle.nom_messages_run.specs.Whole.{IsTheEnd, LinesOf, LinesOfWhole, WroteWhole}
 

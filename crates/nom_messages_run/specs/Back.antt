@@ -11,12 +11,12 @@ use Rattle.nom_stream.specs.Wholes.{HasLeft}
 use Rattle.nom_write.specs.Reads.{Anything, Reads}
 use Rattle.nom_write_stream.specs.declared.outgoing.Outgoing.{Outgoing}
 use Rattle.nom_write_stream.specs.Outgoing.{held_of}
-use Rattle.example_streams.specs.declared.protocol.Message.{Message}
-use Rattle.example_streams.specs.declared.protocol.Message.TheVariants as Sent
-use Rattle.example_streams.specs.Protocol.{body_of}
-use Rattle.example_streams.specs.Messages.{message_of}
-use Rattle.example_streams.specs.declared.messages.Received.{Received}
-use Rattle.example_streams.specs.declared.messages.Received.TheVariants.{Ping, Text, Close}
+use Rattle.nom_messages_run.specs.declared.protocol.Message.{Message}
+use Rattle.nom_messages_run.specs.declared.protocol.Message.TheVariants as Sent
+use Rattle.nom_messages_run.specs.Protocol.{body_of}
+use Rattle.nom_messages_run.specs.Messages.{message_of}
+use Rattle.nom_messages_run.specs.declared.messages.Received.{Received}
+use Rattle.nom_messages_run.specs.declared.messages.Received.TheVariants.{Ping, Text, Close}
 use Rattle.nom_messages_run.specs.Forms.{IsMessage}
 use Rattle.nom_messages_run.specs.Pipe.{WroteAll, ending_text}
 use Rattle.nom_messages_run.specs.Report.{message_text}

@@ -2,8 +2,8 @@
 use Rattle.std.specs.Prelude.{◌≡◌, ℕ, ◌+◌, ◌<◌, List, [], ◌∷◌, ◌++◌, length}
 use Rattle.nom.specs.grammars.Bytes.{Big}
 use Rattle.nom_number.specs.Numbers.{binary_number}
-use Rattle.example_streams.specs.declared.protocol.Message.{Message}
-use Rattle.example_streams.specs.declared.protocol.Message.TheVariants.{Ping, Text, Close}
+use Rattle.nom_messages_run.specs.declared.protocol.Message.{Message}
+use Rattle.nom_messages_run.specs.declared.protocol.Message.TheVariants.{Ping, Text, Close}
 
 -- the body of a message: the byte of its kind, and what it holds
 abbrev pub IsBody : Message → List ℕ → Type 0

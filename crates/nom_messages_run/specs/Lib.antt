@@ -1,6 +1,8 @@
 pub mod Back
 pub mod Forms
+pub mod Messages
 pub mod Pipe
+pub mod Protocol
 pub mod Report
 pub mod Sent
 pub mod Typed

@@ -1,12 +1,9 @@
 -- The lines of messages that come one after another, and the last line.
-use Rattle.std.specs.Prelude.{◌≡◌, ℕ, ◌-◌, ◌<◌, ◌⊎◌, List, [], ◌∷◌, ◌++◌, length, drop, codes, Option, Some, None, Result, Ok, Err}
+use Rattle.std.specs.Prelude.{◌≡◌, ℕ, ◌-◌, ◌<◌, ◌⊎◌, List, [], ◌∷◌, ◌++◌, length, drop, codes, Option, Some, None, Ok, Err}
 use Rattle.std.specs.Fmt.{decimal}
 use Rattle.std.specs.Io.KnownBytes.{Appends}
 use Rattle.nom_internal.specs.Prelude.{size_of, Grammar}
 use Rattle.nom_error.specs.declared.value.Error.{Error}
-use Rattle.nom_run.specs.declared.error.RunError.{RunError}
-use Rattle.nom_run.specs.Pieces.{BeganText, WroteBut}
-use Rattle.nom_run.specs.Stream.{MatchRunError, NoWriteFailed, WriteFailed}
 use Rattle.nom_run.specs.Texts.{bytes_text, error_text, failure_text, need_text}
 use Rattle.nom_stream.specs.declared.stream.Stop as Why
 use Rattle.nom_stream.specs.declared.stream.Stop.TheVariants as Stop
@@ -14,8 +11,8 @@ use Rattle.nom_stream.specs.declared.stream.Stream.{Stream}
 use Rattle.nom_stream.specs.Held.{last_of}
 use Rattle.nom_stream.specs.Items.{Bytes}
 use Rattle.nom_stream.specs.Streams.{Decides, Told}
-use Rattle.example_streams.specs.declared.messages.Received.{Received}
-use Rattle.example_streams.specs.declared.messages.Received.TheVariants.{Ping, Text, Close}
+use Rattle.nom_messages_run.specs.declared.messages.Received.{Received}
+use Rattle.nom_messages_run.specs.declared.messages.Received.TheVariants.{Ping, Text, Close}
 use Rattle.nom_messages_run.specs.Report.{ping_text}
 
 -- the line of a message, by its bytes: those of a text are the last ones
@@ -101,9 +98,3 @@ module _ {R A V : Type 0} (left : R → Option (List ℕ)) (grammar : Grammar By
   -- memory was wanted for the first line: that of the first message, or the last line
   abbrev pub LacksRoom : (s t : Stream R A) → Type 0
   LacksRoom s t = (text : List ℕ) × (Lists s t text 1 ⊎ ((status : ℕ) × (e : Ends s t text status) × (e.messages ≡ [])))
-
--- A text is added to what is held: it is held or written after it, and so many bytes are left; or a write failed, and a beginning was written.
-module _ {W : Type 0} (holds : W → Option (List ℕ)) (failures stalls : W → ℕ) (a b : W) (held text left : List ℕ) where
-  abbrev pub Puts : Result (Unit {0}) RunError → Type 0
-  Puts (Ok _) = WroteBut (holds a) (holds b) (held ++ text) left × NoWriteFailed (failures a) (failures b) (stalls a) (stalls b)
-  Puts (Err e) = MatchRunError e ⊥ (BeganText (holds a) (holds b) (held ++ text) × WriteFailed (failures a) (failures b) (stalls a) (stalls b)) ⊥ ⊥

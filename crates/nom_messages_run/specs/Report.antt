@@ -5,9 +5,9 @@ use Rattle.std.specs.Fmt.{decimal}
 use Rattle.nom_error.specs.declared.value.Error.{Error}
 use Rattle.nom_internal.specs.Prelude.{Meaning}
 use Rattle.nom.specs.grammars.Bytes.{Bytes}
-use Rattle.example_streams.specs.declared.protocol.Message.{Message}
-use Rattle.example_streams.specs.declared.protocol.Message.TheVariants.{Ping, Text, Close}
-use Rattle.example_streams.specs.Protocol.{Body, messages_of}
+use Rattle.nom_messages_run.specs.declared.protocol.Message.{Message}
+use Rattle.nom_messages_run.specs.declared.protocol.Message.TheVariants.{Ping, Text, Close}
+use Rattle.nom_messages_run.specs.Protocol.{Body, messages_of}
 use Rattle.nom_run.specs.Report.{IsReportBy}
 use Rattle.nom_run.specs.Texts.{bytes_text, lines_text}
 

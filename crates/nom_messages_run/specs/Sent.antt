@@ -7,7 +7,7 @@ use Rattle.nom_error.specs.declared.value.Error.{Error}
 use Rattle.nom_error.specs.declared.answer.Err.TheVariants as Answer
 use Rattle.nom_internal.specs.Prelude.{IResult}
 use Rattle.nom.specs.grammars.Bytes.{Bytes, Parses}
-use Rattle.nom_json_run.specs.Lines.{json_line_of}
+use Rattle.nom_stream.specs.Lines.{line_of}
 use Rattle.nom_sink.specs.declared.error.WriteError.{WriteError}
 use Rattle.nom_sink.specs.declared.error.WriteError.TheVariants as Write
 use Rattle.nom_stream.specs.declared.stream.Stop as Stops
@@ -20,7 +20,7 @@ use Rattle.nom_write_stream.specs.declared.outgoing.Unwritten as Unwrittens
 use Rattle.nom_write_stream.specs.declared.outgoing.Unwritten.TheVariants as Unwritten
 use Rattle.nom_write_stream.specs.Outgoing.{Flushes, IsItem, Sends, held_of}
 use Rattle.nom_write_stream.specs.Targets.{NoFault, OneFault, one_more}
-use Rattle.example_streams.specs.declared.protocol.Message.{Message}
+use Rattle.nom_messages_run.specs.declared.protocol.Message.{Message}
 use Rattle.nom_messages_run.specs.Forms.{IsLong, IsMessage, body_len}
 use Rattle.nom_messages_run.specs.Typed.{typed_of}
 use Rattle.nom_messages_run.specs.declared.write.Halt as Halts
@@ -49,7 +49,7 @@ IsRefused xs = (r : IResult Bytes Message (Error Bytes)) × IsStop r × Answers 
 
 -- a line, without its end, came as the next one
 abbrev pub TakesLine : {R A : Type 0} → (R → Option (List ℕ)) → (s t : Stream R A) → List ℕ → Type 0
-TakesLine left s t xs = (n x : ℕ) × Decides left json_line_of s t (Ok (Some (n, x))) × (xs ≡ take x (last_of n t.held))
+TakesLine left s t xs = (n x : ℕ) × Decides left line_of s t (Ok (Some (n, x))) × (xs ≡ take x (last_of n t.held))
 
 -- a message is held or written, after what was held
 abbrev pub SendsMessage : {W B : Type 0} → (W → Option (List ℕ)) → (a b : Outgoing W B) → Message → Type 0
@@ -130,9 +130,9 @@ pub data HaltsLine {W B : Type 0} (room : ℕ) (a b : Outgoing W B) (xs : List �
 pub data HaltsAt {R A W B : Type 0} (left : R → Option (List ℕ)) (messages : List Message) (t u : Stream R A) (a b : Outgoing W B)
     (h : Halts.Halt) : Type 0 where
   -- the data end
-  Ended : Decides left json_line_of t u (Ok None) → NoFault a.target b.target → h ≡ Halt.End → HaltsAt left messages t u a b h
+  Ended : Decides left line_of t u (Ok None) → NoFault a.target b.target → h ≡ Halt.End → HaltsAt left messages t u a b h
   -- no line comes
-  Stopped : (why : Stops.Stop) → Decides left json_line_of t u (Err why) → NoFault a.target b.target → h ≡ halt_by (length messages + 1) why →
+  Stopped : (why : Stops.Stop) → Decides left line_of t u (Err why) → NoFault a.target b.target → h ≡ halt_by (length messages + 1) why →
       HaltsAt left messages t u a b h
   -- the next line comes, and isn't sent
   Taken : (xs : List ℕ) (room : ℕ) → TakesLine left t u xs → All (λ m. body_len m ≤ room) messages →

@@ -2,8 +2,8 @@
 use Rattle.std.specs.Prelude.{ℕ, ℤ, ◌⊎◌, codes}
 use Rattle.nom_internal.specs.Prelude.{bytes_model, Slice}
 use Rattle.nom.specs.grammars.Bytes.{BytesGrammar, all_consuming_of, alt_of, decimal_of, map_of, or_of, pair_of, preceded_of, tag_of, take_of}
-use Rattle.example_streams.specs.declared.protocol.Message.{Message}
-use Rattle.example_streams.specs.declared.protocol.Message.TheVariants.{Ping, Text, Close}
+use Rattle.nom_messages_run.specs.declared.protocol.Message.{Message}
+use Rattle.nom_messages_run.specs.declared.protocol.Message.TheVariants.{Ping, Text, Close}
 
 -- a number, a text, or a leave
 abbrev pub Line : Type 0

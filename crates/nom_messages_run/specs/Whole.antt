@@ -3,13 +3,13 @@ use Rattle.std.specs.Prelude.{◌≡◌, ℕ, ◌+◌, ◌-◌, ◌^◌, ◌<◌
 use Rattle.std.specs.Io.KnownBytes.{Appends}
 use Rattle.nom_error.specs.declared.value.Error.{Error}
 use Rattle.nom_internal.specs.Prelude.{bytes_model, IsSuffixOf, Outcome, Accept, Grammar}
-use Rattle.nom_iterator.specs.Iterated.{AreItems}
+use Rattle.nom_calls.specs.Iterated.{AreItems}
 use Rattle.nom_stream.specs.declared.stream.Stop as Why
 use Rattle.nom_stream.specs.declared.stream.Stop.TheVariants as Stop
 use Rattle.nom_stream.specs.declared.stream.Stream.{Stream}
 use Rattle.nom_stream.specs.Items.{Bytes}
 use Rattle.nom_stream.specs.Wholes.{AtWhole, HasLeft, TellsWhole}
-use Rattle.example_streams.specs.declared.messages.Received.{Received}
+use Rattle.nom_messages_run.specs.declared.messages.Received.{Received}
 use Rattle.nom_messages_run.specs.Pipe.{WroteAll, ending_status, ending_text, received_text, stopped}
 
 -- the last line tells that there is no further message

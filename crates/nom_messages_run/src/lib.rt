@@ -4,8 +4,10 @@
 //! lines that are typed.
 #![tactic(auto)]
 
+pub mod messages;
 pub mod pipe;
 pub mod promises;
+pub mod protocol;
 pub mod put;
 pub mod report;
 pub mod typed;

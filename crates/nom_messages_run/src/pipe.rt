@@ -4,10 +4,10 @@ ghost use Rattle.std.specs.Io.KnownBytes.{Appends};
 ghost use Rattle.nom_run.specs.Pieces.{BeganText, HasRoom, WroteBut};
 ghost use Rattle.nom_run.specs.Stream.{MatchRunError, NoWriteFailed, WriteFailed};
 ghost use Rattle.nom_messages_run.specs.Pipe.{LacksRoom, WroteAll, WroteLines, WroteSome, ending_status, ending_text, received_text};
-ghost use Rattle.example_streams.specs.Messages.{message_of};
+ghost use Rattle.nom_messages_run.specs.Messages.{message_of};
 
+use crate::messages::{Messages, Received};
 use crate::put::{put_ending, put_received};
-use example_streams::messages::{Messages, Received};
 use nom::OutOfMemory;
 use nom_run::error::RunError;
 use nom_run::pieces::flush;

@@ -2,7 +2,7 @@
 ghost use Rattle.nom_messages_run.specs.Back.{FileReadsBack, SentReadBack, StreamReadsBack};
 ghost use Rattle.nom_messages_run.specs.Whole.{LinesOfWhole};
 
-use example_streams::messages::{Messages, Received};
+use crate::messages::{Messages, Received};
 use nom_stream::grammar::Grammar;
 use nom_stream::promises::{answers_of_whole, bytes_of_whole, items_of_whole};
 use nom_stream::stream::Stream;

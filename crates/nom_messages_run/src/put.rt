@@ -3,11 +3,11 @@ ghost use Rattle.std.specs.Prelude.{◌≡◌, ◌++◌, ◌/◌, ◌%◌, ◌<�
 ghost use Rattle.std.specs.Fmt.{decimal};
 ghost use Rattle.nom_error.specs.Kinds.{description_of};
 ghost use Rattle.nom_internal.specs.Prelude.{size_of};
-ghost use Rattle.nom_run.specs.Pieces.{HasRoom};
+ghost use Rattle.nom_run.specs.Pieces.{HasRoom, Puts};
 ghost use Rattle.nom_run.specs.Texts.{bytes_text, digits_text, hex_digit, need_text};
-ghost use Rattle.nom_messages_run.specs.Pipe.{Puts, ending_text, place_text, received_text};
+ghost use Rattle.nom_messages_run.specs.Pipe.{ending_text, place_text, received_text};
 
-use example_streams::messages::Received;
+use crate::messages::Received;
 use itoa::Buffer;
 use nom::Needed;
 use nom::error::ErrorKind;

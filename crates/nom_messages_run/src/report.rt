@@ -3,7 +3,7 @@ ghost use Rattle.std.specs.Prelude.{◌≡◌, ◌++◌, IfOk, length, string_by
 ghost use Rattle.nom_run.specs.Stream.{NoneAbove};
 ghost use Rattle.nom_messages_run.specs.Report.{IsReport, message_text, ping_text};
 
-use example_streams::protocol::{Message, messages};
+use crate::protocol::{Message, messages};
 use nom::{Items, OutOfMemory};
 use nom_run::error::RunError;
 use nom_run::report::{Lines, Report, beginning_len, tell, write_built};

@@ -2,10 +2,9 @@
 ghost use Rattle.std.specs.Prelude.{◌≡◌, ◌-◌, false, Err, length};
 ghost use Rattle.nom_error.specs.declared.answer.Err.TheVariants as Answer;
 ghost use Rattle.nom.specs.grammars.Bytes.{Parses};
-ghost use Rattle.example_streams.specs.declared.protocol.Message.TheVariants.{Ping, Text, Close};
 ghost use Rattle.nom_messages_run.specs.Typed.{typed_of};
 
-use example_streams::protocol::Message;
+use crate::protocol::{Message, close, ping, text};
 use nom::branch::alt;
 use nom::bytes::{tag, take};
 use nom::character::u32;
@@ -13,24 +12,6 @@ use nom::combinator::{all_consuming, map};
 use nom::error::Error;
 use nom::sequence::{pair, preceded};
 use nom::{IResult, Parser};
-
-fn ping<'a>(word_and_number: (&'a [u8], u32)) -> Message<'a>
-    ensures { result ≡ Ping word_and_number.entry.1 }
-{
-    Message::Ping(word_and_number.1)
-}
-
-fn text<'a>(bytes: &'a [u8]) -> Message<'a>
-    ensures { result ≡ Text bytes.entry }
-{
-    Message::Text(bytes)
-}
-
-fn close<'a>(_word: &'a [u8]) -> Message<'a>
-    ensures { result ≡ Close }
-{
-    Message::Close
-}
 
 /// Returns the message that a line stands for, which is all of it:
 ///

@@ -3,20 +3,20 @@ ghost use Rattle.std.specs.Prelude.{◌≡◌, ◌++◌, ◌≤◌, ℕ, List, [
 ghost use Rattle.nom_messages_run.specs.Forms.{IsBody, IsFrame, body_len};
 ghost use Rattle.nom_messages_run.specs.Sent.{HaltsLine, Says, SendsMessage, SendsNone, SentBefore, SentUntil};
 ghost use Rattle.nom_messages_run.specs.Sent.{WhyNoBody, WhyUnframed, WhyUnmade, WhyUnsent, halt_by, halt_for, halt_text, unsent_of};
-ghost use Rattle.example_streams.specs.declared.protocol.Message.{Message};
+ghost use Rattle.nom_messages_run.specs.declared.protocol.Message.{Message};
 ghost use Rattle.nom_messages_run.specs.Sent as Sent;
 ghost use Rattle.nom_write_stream.specs.Outgoing.{IsItem, Sends};
 ghost use Rattle.nom_write_stream.specs.Targets.{NoFault};
 
+use crate::protocol::Message;
 use crate::typed::typed;
-use example_streams::protocol::Message;
 use nom::bytes::tag;
 use nom::error::Error;
 use nom::multi::length_data;
 use nom::number::{be_u8, be_u16, be_u32};
 use nom::sequence::preceded;
 use nom::{Err as Answer, Items, OutOfMemory};
-use nom_json_run::lines::Lines;
+use nom_stream::lines::Lines;
 use nom_stream::stream::{Stop, Stream};
 use nom_write::{Constant, WriteError, Writer};
 use nom_write_stream::outgoing::{Outgoing, Unwritten};

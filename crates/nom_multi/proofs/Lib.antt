@@ -3,5 +3,7 @@ pub mod FillShown
 pub mod Promised
 pub mod TillShown
 pub mod Until
-pub mod SeparatedAccepting
-pub mod SeparatedShown
+pub mod LengthShown
+pub mod Reached
+pub mod ValueShown
+pub mod LengthAccepting

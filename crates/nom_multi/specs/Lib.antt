@@ -4,6 +4,8 @@ pub mod Many
 pub mod Promises
 pub mod Till
 pub mod laws
-pub mod SeparatedPromises
-pub mod Separated
 pub mod Words
+pub mod Lengths
+pub mod Values
+pub mod LengthPromises
+pub mod LengthWords

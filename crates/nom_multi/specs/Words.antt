@@ -7,7 +7,6 @@ use Rattle.nom_internal.specs.Word.{Word, word}
 use Rattle.nom_multi.specs.Bounded as Bounded
 use Rattle.nom_multi.specs.Fill as Fill
 use Rattle.nom_multi.specs.Many as Many
-use Rattle.nom_multi.specs.Separated as Separated
 use Rattle.nom_multi.specs.Till as Till
 
 module _ {I A O M E : Type 0} (w : Model I A) (errs : Errors I E) where
@@ -66,36 +65,6 @@ module _ {I A O M E : Type 0} (w : Model I A) (errs : Errors I E) where
 
     pub many_m_n_same : {least least' most most' : ℕ} → least ≡ least' → most ≡ most' → g ≡ h → many_m_n_of least most g ≡ many_m_n_of least' most' h
     many_m_n_same a b p = λ i. many_m_n_of (a i) (b i) (p i)
-
--- items with separators between them
-module _ {I A S O M E : Type 0} (w : Model I A) (errs : Errors I E) where
-  abbrev separated_list0_meant : Word I S E → Word I O E → Word I (Vec O M) E
-  separated_list0_meant sep g = word (Separated.separated_list0_of w errs sep.grammar g.grammar)
-
-  pub separated_list0_of : Word I S E → Word I O E → Word I (Vec O M) E
-  separated_list0_of sep g = separated_list0_meant sep g
-
-  module _ {g h : Word I S E} {k l : Word I O E} where
-    pub separated_list0_worded : g ≡ h → k ≡ l → separated_list0_of g k ≡ separated_list0_meant h l
-    unfolding separated_list0_of
-    separated_list0_worded p q = ap₂ separated_list0_meant p q
-
-    pub separated_list0_same : g ≡ h → k ≡ l → separated_list0_of g k ≡ separated_list0_of h l
-    separated_list0_same p q = ap₂ separated_list0_of p q
-
-  abbrev separated_list1_meant : Word I S E → Word I O E → Word I (Vec O M) E
-  separated_list1_meant sep g = word (Separated.separated_list1_of w errs sep.grammar g.grammar)
-
-  pub separated_list1_of : Word I S E → Word I O E → Word I (Vec O M) E
-  separated_list1_of sep g = separated_list1_meant sep g
-
-  module _ {g h : Word I S E} {k l : Word I O E} where
-    pub separated_list1_worded : g ≡ h → k ≡ l → separated_list1_of g k ≡ separated_list1_meant h l
-    unfolding separated_list1_of
-    separated_list1_worded p q = ap₂ separated_list1_meant p q
-
-    pub separated_list1_same : g ≡ h → k ≡ l → separated_list1_of g k ≡ separated_list1_of h l
-    separated_list1_same p q = ap₂ separated_list1_of p q
 
 module _ {I A O P M E : Type 0} (w : Model I A) (errs : Errors I E) where
   abbrev many_till_meant : Word I O E → Word I P E → Word I (Vec O M × P) E

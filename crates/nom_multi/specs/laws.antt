@@ -2,4 +2,5 @@ pub mod BoundedLaws
 pub mod FillLaws
 pub mod ManyLaws
 pub mod TillLaws
-pub mod SeparatedLaws
+pub mod LengthLaws
+pub mod ValueLaws

@@ -4,7 +4,7 @@ use Rattle.std.specs.declared.ops.Bound.{Bound}
 use Rattle.std.proofs.Common.{◌≡◌, Bool, true, false, ℕ, ◌+◌, ◌<◌, Option, Some, None, List, [], ◌∷◌, refl, subst, sym, inl, inr}
 use Rattle.nom_internal.specs.Prelude.{Errors, ErrorKind, Model, Outcome, Accept, Refuse, Stop, Meaning, Passes}
 use Rattle.nom_error.specs.declared.kind.ErrorKind.TheVariants as Kind
-use Rattle.nom_ranges.specs.Ranges.{fewest, most_items, limit}
+use Rattle.nom_values.specs.Ranges.{fewest, most_items, limit}
 use Rattle.nom_repeat.specs.Repeat.{Pieces}
 use Rattle.nom_repeat.specs.Items.{items_meaning}
 use Rattle.nom_repeat.specs.Accepted.{MayTake, TakesItem, EndsItems, InTurn, OneAndMore, AcceptsItems, AcceptsOneAndMore}

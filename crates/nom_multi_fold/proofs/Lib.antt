@@ -5,3 +5,5 @@ pub mod FoldShown
 pub mod GatherShown
 pub mod RangeShown
 pub mod UnfitShown
+pub mod FoldsAllocShown
+pub mod OneFolded

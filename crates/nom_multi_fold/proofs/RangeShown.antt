@@ -4,7 +4,7 @@ use Rattle.std.specs.Prelude.{IsTrue}
 use Rattle.std.specs.declared.ops.Bound.{Bound}
 use Rattle.nom_internal.specs.Prelude.{PResult, Errors, Modes, ErrorKind, Model, Meaning, ShowsMeaning}
 use Rattle.nom_repeat.specs.Items.{items_meaning}
-use Rattle.nom_ranges.specs.Ranges.{fewest, most_items, limit}
+use Rattle.nom_values.specs.Ranges.{fewest, most_items, limit}
 use Rattle.nom_multi_fold.specs.Ranges.{range_limits, IsEmpty, range_meaning}
 use Rattle.nom_multi_fold.proofs.UnfitShown.{fit_shown}
 use Rattle.nom_repeat.specs.Bounds.{bounded_limits}

@@ -7,3 +7,5 @@ pub mod Under
 pub mod Unfit
 pub mod laws
 pub mod Words
+pub mod FoldAlloc
+pub mod AllocWords

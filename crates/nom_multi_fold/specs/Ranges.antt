@@ -5,7 +5,7 @@ use Rattle.nom_error.specs.declared.kind.ErrorKind.TheVariants as Kind
 use Rattle.nom_internal.specs.Prelude.{Errors, ErrorKind, Model, Meaning, Grammar}
 use Rattle.nom_repeat.specs.Items.{items_meaning}
 use Rattle.nom_repeat.specs.declared.items.Limits.{Limits}
-use Rattle.nom_ranges.specs.Ranges.{IsInverted, fewest, most_items, limit}
+use Rattle.nom_values.specs.Ranges.{IsInverted, fewest, most_items, limit}
 use Rattle.nom_multi_fold.specs.Unfit.{unfit}
 use Rattle.nom_repeat.specs.Bounds.{bounded_limits}
 use Rattle.std.specs.List.{AllZip}

@@ -3,3 +3,4 @@ pub mod DroppedLaws
 pub mod FoldLaws
 pub mod RangeLaws
 pub mod UnfitLaws
+pub mod FoldAllocLaws

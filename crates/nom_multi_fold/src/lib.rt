@@ -3,6 +3,7 @@
 
 ghost use Rattle.std.specs.Prelude.{◌≡◌};
 
+mod alloc_folds;
 mod counts;
 mod dropped;
 mod folded;
@@ -11,10 +12,14 @@ mod gathered;
 pub mod promises;
 mod ranged;
 
+pub use crate::alloc_folds::{FoldMany0Alloc, FoldMany1Alloc};
 pub use crate::counts::{Many0Count, Many1Count, ManyMNCount};
 pub use crate::dropped::Dropped;
 pub use crate::folds::{FoldMany0, FoldMany1, FoldManyMN};
 pub use crate::ranged::{Fold, Many};
+use nom_error::answer::OutOfMemory;
+use nom_internal::parser::Parser;
+use nom_traits::input::Input;
 use std::alloc::Allocator;
 
 /// Repeats `parser` until it refuses, and returns the number of items.
@@ -167,4 +172,51 @@ pub fn fold<R, F, H, G>(range: R, parser: F, init: H, fold: G) -> Fold<R, F, H, 
         init,
         fold,
     }
+}
+
+/// Repeats `parser` until it refuses, and folds the outputs with closures that may take memory.
+///
+/// It works like `fold_many0`, but answers `OutOfMemory` if one of the closures finds no memory.
+///
+/// The closures capture their allocator. They are called only if outputs are built. `init` is called once,
+/// before the first item.
+#[inline(always)]
+pub fn fold_many0_alloc<
+    I: Input,
+    R: Drop,
+    F: Parser<I>,
+    H: Fn() -> Result<R, OutOfMemory>,
+    G: Fn(R, F::Output) -> Result<R, OutOfMemory>,
+>(parser: F, init: H, fold: G) -> FoldMany0Alloc<F, H, G>
+    ensures parser { result.parser ≡ parser }
+    ensures init { result.init ≡ init }
+    ensures fold { result.fold ≡ fold }
+{
+    FoldMany0Alloc { parser, init, fold }
+}
+
+/// Repeats `parser` until it refuses, at least once, and folds the outputs with closures that may take
+/// memory.
+///
+/// It works like `fold_many1`, but answers `OutOfMemory` if one of the closures finds no memory.
+///
+/// If the first item is refused, the fold refuses with `Many1` at the start. A later refusal ends the fold
+/// successfully. From the second item on, one that is accepted without consuming input is refused with
+/// `Many1`.
+///
+/// The closures capture their allocator. They are called only if outputs are built. `init` is called once,
+/// before the first item.
+#[inline(always)]
+pub fn fold_many1_alloc<
+    I: Input,
+    R: Drop,
+    F: Parser<I>,
+    H: Fn() -> Result<R, OutOfMemory>,
+    G: Fn(R, F::Output) -> Result<R, OutOfMemory>,
+>(parser: F, init: H, fold: G) -> FoldMany1Alloc<F, H, G>
+    ensures parser { result.parser ≡ parser }
+    ensures init { result.init ≡ init }
+    ensures fold { result.fold ≡ fold }
+{
+    FoldMany1Alloc { parser, init, fold }
 }

@@ -3,7 +3,7 @@
 //! These functions do nothing: their contracts are the promises. The trees are those of the items. A count is
 //! their number. A fold takes their outputs from left to right. A collection holds their outputs.
 ghost use Rattle.std.specs.Prelude.{◌<◌, None, Some};
-ghost use Rattle.nom_ranges.specs.Ranges.{fewest, most_items, limit};
+ghost use Rattle.nom_values.specs.Ranges.{fewest, most_items, limit};
 ghost use Rattle.nom_repeat.specs.Accepted.{AcceptsItems, AcceptsOneAndMore};
 ghost use Rattle.nom_multi_fold.specs.Counts.{AcceptsFew};
 ghost use Rattle.nom_multi_fold.specs.Ranges.{IsEmpty};
@@ -12,10 +12,10 @@ use crate::counts::{Many0Count, Many1Count, ManyMNCount};
 use crate::folds::{FoldMany0, FoldMany1, FoldManyMN};
 use crate::ranged::{Fold, Many};
 use nom_internal::parser::Parser;
-use nom_ranges::range::NomRange;
 use nom_search::collection::Collection;
 use nom_traits::input::{Input, Items};
 use nom_traits::view::Viewed;
+use nom_values::range::NomRange;
 use std::alloc::Allocator;
 
 /// `many0_count` accepts exactly the items that its part accepts, one after the other, up to where the part

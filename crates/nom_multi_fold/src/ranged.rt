@@ -12,14 +12,14 @@ use nom_error::kind::ErrorKind;
 use nom_error::mode::OutputMode;
 use nom_error::value::ParseError;
 use nom_internal::parser::{Parser, StreamParser};
-use nom_ranges::counts::{least, most};
-use nom_ranges::range::NomRange;
 use nom_repeat::accumulator::Accumulator;
 use nom_repeat::bounds::bounded_items;
 use nom_repeat::inverted::failure;
 use nom_search::collection::{Collection, ViewedCollection};
 use nom_traits::input::{Input, Items};
 use nom_traits::view::Viewed;
+use nom_values::counts::{least, most};
+use nom_values::range::NomRange;
 use std::alloc::Allocator;
 
 /// The parser that `many` returns: items within a range of counts, in a collection of type `C`.

@@ -3,17 +3,17 @@
 //! If there are fewer bytes, each parser refuses with `Eof` at the start of the input.
 ghost use Rattle.std.specs.Prelude.{◌≡◌, false};
 ghost use Rattle.nom_internal.specs.Prelude.{itself};
-ghost use Rattle.nom_func.specs.Func.{AnswersBy};
+ghost use Rattle.nom_calls.specs.Func.{AnswersBy};
 ghost use Rattle.nom_number.specs.Numbers.{number_meaning, binary_number, unsigned_meaning, signed_meaning};
 
 use crate::layout;
 use crate::layout::Layout;
 use crate::order::Endianness;
 use crate::wide::Binary;
+use nom_calls::answer::answer;
 use nom_error::answer::IResult;
 use nom_error::mode::Complete;
 use nom_error::value::ParseError;
-use nom_func::answer::answer;
 use nom_internal::fixed::Fixed;
 use nom_internal::one_mode::fixed;
 use nom_traits::input::Input;

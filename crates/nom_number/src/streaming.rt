@@ -3,17 +3,17 @@
 //! If there are fewer bytes, each parser needs the missing ones.
 ghost use Rattle.std.specs.Prelude.{◌≡◌, true};
 ghost use Rattle.nom_internal.specs.Prelude.{itself};
-ghost use Rattle.nom_func.specs.Func.{StreamsBy};
+ghost use Rattle.nom_calls.specs.Func.{StreamsBy};
 ghost use Rattle.nom_number.specs.Numbers.{number_meaning, binary_number, unsigned_meaning, signed_meaning};
 
 use crate::layout;
 use crate::layout::Layout;
 use crate::order::Endianness;
 use crate::wide::Binary;
+use nom_calls::answer::stream_answer;
 use nom_error::answer::IResult;
 use nom_error::mode::Streaming;
 use nom_error::value::ParseError;
-use nom_func::answer::stream_answer;
 use nom_internal::fixed::Fixed;
 use nom_internal::one_mode::fixed;
 use nom_traits::input::Input;

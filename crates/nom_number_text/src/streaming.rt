@@ -1,7 +1,7 @@
 //! Numbers and shapes written in digits, in streaming mode.
 ghost use Rattle.std.specs.Prelude.{◌≡◌, true, false};
 ghost use Rattle.nom_internal.specs.Prelude.{IsModelledBy, itself, view_4, EitherOutput};
-ghost use Rattle.nom_func.specs.Func.{StreamsBy};
+ghost use Rattle.nom_calls.specs.Func.{StreamsBy};
 ghost use Rattle.nom_number_text.specs.Floats.{float_meaning};
 ghost use Rattle.nom_number_text.specs.Hex.{hex_meaning};
 ghost use Rattle.nom_number_text.specs.Parts.{IsParts, parts_meaning};
@@ -12,9 +12,9 @@ use crate::float::RecognizeFloat;
 use crate::hex::HexU32;
 use crate::kind::AsFloat;
 use crate::part::FloatParts;
+use nom_calls::answer::stream_answer;
 use nom_error::answer::IResult;
 use nom_error::value::ParseError;
-use nom_func::answer::stream_answer;
 use nom_traits::character::AsChar;
 use nom_traits::input::Input;
 use std::marker::PhantomData;

@@ -13,8 +13,3 @@ GoesUnder left k j = (k < j) ⊎ ((j ≡ k) × (left k ≡ false))
 abbrev pub UnderInnermost : {X C : Type 0} → (ℕ → Bool) → (C → ℕ) → ℕ → List (X × C) → Type 0
 UnderInnermost left of k [] = Unit {0}
 UnderInnermost left of k (e ∷ s) = GoesUnder left k (of e.1)
-
--- there is an innermost, and an operator of the level k closes it
-abbrev pub ClosesInnermost : {X C : Type 0} → (ℕ → Bool) → (C → ℕ) → ℕ → List (X × C) → Type 0
-ClosesInnermost left of k [] = ⊥
-ClosesInnermost left of k (e ∷ s) = Closes left k (of e.1)

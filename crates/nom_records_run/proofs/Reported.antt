@@ -3,7 +3,7 @@ use Rattle.std.proofs.Common.{◌≡◌, ℕ, ◌<◌, ◌≤◌, true, List, le
 use Rattle.nom_error.specs.declared.value.Error.{Error}
 use Rattle.nom_internal.specs.Prelude.{IResult, bytes_model, Slice, Cause}
 use Rattle.nom_internal.specs.Promises.{HasNoFailure}
-use Rattle.nom_growing.specs.Growing.{IsGrown}
+use Rattle.nom_calls.specs.Growing.{IsGrown}
 use Rattle.nom.specs.grammars.Bytes.{Bytes, BytesGrammar, Big, length_data_of, many0_of, number_of, preceded_of, tag_of, terminated_of}
 use Rattle.nom_run.specs.Report.{IsTold}
 use Rattle.nom_run.proofs.Reported.{reported}

@@ -2,7 +2,7 @@
 ghost use Rattle.std.specs.Prelude.{IfOk, length, string_bytes};
 ghost use Rattle.nom_internal.specs.Prelude.{bytes_model};
 ghost use Rattle.nom_internal.specs.Promises.{HasNoFailure};
-ghost use Rattle.nom_growing.specs.Growing.{IsGrown};
+ghost use Rattle.nom_calls.specs.Growing.{IsGrown};
 ghost use Rattle.nom_records_run.specs.Report.{IsReport, record_grammar, record_text, records_of};
 ghost use Rattle.nom_run.specs.Stream.{NoneAbove};
 

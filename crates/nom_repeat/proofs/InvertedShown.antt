@@ -1,6 +1,6 @@
 -- What bounds that don't fit each other show.
 use Rattle.std.proofs.Common.{◌≡◌, Bool, true, false, Err, Option, inl, inr, refl, ap}
-use Rattle.nom_internal.specs.Prelude.{Errors, PResult, Refuses, Modes, ErrorKind, Needed, Model, Refuse, Stop, Fails, Outright, RanOut, Shown, Meaning}
+use Rattle.nom_internal.specs.Prelude.{Errors, PResult, Modes, ErrorKind, Needed, Model, Stop, Fails, Outright, RanOut, Shown, Meaning}
 use Rattle.nom_internal.specs.Prelude.{ShowsMeaning}
 use Rattle.nom_error.specs.declared.answer.Err as Answer
 use Rattle.nom_repeat.specs.Inverted.{error_if, GivesFailure}
@@ -13,13 +13,6 @@ module _ {I A V O E : Type 0} {w : Model I A} {IsOutput : V → O → Type 0} {m
     inverted_fails true t (inl g) = RanOut (ap Err g.0) (tt, g.1)
     inverted_fails true t (inr g) = Shown (Stop (Fails Outright)) refl (g.0, g.1, ap Err g.2)
     inverted_fails false t g = absurd (cc (t))
-
-    -- they refuse
-    pub inverted_refuses : (test : Bool) → test ≡ true → {f : Answer.Err E (Option E) Needed} → Refuses (errs.of_kind i kind) errs.grows mode.errors f →
-        ShowsMeaning w IsOutput (error_if errs kind false test m) mode i (Err f)
-    inverted_refuses true t (inl g) = RanOut (ap Err g.0) (g.1, g.2)
-    inverted_refuses true t (inr g) = Shown Refuse refl (g.0, g.1, ap Err g.2)
-    inverted_refuses false t g = absurd (cc (t))
 
     -- they fit, and the part answers
     pub not_inverted : (fails test : Bool) → test ≡ false → {r : PResult I O E} →

@@ -35,7 +35,7 @@ char_text c = if nat_eq c 9 then codes "`\\t`" else (if nat_eq c 10 then codes "
 abbrev pub expected_text : Wanted → List ℕ
 expected_text (WantedChar c) = char_text c
 expected_text (WantedKind k) = kind_text k
-expected_text (WantedLabel s) = codes "\"" ++ s ++ codes "\""
+expected_text (WantedLabel s) = s
 
 -- what stands before the item at an index, of so many: ` or ` before the last, where no more follows
 abbrev pub between_text : ℕ → ℕ → Bool → List ℕ
@@ -46,6 +46,6 @@ abbrev pub items_text : ℕ → ℕ → Bool → List Wanted → List ℕ
 items_text index len more [] = []
 items_text index len more (it ∷ its) = between_text index len more ++ expected_text it ++ items_text (index + 1) len more its
 
--- the first line: as "error: expected `]`, digit or "a name""
+-- the first line: as "error: expected `]`, digit or a name"
 abbrev pub all_expected_text : List Wanted → Bool → List ℕ
 all_expected_text its more = codes "error: expected " ++ items_text 0 (length its) more its ++ (if more then codes " or more" else []) ++ codes "\n"

@@ -106,7 +106,7 @@ fn add_char<A: Allocator + Copy>(out: &mut String<A>, c: char) -> Result<(), Out
     Ok(())
 }
 
-/// Adds an expectation: a character between backquotes, the name of a kind, or a label between quotes.
+/// Adds an expectation: a character between backquotes, the name of a kind, or a label, in its own words.
 pub fn add_expected<A: Allocator + Copy>(
     out: &mut String<A>,
     it: &Expected,
@@ -116,7 +116,7 @@ pub fn add_expected<A: Allocator + Copy>(
     match it {
         Expected::Char(c) => add_char(out, *c)?,
         Expected::Kind(kind) => write!(out, "{}", kind_name(kind))?,
-        Expected::Label(label) => write!(out, "\"{label}\"")?,
+        Expected::Label(label) => write!(out, "{label}")?,
     }
     Ok(())
 }
@@ -143,7 +143,7 @@ fn add_between<A: Allocator + Copy>(
     Ok(())
 }
 
-/// Adds all expectations, and whether there are more. An example is ``expected `]`, digit or "a name"``.
+/// Adds all expectations, and whether there are more. An example is ``expected `]`, digit or a name``.
 pub fn add_all_expected<A: Allocator + Copy>(
     out: &mut String<A>,
     items: &[Expected],

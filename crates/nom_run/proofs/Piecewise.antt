@@ -1,12 +1,13 @@
 -- Pieces of a text, one after another.
-use Rattle.std.proofs.Common.{arith, ◌≡◌, ℕ, ◌+◌, ◌<◌, List, [], ◌++◌, length, take, drop, get_or, Option, sym, ◌∙◌, ap, subst, inl, inr}
+use Rattle.std.proofs.Common.{arith, ◌≡◌, ℕ, ◌+◌, ◌<◌, List, [], ◌++◌, length, take, drop, get_or, Option, sym, ◌∙◌, ap, subst, inl, inr, refl}
 use Rattle.std.proofs.Common.{Result, Ok, Err, IfOk, IfErr, append_assoc, append-nil, length-append}
 use Rattle.std.proofs.lemmas.List.{length-take, take-append-drop}
 use Rattle.std.proofs.Math.Seq.{take-append_seam}
 use Rattle.std.specs.Io.KnownBytes.{Appends}
 use Rattle.nom_run.specs.declared.error.RunError.{RunError}
 use Rattle.nom_run.specs.declared.error.RunError.TheVariants.{Read, Write, OutOfMemory, Usage}
-use Rattle.nom_run.specs.Pieces.{BeganText, WroteBut}
+use Rattle.nom_run.specs.Pieces.{BeganText, Puts, WroteBut}
+use Rattle.nom_run.specs.Pieces.Puts.{All, Some}
 use Rattle.nom_run.specs.Stream.{MatchRunError, NoWriteFailed, WriteFailed, WroteFront, one_more}
 use Rattle.nom_run.specs.Texts.{lines_text}
 use Rattle.nom_run.proofs.Known.{appends-more, appends-none}
@@ -83,68 +84,96 @@ on_write_or P Q S f Write h = f h
 on_write_or P Q S f OutOfMemory h = h
 on_write_or P Q S f Usage h = absurd h
 
-pub not_memory : (P S : Type 0) (e : RunError) → MatchRunError e ⊥ P ⊥ ⊥ → MatchRunError e ⊥ P S ⊥
-not_memory P S Read h = absurd h
-not_memory P S Write h = h
-not_memory P S OutOfMemory h = absurd h
-not_memory P S Usage h = absurd h
-
 -- what was left was begun
 pub began_left : (a b c : Option (List ℕ)) (text left : List ℕ) → WroteBut a b text left → BeganText b c left → BeganText a c text
 began_left a b c text left w v =
     let u = v.2 in
     (v.0, v.1, (w.0 ++ u.0, w.1 ∙ ap (λ z. w.0 ++ z) u.1 ∙ sym (append_assoc w.0 u.0 v.0), appends-more a b c w.0 u.0 w.2 u.2))
 
--- Two texts, one after the other; of the second one of the sink's states.
-module _ {W : Type 0} (holds : W → Option (List ℕ)) (failures stalls : W → ℕ) (a b c : W) (text first second left : List ℕ) where
-  abbrev Begun : W → W → List ℕ → Type 0
-  Begun x y t = BeganText (holds x) (holds y) t × WriteFailed (failures x) (failures y) (stalls x) (stalls y)
+-- a beginning of a text was written, and a write failed
+abbrev pub Begun : {W : Type 0} (holds : W → Option (List ℕ)) (failures stalls : W → ℕ) (a b : W) (text : List ℕ) → Type 0
+Begun holds failures stalls a b text = BeganText (holds a) (holds b) text × WriteFailed (failures a) (failures b) (stalls a) (stalls b)
 
-  abbrev Done : W → W → List ℕ → List ℕ → Type 0
-  Done x y t rest = WroteBut (holds x) (holds y) t rest × NoWriteFailed (failures x) (failures y) (stalls x) (stalls y)
+-- what `Puts` says of an answer
+module _ {W : Type 0} {holds : W → Option (List ℕ)} {failures stalls : W → ℕ} {a b : W} {held text left : List ℕ} where
+  pub puts_ok : {r : Result (Unit {0}) RunError} → Puts holds failures stalls a b held text left r →
+      IfOk r (λ _. WroteBut (holds a) (holds b) (held ++ text) left × NoWriteFailed (failures a) (failures b) (stalls a) (stalls b))
+  puts_ok {r = Ok x} (All e w n) = (w, n)
+  puts_ok {r = Ok x} (Some e w f) = absurd (cc (e))
+  puts_ok {r = Err e} p = tt
 
-  pub begun_first : (e : RunError) → MatchRunError e ⊥ (Begun a b (text ++ first)) ⊥ ⊥ → MatchRunError e ⊥ (Begun a b (text ++ (first ++ second))) ⊥ ⊥
-  begun_first e h = on_write (Begun a b (text ++ first)) (Begun a b (text ++ (first ++ second)))
-      (λ v. (subst (BeganText (holds a) (holds b)) (append_assoc text first second) (began_longer (holds a) (holds b) (text ++ first) second v.0), v.1)) e h
+  pub puts_err : (S : Type 0) {r : Result (Unit {0}) RunError} → Puts holds failures stalls a b held text left r →
+      IfErr r (λ e. MatchRunError e ⊥ (Begun holds failures stalls a b (held ++ text)) S ⊥)
+  puts_err S {r = Ok x} p = tt
+  puts_err S {r = Err e} (All is w n) = absurd (cc (is))
+  puts_err S {r = Err e} (Some is w f) =
+      let same : Write ≡ e = cc (is) in
+      subst (λ z. MatchRunError z ⊥ (Begun holds failures stalls a b (held ++ text)) S ⊥) same (w, f)
 
-  module _ (w : Done a b (text ++ first) left) where
-    pub done_both : {T : Type 0} (r : Result T RunError) (rest : List ℕ) → IfOk r (λ _. Done b c (left ++ second) rest) →
-        IfOk r (λ _. Done a c (text ++ (first ++ second)) rest)
-    done_both (Ok x) rest h = (
-      subst (λ t. WroteBut (holds a) (holds c) t rest) (append_assoc text first second)
-          (wrote_more (holds a) (holds b) (holds c) (text ++ first) left second w.0 rest h.0),
-      none_then _ _ _ _ _ _ w.1 h.1,
-    )
-    done_both (Err e) rest h = tt
+  pub puts_failed : {P : Type 0} (e : RunError) → (P → Begun holds failures stalls a b (held ++ text)) → MatchRunError e ⊥ P ⊥ ⊥ →
+      Puts holds failures stalls a b held text left (Err e)
+  puts_failed Read f h = absurd h
+  puts_failed Write f h = let g = f h in Some refl g.0 g.1
+  puts_failed OutOfMemory f h = absurd h
+  puts_failed Usage f h = absurd h
 
-    begun_second : Begun b c (left ++ second) → Begun a c (text ++ (first ++ second))
-    begun_second h = (
-      subst (BeganText (holds a) (holds c)) (append_assoc text first second)
-          (began_more (holds a) (holds b) (holds c) (text ++ first) left second w.0 h.0),
-      failed_then _ _ _ _ _ _ w.1 h.1,
-    )
+  -- the same text, and the same that was held
+  pub puts_same : {other : List ℕ} {r : Result (Unit {0}) RunError} → text ≡ other → Puts holds failures stalls a b held text left r →
+      Puts holds failures stalls a b held other left r
+  puts_same {r = r} e p = subst (λ z. Puts holds failures stalls a b held z left r) e p
 
-    pub begun_both : {T : Type 0} (r : Result T RunError) → IfErr r (λ e. MatchRunError e ⊥ (Begun b c (left ++ second)) ⊥ ⊥) →
-        IfErr r (λ e. MatchRunError e ⊥ (Begun a c (text ++ (first ++ second))) ⊥ ⊥)
-    begun_both (Ok x) h = tt
-    begun_both (Err e) h = on_write (Begun b c (left ++ second)) (Begun a c (text ++ (first ++ second))) begun_second e h
+  pub puts_from : {other : List ℕ} {r : Result (Unit {0}) RunError} → held ≡ other → Puts holds failures stalls a b held text left r →
+      Puts holds failures stalls a b other text left r
+  puts_from {r = r} e p = subst (λ z. Puts holds failures stalls a b z text left r) e p
+
+  -- nothing of what follows is added
+  pub puts_first : {all other : List ℕ} {e : RunError} (second : List ℕ) → text ++ second ≡ all →
+      Puts holds failures stalls a b held text left (Err e) → Puts holds failures stalls a b held all other (Err e)
+  puts_first second whole (All e w n) = absurd (cc (e))
+  puts_first second whole (Some e w f) = Some e (subst (BeganText (holds a) (holds b)) (append_assoc held text second ∙ ap (λ z. held ++ z) whole)
+      (began_longer (holds a) (holds b) (held ++ text) second w)) f
+
+  module _ {c : W} where
+    -- another text is added after it
+    pub puts_both : {second all rest : List ℕ} {x : Unit {0}} {r : Result (Unit {0}) RunError} → text ++ second ≡ all →
+        Puts holds failures stalls a b held text left (Ok x) → Puts holds failures stalls b c left second rest r →
+        Puts holds failures stalls a c held all rest r
+    puts_both whole (Some e w f) q = absurd (cc (e))
+    puts_both {second} {rest = rest} whole (All d w n) (All e v m) = All e
+        (subst (λ t. WroteBut (holds a) (holds c) t rest) (append_assoc held text second ∙ ap (λ z. held ++ z) whole)
+        (wrote_more (holds a) (holds b) (holds c) (held ++ text) left second w rest v)) (none_then _ _ _ _ _ _ n m)
+    puts_both {second} whole (All d w n) (Some e v f) = Some e
+        (subst (BeganText (holds a) (holds c)) (append_assoc held text second ∙ ap (λ z. held ++ z) whole)
+        (began_more (holds a) (holds b) (holds c) (held ++ text) left second w v)) (failed_then _ _ _ _ _ _ n f)
+
+  module _ (c : W) where
+    -- all that is left is written, or not
+    pub flushed : {x : Unit {0}} → Puts holds failures stalls a b held text left (Ok x) →
+        Appends (holds b) (holds c) left × NoWriteFailed (failures b) (failures c) (stalls b) (stalls c) →
+        Appends (holds a) (holds c) (held ++ text) × NoWriteFailed (failures a) (failures c) (stalls a) (stalls c)
+    flushed (Some e w f) q = absurd (cc (e))
+    flushed (All e w n) q =
+        (subst (Appends (holds a) (holds c)) (sym w.1) (appends-more (holds a) (holds b) (holds c) w.0 left w.2 q.0), none_then _ _ _ _ _ _ n q.1)
+
+    pub not_flushed : (S : Type 0) {x : Unit {0}} → Puts holds failures stalls a b held text left (Ok x) → (e : RunError) →
+        MatchRunError e ⊥ (Begun holds failures stalls b c left) ⊥ ⊥ → MatchRunError e ⊥ (Begun holds failures stalls a c (held ++ text)) S ⊥
+    not_flushed S (Some e w f) why q = absurd (cc (e))
+    not_flushed S (All d w n) Read q = absurd q
+    not_flushed S (All d w n) Write q = (began_left _ _ _ _ _ w q.0, failed_then _ _ _ _ _ _ n q.1)
+    not_flushed S (All d w n) OutOfMemory q = absurd q
+    not_flushed S (All d w n) Usage q = absurd q
+
+-- nothing was added
+pub puts_none : {W : Type 0} {holds : W → Option (List ℕ)} {failures stalls : W → ℕ} {a : W} {held : List ℕ} {x : Unit {0}} →
+    Puts holds failures stalls a a held [] held (Ok x)
+puts_none {holds = holds} {a = a} {held} = All refl (wrote_none (holds a) (held ++ []) held (sym (append-nil held))) (refl, refl)
 
 -- the lines of one more item, and those of all
-module _ {X : Type 0} (line : X → List ℕ) (old : List ℕ) (xs : List X) (i : ℕ) (d : X) (within : i < length xs) where
-  lines_then : (old ++ lines_text line (take i xs)) ++ line (get_or xs i d) ≡ old ++ lines_text line (take (i + 1) xs)
-  lines_then = append_assoc old (lines_text line (take i xs)) (line (get_or xs i d)) ∙ ap (λ z. old ++ z) (sym (lines-more line xs i d within))
+module _ {X : Type 0} (line : X → List ℕ) (xs : List X) (i : ℕ) (d : X) (within : i < length xs) (x : X) (is : x ≡ get_or xs i d) where
+  pub lines_then : lines_text line (take i xs) ++ line x ≡ lines_text line (take (i + 1) xs)
+  lines_then = ap (λ z. lines_text line (take i xs) ++ line z) is ∙ sym (lines-more line xs i d within)
 
-  lines_rest : (old ++ lines_text line (take (i + 1) xs)) ++ lines_text line (drop (i + 1) xs) ≡ old ++ lines_text line xs
-  lines_rest = append_assoc old (lines_text line (take (i + 1) xs)) (lines_text line (drop (i + 1) xs)) ∙
-      ap (λ z. old ++ z) (sym (lines-append line (take (i + 1) xs) (drop (i + 1) xs)) ∙ ap (lines_text line) (take-append-drop (i + 1) xs))
-
-  module _ (a b c : Option (List ℕ)) (left : List ℕ) (w : WroteBut a b (old ++ lines_text line (take i xs)) left) (x : X) (is : x ≡ get_or xs i d) where
-    pub put_one : (new : List ℕ) → WroteBut b c (left ++ line x) new → WroteBut a c (old ++ lines_text line (take (i + 1) xs)) new
-    put_one new v = subst (λ t. WroteBut a c t new) (ap (λ z. (old ++ lines_text line (take i xs)) ++ line z) is ∙ lines_then)
-        (wrote_more a b c (old ++ lines_text line (take i xs)) left (line x) w new v)
-
-    pub put_begun : BeganText b c (left ++ line x) → BeganText a c (old ++ lines_text line xs)
-    put_begun v =
-        let here = began_more a b c (old ++ lines_text line (take i xs)) left (line x) w v in
-        let more = subst (BeganText a c) (ap (λ z. (old ++ lines_text line (take i xs)) ++ line z) is ∙ lines_then) here in
-        subst (BeganText a c) lines_rest (began_longer a c (old ++ lines_text line (take (i + 1) xs)) (lines_text line (drop (i + 1) xs)) more)
+  pub lines_rest : lines_text line (take i xs) ++ (line x ++ lines_text line (drop (i + 1) xs)) ≡ lines_text line xs
+  lines_rest = sym (append_assoc (lines_text line (take i xs)) (line x) (lines_text line (drop (i + 1) xs))) ∙
+      (ap (λ z. z ++ lines_text line (drop (i + 1) xs)) lines_then ∙ (sym (lines-append line (take (i + 1) xs) (drop (i + 1) xs)) ∙
+      ap (lines_text line) (take-append-drop (i + 1) xs)))

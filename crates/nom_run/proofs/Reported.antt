@@ -5,9 +5,9 @@ use Rattle.nom_error.specs.declared.value.Error.{Error}
 use Rattle.nom_internal.specs.Prelude.{Needed, IsSuffixOf, items_len-ones, bytes_model, Outcome, Cause, Accept, Refuse, Stop, Fails, Needs}
 use Rattle.nom_internal.specs.Prelude.{ParsesOutcome, Meaning}
 use Rattle.nom_error.specs.declared.answer.Err as Answer
-use Rattle.nom_growing.specs.Growing.{IsBeginning, AnswersOn, IsGrown}
-use Rattle.nom_growing.specs.Growing.IsBeginning.{AtCut, AtEnd}
-use Rattle.nom_growing.specs.Growing.AnswersOn.{RanOutOn, ShownOn}
+use Rattle.nom_calls.specs.Growing.{IsBeginning, AnswersOn, IsGrown}
+use Rattle.nom_calls.specs.Growing.IsBeginning.{AtCut, AtEnd}
+use Rattle.nom_calls.specs.Growing.AnswersOn.{RanOutOn, ShownOn}
 use Rattle.nom_run.specs.Texts.{decided_text, rest_text, error_text, need_text}
 use Rattle.nom_run.specs.Report.{Says, IsTold, IsReportBy}
 

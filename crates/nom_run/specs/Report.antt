@@ -5,7 +5,7 @@ use Rattle.nom_error.specs.declared.value.Error.{Error}
 use Rattle.nom_internal.specs.Prelude.{Needed, IResult, size_of, bytes_model, Outcome, Accept, Refuse, Stop, Fails, Needs, Meaning}
 use Rattle.nom_error.specs.declared.answer.Err as Answer
 use Rattle.nom_error.specs.declared.answer.Err.TheVariants as Stop
-use Rattle.nom_growing.specs.Growing.{IsBeginning, Waits}
+use Rattle.nom_calls.specs.Growing.{IsBeginning, Waits}
 use Rattle.nom_run.specs.Texts.{decided_text, rest_text, error_text, failure_text, need_text}
 
 abbrev Bytes : Type 0

@@ -1,7 +1,7 @@
 //! A text that is written in pieces, whatever its length.
 ghost use Rattle.std.specs.Prelude.{◌≡◌, ◌++◌, ◌+◌, ◌≤◌, ℕ, List, [], length, IfOk, IfErr, vec_len};
 ghost use Rattle.std.specs.Io.KnownBytes.{Appends};
-ghost use Rattle.nom_run.specs.Pieces.{BeganText, HasRoom, WroteBut};
+ghost use Rattle.nom_run.specs.Pieces.{BeganText, HasRoom, Puts};
 ghost use Rattle.nom_run.specs.Stream.{MatchRunError, NoWriteFailed, WriteFailed};
 ghost use Rattle.nom_run.specs.Texts.{lines_text};
 
@@ -50,10 +50,7 @@ pub fn put<A: Allocator, W: Sink>(
 ) -> Result<(), RunError>
     requires { HasRoom room.old }
     ensures room { HasRoom room.new }
-    ensures wrote { IfOk result (λ _. WroteBut (W.held sink.old) (W.held sink.new) (room.old.items ++ bytes.now) room.new.items
-        × NoWriteFailed (W.failures sink.old) (W.failures sink.new) (W.stalls sink.old) (W.stalls sink.new)) }
-    ensures error { IfErr result (λ e. MatchRunError e ⊥ (BeganText (W.held sink.old) (W.held sink.new) (room.old.items ++ bytes.now)
-        × WriteFailed (W.failures sink.old) (W.failures sink.new) (W.stalls sink.old) (W.stalls sink.new)) ⊥ ⊥) }
+    ensures puts { Puts W.held W.failures W.stalls sink.old sink.new room.old.items bytes.now room.new.items result }
 {
     if bytes.len() <= FULL - room.len() {
         keep(room, bytes);
@@ -99,10 +96,7 @@ pub trait InPieces<T> {
     ) -> Result<(), RunError>
         requires { HasRoom room.old }
         ensures room { HasRoom room.new }
-        ensures wrote { IfOk result (λ _. WroteBut (W.held sink.old) (W.held sink.new) (room.old.items ++ lines self.now item.now) room.new.items
-            × NoWriteFailed (W.failures sink.old) (W.failures sink.new) (W.stalls sink.old) (W.stalls sink.new)) }
-        ensures error { IfErr result (λ e. MatchRunError e ⊥ (BeganText (W.held sink.old) (W.held sink.new) (room.old.items ++ lines self.now item.now)
-            × WriteFailed (W.failures sink.old) (W.failures sink.new) (W.stalls sink.old) (W.stalls sink.new)) ⊥ ⊥) };
+        ensures puts { Puts W.held W.failures W.stalls sink.old sink.new room.old.items (lines self.now item.now) room.new.items result };
 }
 
 /// Adds the lines of items, in their order.
@@ -114,11 +108,7 @@ pub fn put_each<A: Allocator, W: Sink, T, P: InPieces<T>>(
 ) -> Result<(), RunError>
     requires { HasRoom room.old }
     ensures room { HasRoom room.new }
-    ensures wrote { IfOk result (λ _. WroteBut (W.held sink.old) (W.held sink.new) (room.old.items ++ lines_text (P.lines each.now) items.now) room.new.items
-        × NoWriteFailed (W.failures sink.old) (W.failures sink.new) (W.stalls sink.old) (W.stalls sink.new)) }
-    ensures error { IfErr result (λ e. MatchRunError e ⊥
-        (BeganText (W.held sink.old) (W.held sink.new) (room.old.items ++ lines_text (P.lines each.now) items.now)
-        × WriteFailed (W.failures sink.old) (W.failures sink.new) (W.stalls sink.old) (W.stalls sink.new)) ⊥ ⊥) }
+    ensures puts { Puts W.held W.failures W.stalls sink.old sink.new room.old.items (lines_text (P.lines each.now) items.now) room.new.items result }
 {
     for item in items {
         match each.put(sink, room, item) {

@@ -1,7 +1,7 @@
 //! The report on a file of settings.
 ghost use Rattle.std.specs.Prelude.{◌≡◌, ◌++◌, ◌≤◌, IfOk, IfErr, decimal, length, string_bytes, take};
 ghost use Rattle.std.specs.Io.KnownBytes.{Appends};
-ghost use Rattle.nom_run.specs.Pieces.{BeganText, HasRoom, WroteBut};
+ghost use Rattle.nom_run.specs.Pieces.{BeganText, HasRoom, Puts};
 ghost use Rattle.nom_run.specs.Stream.{BeganSuch, MatchRunError, NoWriteFailed, WriteFailed, WroteSuch};
 ghost use Rattle.nom_settings_run.specs.Report.{IsReport, IsTold, IsToldBytes, IsToldStop, entry_text, fault_text, line_text, names_text, place_text};
 ghost use Rattle.nom_settings_run.specs.Report.{section_text, sections_text, setting_text};
@@ -33,10 +33,7 @@ fn put_text<A: Allocator, W: Sink>(
 ) -> Result<(), RunError>
     requires { HasRoom room.old }
     ensures room { HasRoom room.new }
-    ensures wrote { IfOk result (λ _. WroteBut (W.held sink.old) (W.held sink.new) (room.old.items ++ text.now) room.new.items
-        × NoWriteFailed (W.failures sink.old) (W.failures sink.new) (W.stalls sink.old) (W.stalls sink.new)) }
-    ensures error { IfErr result (λ e. MatchRunError e ⊥ (BeganText (W.held sink.old) (W.held sink.new) (room.old.items ++ text.now)
-        × WriteFailed (W.failures sink.old) (W.failures sink.new) (W.stalls sink.old) (W.stalls sink.new)) ⊥ ⊥) }
+    ensures puts { Puts W.held W.failures W.stalls sink.old sink.new room.old.items text.now room.new.items result }
 {
     put(sink, room, text.as_bytes())
 }
@@ -50,10 +47,7 @@ fn put_pair<A: Allocator, W: Sink>(
 ) -> Result<(), RunError>
     requires { HasRoom room.old }
     ensures room { HasRoom room.new }
-    ensures wrote { IfOk result (λ _. WroteBut (W.held sink.old) (W.held sink.new) (room.old.items ++ (first.now ++ second.now)) room.new.items
-        × NoWriteFailed (W.failures sink.old) (W.failures sink.new) (W.stalls sink.old) (W.stalls sink.new)) }
-    ensures error { IfErr result (λ e. MatchRunError e ⊥ (BeganText (W.held sink.old) (W.held sink.new) (room.old.items ++ (first.now ++ second.now))
-        × WriteFailed (W.failures sink.old) (W.failures sink.new) (W.stalls sink.old) (W.stalls sink.new)) ⊥ ⊥) }
+    ensures puts { Puts W.held W.failures W.stalls sink.old sink.new room.old.items (first.now ++ second.now) room.new.items result }
 {
     match put_text(sink, room, first) {
         Ok(()) => {}
@@ -71,10 +65,7 @@ fn put_number<A: Allocator, W: Sink>(
 ) -> Result<(), RunError>
     requires { HasRoom room.old }
     ensures room { HasRoom room.new }
-    ensures wrote { IfOk result (λ _. WroteBut (W.held sink.old) (W.held sink.new) (room.old.items ++ (decimal number ++ after.now)) room.new.items
-        × NoWriteFailed (W.failures sink.old) (W.failures sink.new) (W.stalls sink.old) (W.stalls sink.new)) }
-    ensures error { IfErr result (λ e. MatchRunError e ⊥ (BeganText (W.held sink.old) (W.held sink.new) (room.old.items ++ (decimal number ++ after.now))
-        × WriteFailed (W.failures sink.old) (W.failures sink.new) (W.stalls sink.old) (W.stalls sink.new)) ⊥ ⊥) }
+    ensures puts { Puts W.held W.failures W.stalls sink.old sink.new room.old.items (decimal number ++ after.now) room.new.items result }
 {
     let mut digits = Buffer::new();
     put_pair(sink, room, digits.format(number), after)
@@ -89,10 +80,7 @@ fn put_place<A: Allocator, W: Sink>(
 ) -> Result<(), RunError>
     requires { HasRoom room.old }
     ensures room { HasRoom room.new }
-    ensures wrote { IfOk result (λ _. WroteBut (W.held sink.old) (W.held sink.new) (room.old.items ++ place_text line column) room.new.items
-        × NoWriteFailed (W.failures sink.old) (W.failures sink.new) (W.stalls sink.old) (W.stalls sink.new)) }
-    ensures error { IfErr result (λ e. MatchRunError e ⊥ (BeganText (W.held sink.old) (W.held sink.new) (room.old.items ++ place_text line column)
-        × WriteFailed (W.failures sink.old) (W.failures sink.new) (W.stalls sink.old) (W.stalls sink.new)) ⊥ ⊥) }
+    ensures puts { Puts W.held W.failures W.stalls sink.old sink.new room.old.items (place_text line column) room.new.items result }
 {
     match put_number(sink, room, line, ":") {
         Ok(()) => {}
@@ -110,10 +98,7 @@ fn put_names<A: Allocator, W: Sink>(
 ) -> Result<(), RunError>
     requires { HasRoom room.old }
     ensures room { HasRoom room.new }
-    ensures wrote { IfOk result (λ _. WroteBut (W.held sink.old) (W.held sink.new) (room.old.items ++ names_text section.now name.now) room.new.items
-        × NoWriteFailed (W.failures sink.old) (W.failures sink.new) (W.stalls sink.old) (W.stalls sink.new)) }
-    ensures error { IfErr result (λ e. MatchRunError e ⊥ (BeganText (W.held sink.old) (W.held sink.new) (room.old.items ++ names_text section.now name.now)
-        × WriteFailed (W.failures sink.old) (W.failures sink.new) (W.stalls sink.old) (W.stalls sink.new)) ⊥ ⊥) }
+    ensures puts { Puts W.held W.failures W.stalls sink.old sink.new room.old.items (names_text section.now name.now) room.new.items result }
 {
     match put_pair(sink, room, section, "] ") {
         Ok(()) => {}
@@ -132,11 +117,7 @@ fn put_entry<A: Allocator, W: Sink>(
 ) -> Result<(), RunError>
     requires { HasRoom room.old }
     ensures room { HasRoom room.new }
-    ensures wrote { IfOk result (λ _. WroteBut (W.held sink.old) (W.held sink.new) (room.old.items ++ entry_text section.now name.now value.now) room.new.items
-        × NoWriteFailed (W.failures sink.old) (W.failures sink.new) (W.stalls sink.old) (W.stalls sink.new)) }
-    ensures error { IfErr result (λ e. MatchRunError e ⊥ (BeganText (W.held sink.old) (W.held sink.new)
-        (room.old.items ++ entry_text section.now name.now value.now)
-        × WriteFailed (W.failures sink.old) (W.failures sink.new) (W.stalls sink.old) (W.stalls sink.new)) ⊥ ⊥) }
+    ensures puts { Puts W.held W.failures W.stalls sink.old sink.new room.old.items (entry_text section.now name.now value.now) room.new.items result }
 {
     match put_names(sink, room, section, name) {
         Ok(()) => {}
@@ -157,12 +138,8 @@ fn put_line<A: Allocator, W: Sink>(
 ) -> Result<(), RunError>
     requires { HasRoom room.old }
     ensures room { HasRoom room.new }
-    ensures wrote { IfOk result (λ _. WroteBut (W.held sink.old) (W.held sink.new) (room.old.items ++ line_text line column section.now name.now
-        value.now) room.new.items
-        × NoWriteFailed (W.failures sink.old) (W.failures sink.new) (W.stalls sink.old) (W.stalls sink.new)) }
-    ensures error { IfErr result (λ e. MatchRunError e ⊥ (BeganText (W.held sink.old) (W.held sink.new)
-        (room.old.items ++ line_text line column section.now name.now value.now)
-        × WriteFailed (W.failures sink.old) (W.failures sink.new) (W.stalls sink.old) (W.stalls sink.new)) ⊥ ⊥) }
+    ensures puts { Puts W.held W.failures W.stalls sink.old sink.new room.old.items (line_text line column section.now name.now value.now)
+        room.new.items result }
 {
     match put_place(sink, room, line, column) {
         Ok(()) => {}
@@ -180,11 +157,7 @@ fn put_setting<'a, A: Allocator, W: Sink>(
 ) -> Result<(), RunError>
     requires { HasRoom room.old }
     ensures room { HasRoom room.new }
-    ensures wrote { IfOk result (λ _. WroteBut (W.held sink.old) (W.held sink.new) (room.old.items ++ setting_text section.entry setting.entry) room.new.items
-        × NoWriteFailed (W.failures sink.old) (W.failures sink.new) (W.stalls sink.old) (W.stalls sink.new)) }
-    ensures error { IfErr result (λ e. MatchRunError e ⊥ (BeganText (W.held sink.old) (W.held sink.new)
-        (room.old.items ++ setting_text section.entry setting.entry)
-        × WriteFailed (W.failures sink.old) (W.failures sink.new) (W.stalls sink.old) (W.stalls sink.new)) ⊥ ⊥) }
+    ensures puts { Puts W.held W.failures W.stalls sink.old sink.new room.old.items (setting_text section.entry setting.entry) room.new.items result }
 {
     let (name, value) = setting;
     let title = section.fragment();

@@ -8,9 +8,9 @@ use Rattle.nom_error.specs.declared.answer.Err as Answer
 use Rattle.nom_error.specs.declared.answer.Err.TheVariants as Stopped
 use Rattle.nom_error.specs.declared.kind.ErrorKind.TheVariants as Kind
 use Rattle.nom_error.specs.declared.value.Error.{Error}
-use Rattle.nom_func.specs.Func.{FuncAnswers, FuncBlames, FuncRunsOut, IsViewed, TakenAs}
-use Rattle.nom_func.specs.Func.FuncBlames.{OfRefusal, OfFailure, OfNoRest}
-use Rattle.nom_func.specs.Func.FuncRunsOut.{RunsOutInside}
+use Rattle.nom_calls.specs.Func.{FuncAnswers, FuncBlames, FuncRunsOut, IsViewed, TakenAs}
+use Rattle.nom_calls.specs.Func.FuncBlames.{OfRefusal, OfFailure, OfNoRest}
+use Rattle.nom_calls.specs.Func.FuncRunsOut.{RunsOutInside}
 use Rattle.nom_stream.specs.Functions.{CutsRest}
 use Rattle.nom_stream.specs.Functions.CutsRest.{AtRest, AtNone}
 use Rattle.nom_stream.specs.Items.{Answered, Bytes}

@@ -2,6 +2,7 @@ mod Buffer
 mod Calls
 mod Functions
 mod Lent
+mod LineParts
 mod Outcomes
 mod Reading
 mod Repeats

@@ -1,7 +1,7 @@
 -- What is read over several reads.
-use Rattle.std.proofs.Common.{◌≡◌, ℕ, List, [], ◌++◌, Option, Some, None, Result, Ok, Err, refl, sym, ◌∙◌, ap, subst}
-use Rattle.std.proofs.Common.{append_assoc, append-nil, take}
-use Rattle.std.specs.Io.KnownBytes.{Consumes, Keeps, ReadConsumes}
+use Rattle.std.proofs.Common.{◌≡◌, ℕ, List, [], ◌++◌, Option, Some, None, refl, sym, ◌∙◌, ap, subst}
+use Rattle.std.proofs.Common.{append_assoc, append-nil}
+use Rattle.std.specs.Io.KnownBytes.{Consumes}
 use Rattle.nom_stream.specs.declared.stream.Stream.{Stream}
 use Rattle.nom_stream.specs.Held.{held_of}
 use Rattle.nom_stream.specs.Streams.{Gives}
@@ -11,37 +11,6 @@ consumes_more None b c xs ys p q = tt
 consumes_more (Some a) None c xs ys p q = absurd p
 consumes_more (Some a) (Some b) None xs ys p q = absurd q
 consumes_more (Some a) (Some b) (Some c) xs ys p q = p ∙ ap (λ t. xs ++ t) q ∙ sym (append_assoc xs ys c)
-
-pub keeps_self : (a : Option (List ℕ)) → Keeps a a
-keeps_self None = tt
-keeps_self (Some a) = refl
-
-pub keeps_then : (a b c : Option (List ℕ)) → Keeps a b → Keeps b c → Keeps a c
-keeps_then None b c p q = tt
-keeps_then (Some a) None c p q = absurd p
-keeps_then (Some a) (Some b) None p q = absurd q
-keeps_then (Some a) (Some b) (Some c) p q = q ∙ p
-
-consumes_then : (a b c : Option (List ℕ)) (xs : List ℕ) → Keeps a b → Consumes b c xs → Consumes a c xs
-consumes_then None b c xs p q = tt
-consumes_then (Some a) None c xs p q = absurd p
-consumes_then (Some a) (Some b) None xs p q = absurd q
-consumes_then (Some a) (Some b) (Some c) xs p q = sym p ∙ q
-
--- an interrupted read, and then another
-pub reads_then : {E : Type 0} (a b c : Option (List ℕ)) (r : Result ℕ E) (room : List ℕ) → Keeps a b → ReadConsumes b c r room → ReadConsumes a c r room
-reads_then a b c (Ok n) room p q = (consumes_then a b c (take n room) p q.0, q.1)
-reads_then a b c (Err e) room p q = keeps_then a b c p q
-
-pub keeps_at_err : {E : Type 0} (a b : Option (List ℕ)) (r : Result ℕ E) (room : List ℕ) → ((e : E) × (r ≡ Err e)) → ReadConsumes a b r room → Keeps a b
-keeps_at_err a b (Ok n) room p q = absurd (cc (p.1))
-keeps_at_err a b (Err e) room p q = q
-
--- what is kept gives nothing
-pub keeps_none : (a b : Option (List ℕ)) → Keeps a b → Consumes a b []
-keeps_none None b p = tt
-keeps_none (Some a) None p = absurd p
-keeps_none (Some a) (Some b) p = sym p
 
 pub consumes_none : (a : Option (List ℕ)) → Consumes a a []
 consumes_none None = tt

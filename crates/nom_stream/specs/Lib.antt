@@ -2,6 +2,7 @@ pub mod Each
 pub mod Functions
 pub mod Held
 pub mod Items
+pub mod Lines
 pub mod Readers
 pub mod Repeats
 pub mod Streams

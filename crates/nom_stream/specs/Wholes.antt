@@ -3,7 +3,7 @@ use Rattle.std.specs.Prelude.{◌≡◌, ℕ, ◌+◌, ◌-◌, ◌^◌, ◌≤�
 use Rattle.std.specs.List.{AllZip}
 use Rattle.nom_internal.specs.Prelude.{size_of, bytes_model, IsSuffixOf, Outcome, Accept, Refuse, Stop, Fails, Needs, Outright, TooLarge, Meaning, Grammar}
 use Rattle.nom_error.specs.declared.value.Error.{Error}
-use Rattle.nom_iterator.specs.Iterated.{AreItems}
+use Rattle.nom_calls.specs.Iterated.{AreItems}
 use Rattle.nom_stream.specs.declared.stream.Stop.TheVariants as Stopped
 use Rattle.nom_stream.specs.declared.stream.Stream.{Stream}
 use Rattle.nom_stream.specs.Held.{held_of, last_of}

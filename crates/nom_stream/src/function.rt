@@ -1,7 +1,7 @@
 //! Functions as the parsers of items.
 ghost use Rattle.std.specs.Prelude.{◌≡◌};
 ghost use Rattle.nom_internal.specs.Prelude.{bytes_model};
-ghost use Rattle.nom_func.specs.Func.{IsStreamParser, func_of};
+ghost use Rattle.nom_calls.specs.Func.{IsStreamParser, func_of};
 ghost use Rattle.nom_stream.specs.Functions.{CutsRest};
 
 use crate::grammar::Grammar;

@@ -7,6 +7,7 @@ pub mod each;
 pub mod function;
 pub mod grammar;
 pub mod held;
+pub mod lines;
 pub mod promises;
 pub mod reader;
 pub mod retried;

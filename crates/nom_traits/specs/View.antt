@@ -11,7 +11,6 @@ use Rattle.std.specs.Arc.{arc_value}
 use Rattle.std.specs.declared.rc.Rc.{Rc}
 use Rattle.std.specs.declared.sync.Arc.{Arc}
 use Rattle.std.specs.declared.collections.VecDeque.{VecDeque}
-use Rattle.nom_traits.specs.Input.{Model}
 
 -- what of a value of type O is compared
 pub record View (O : Type 0) : Type 1 where
@@ -131,7 +130,3 @@ behind_view {A} = record { Value = A; value = λ r. r.now }
 -- the characters of a text
 abbrev pub text_view : View (Bor (List ℕ))
 text_view = record { Value = List ℕ; value = λ t. chars t.now }
-
--- the items of an input, with its mark
-abbrev pub items_view : {I A : Type 0} → Model I A → View I
-items_view {A = A} w = record { Value = List A × w.Mark; value = λ i. (w.elements i, w.mark i) }

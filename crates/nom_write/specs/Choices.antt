@@ -1,6 +1,9 @@
--- What is told apart from the forms of another branch.
+-- What is told apart from the forms of another branch, and what several branches write.
 use Rattle.std.specs.Prelude.{List, ◌++◌}
 use Rattle.nom_internal.specs.Prelude.{Grammar, Model, Meaning}
+use Rattle.nom_sink.specs.declared.error.WriteError.{WriteError}
+use Rattle.nom_sink.specs.Choices.{Either, EitherFails}
+use Rattle.nom_sink.specs.Written.{Space}
 use Rattle.nom_write.specs.Reads.{NoItem}
 
 -- whatever begins with items of a kind a parser refuses
@@ -10,3 +13,18 @@ pub record Apart {I A V E : Type 0} (w : Model I A) (m : Meaning I V E) (Kind : 
 -- it refuses whatever begins with a form of a value
 abbrev pub Refuses : {I A V O R E : Type 0} → Model I A → Grammar I V O E → (R → List A → Type 0) → Type 0
 Refuses {R = R} w g Form = Apart w g.meaning (λ xs. (v : R) × Form v xs)
+
+-- some branches, of which the first that can write a value writes it: the forms of values, and why none is written
+pub record BranchForms (O A : Type 0) : Type 1 where
+  pub Form : O → List A → Type 0
+  pub Fails : O → Space → WriteError → Type 0
+
+abbrev pub first_forms : {O A : Type 0} → (O → List A → Type 0) → (O → Space → WriteError → Type 0) → BranchForms O A
+first_forms Form Fails = record { Form = Form; Fails = Fails }
+
+-- the branches before, and one more
+abbrev pub or_forms : {O A : Type 0} → BranchForms O A → (O → List A → Type 0) → (O → Space → WriteError → Type 0) → BranchForms O A
+or_forms before Form Fails = record {
+  Form = λ v. Either (before.Form v) (before.Fails v) (Form v);
+  Fails = λ v. EitherFails (before.Fails v) (Fails v);
+}

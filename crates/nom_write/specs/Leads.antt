@@ -1,6 +1,7 @@
--- What forms begin with, in codes. The code of a byte is the byte, that of a character its code point, and that of a bit 1 or 0.
+-- What forms begin with, in codes: first sets. The code of a byte is the byte, that of a character its code point, and that of a bit
+-- 1 or 0.
 use Rattle.std.specs.Prelude.{◌≡◌, ℕ, Bool, true, false, cond, eqb, ◌&&◌, ◌⊎◌, List, [], ◌∷◌, ◌++◌, map, Option, Some, None}
-use Rattle.nom_internal.specs.Prelude.{Model, Grammar, Meaning}
+use Rattle.nom_internal.specs.Prelude.{Errors, Model, Grammar, Meaning, either_of}
 use Rattle.nom_write.specs.Choices.{Refuses}
 use Rattle.nom_write.specs.Reads.{NoItem}
 
@@ -84,3 +85,23 @@ Differ None cs Otherwise = Otherwise
 abbrev pub AreApart : {I A V O R E : Type 0} → Model I A → Grammar I V O E → (lead : Option Words) → (R → List A → Type 0) →
     (other : Option Words) → Type 0
 AreApart w g lead Form other = Differ lead other (Refuses w g Form)
+
+-- Some branches: they parse as one grammar, their forms begin with these words, and each stands apart from all before it.
+pub record Branches (I O E : Type 0) : Type 1 where
+  pub Tree : Type 0
+  pub grammar : Grammar I Tree O E
+  pub lead : Option Words
+  pub AreKeptApart : Type 0
+
+abbrev pub one_branch : {I V O E : Type 0} → Grammar I V O E → Option Words → Branches I O E
+one_branch {V = V} g lead = record { Tree = V; grammar = g; lead = lead; AreKeptApart = Unit {0} }
+
+-- and one more
+abbrev pub or_branch : {I A V O E : Type 0} → Model I A → Errors I E → Branches I O E → Grammar I V O E → (O → List A → Type 0) → Option Words →
+    Branches I O E
+or_branch {V = V} w errs before g Form lead = record {
+  Tree = before.Tree ⊎ V;
+  grammar = either_of errs.joined errs.grows before.grammar g;
+  lead = either_lead before.lead lead;
+  AreKeptApart = before.AreKeptApart × AreApart w before.grammar before.lead Form lead;
+}

@@ -4,6 +4,7 @@ pub mod Decimals
 pub mod FlatMaps
 pub mod Leads
 pub mod Lengths
+pub mod Maps
 pub mod Options
 pub mod Reads
 pub mod Runs

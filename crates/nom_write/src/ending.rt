@@ -1,22 +1,22 @@
 //! Formats that end a complete input. A list, an option, a number in digits and a run are read back there, though more input could make
 //! them longer.
 ghost use Rattle.std.specs.Prelude.{◌≡◌, false, None, Some, List, []};
-ghost use Rattle.std.specs.Fn.{FnReturnsAt};
 ghost use Rattle.nom_bytes.specs.laws.RunLaws.{run_lawful};
 ghost use Rattle.nom_character.specs.ClassRuns.{IsOf, class_lawful, least_of, wanted_error, wanted_grows};
 ghost use Rattle.nom_character_integer.specs.laws.IntegerLaws.{integer_lawful, range_of};
 ghost use Rattle.nom_error.specs.declared.kind.ErrorKind.TheVariants as Kind;
 ghost use Rattle.nom_traits.specs.declared.character.AsciiClass.TheVariants as Class;
 ghost use Rattle.nom_write.specs.Reads.{NoItemIn, ReadsAtEnd};
-ghost use Rattle.nom_write.specs.laws.ChoiceReads.{map_back_ends, opt_ends};
+ghost use Rattle.nom_write.specs.laws.ChoiceReads.{opt_ends};
+ghost use Rattle.nom_write.specs.laws.MapReads.{mapped_ends};
 ghost use Rattle.nom_write.specs.laws.DecimalReads.{decimal_ends};
 ghost use Rattle.nom_write.specs.laws.LeafReads.{binary_reads, byte_reads};
 ghost use Rattle.nom_write.specs.laws.ListReads.{many0_ends};
 ghost use Rattle.nom_write.specs.laws.RunReads.{premised_ends, run_ends};
 ghost use Rattle.nom_write.specs.laws.SeparatedReads.{many1_ends};
-ghost use Rattle.nom_write.specs.laws.SequenceReads.{ends_more, followed_ends, pair_ends, preceded_ends, tuple_ends};
+ghost use Rattle.nom_write.specs.laws.SequenceReads.{first_end, followed_ends, last_end, next_end, pair_ends, preceded_ends, tuple_ends};
 
-use crate::map::MapBoth;
+use crate::map::{Inverse, Mapping, WithBack};
 use crate::unmarked::Unmarked;
 use crate::writer::{Constant, Writer};
 use nom_bytes::predicate::Predicate;
@@ -41,10 +41,6 @@ use std::alloc::Allocator;
 pub trait Ending<I: Items>: Writer<I> {
     /// What a caller of `parse_end_back` must prove: that the last part is read back at the end, and that it may follow the one before.
     ghost MayEnd: { Self → Type 0 } = { λ _. Unit {0} };
-
-    /// Does nothing. A value is written through `Writer`.
-    #[inline(always)]
-    fn ending() {}
 
     /// Each form that ends a complete input is read back as its value.
     ghost ends: { (p : Self) → (Self.grammar (Self.state p)).meaning.IsSound → Self.CanWrite p → MayEnd p → ReadsAtEnd I.model
@@ -128,15 +124,15 @@ impl<I: Items, F: Ending<I> + Drop> Ending<I> for Opt<F> {
 
 impl<
     I: Items,
-    F: Ending<I> + Drop,
+    P: Ending<I>,
     O: Viewed + Drop,
-    G: Fn(F::Output) -> O,
-    H: Fn(&O) -> Option<F::Output>,
-> Ending<I> for MapBoth<F, G, H> {
-    ghost MayEnd = { λ p. F.MayEnd p.map.parser };
+    M: Mapping<I, Part = P, Output = O>,
+    H: Inverse<O, P::Output>,
+> Ending<I> for WithBack<M, H> {
+    ghost MayEnd = { λ p. P.MayEnd (M.part p.map) };
 
-    ghost ends = { λ p k c e. map_back_ends (G.pre p.map.map) (G.post p.map.map) (λ v x. FnReturnsAt H.Fn p.back v (Some x)) c.2 (F.ends
-        p.map.parser k c.0 e) };
+    ghost ends = { λ p k c e. mapped_ends (λ v x. H.Returns p.back v (Some x)) (M.outcomes p.map k) c.2
+        (P.ends (M.part p.map) (M.sound p.map k) c.0 e) };
 }
 
 impl<I: Items, F: Constant<I> + Drop, G: Ending<I, Error = F::Error> + Drop> Ending<I>
@@ -155,7 +151,7 @@ impl<I: Items, F: Writer<I> + Drop, G: Ending<I, Error = F::Error> + Drop> Endin
 impl<I: Items, P: Writer<I>, Q: Ending<I, Error = P::Error>> Ending<I> for (P, Q) {
     ghost MayEnd = { λ p. Q.MayEnd p.1 × ((b : Q.Output) (ys : List I.Item) → Q.Form p.1 b ys → P.MayFollow p.0 ys) };
 
-    ghost ends = { λ p k c e. tuple_ends (λ o. (o.0, o.1)) (pair_ends I.lawful e.1 (P.reads p.0 k.0 c.0.0) (Q.ends p.1 k.1 c.0.1 e.0)) };
+    ghost ends = { λ p k c e. tuple_ends (λ o. (o.0, o.1)) (first_end I.lawful (P.reads p.0 k.0 c.0.0) (last_end e.1 (Q.ends p.1 k.1 c.0.1 e.0))) };
 }
 
 impl<I: Items, P: Writer<I>, Q: Writer<I, Error = P::Error>, R: Ending<I, Error = P::Error>> Ending<
@@ -163,8 +159,8 @@ impl<I: Items, P: Writer<I>, Q: Writer<I, Error = P::Error>, R: Ending<I, Error 
 > for (P, Q, R) {
     ghost MayEnd = { λ p. R.MayEnd p.2 × ((b : R.Output) (ys : List I.Item) → R.Form p.2 b ys → Q.MayFollow p.1 ys) };
 
-    ghost ends = { λ p k c e. tuple_ends (λ o. (o.0, (o.1, o.2))) (pair_ends I.lawful (ends_more (P.MayFollow p.0) c.1 e.1) (P.reads p.0 k.0 c.0.0)
-        (pair_ends I.lawful e.1 (Q.reads p.1 k.1.0 c.0.1) (R.ends p.2 k.1.1 c.0.2 e.0))) };
+    ghost ends = { λ p k c e. tuple_ends (λ o. (o.0, (o.1, o.2))) (first_end I.lawful (P.reads p.0 k.0 c.0.0) (next_end I.lawful c.1 (Q.reads p.1 k.1.0 c.0.1)
+        (last_end e.1 (R.ends p.2 k.1.1 c.0.2 e.0)))) };
 }
 
 impl<
@@ -176,9 +172,8 @@ impl<
 > Ending<I> for (P, Q, R, S) {
     ghost MayEnd = { λ p. S.MayEnd p.3 × ((b : S.Output) (ys : List I.Item) → S.Form p.3 b ys → R.MayFollow p.2 ys) };
 
-    ghost ends = { λ p k c e. tuple_ends (λ o. (o.0, (o.1, (o.2, o.3)))) (pair_ends I.lawful (ends_more (P.MayFollow p.0) c.1 (ends_more (Q.MayFollow
-        p.1) c.2 e.1)) (P.reads p.0 k.0 c.0.0) (pair_ends I.lawful (ends_more (Q.MayFollow p.1) c.2 e.1) (Q.reads p.1 k.1.0 c.0.1) (pair_ends
-        I.lawful e.1 (R.reads p.2 k.1.1.0 c.0.2) (S.ends p.3 k.1.1.1 c.0.3 e.0)))) };
+    ghost ends = { λ p k c e. tuple_ends (λ o. (o.0, (o.1, (o.2, o.3)))) (first_end I.lawful (P.reads p.0 k.0 c.0.0) (next_end I.lawful c.1 (Q.reads p.1 k.1.0
+        c.0.1) (next_end I.lawful c.2 (R.reads p.2 k.1.1.0 c.0.2) (last_end e.1 (S.ends p.3 k.1.1.1 c.0.3 e.0))))) };
 }
 
 impl<
@@ -191,10 +186,9 @@ impl<
 > Ending<I> for (P, Q, R, S, T) {
     ghost MayEnd = { λ p. T.MayEnd p.4 × ((b : T.Output) (ys : List I.Item) → T.Form p.4 b ys → S.MayFollow p.3 ys) };
 
-    ghost ends = { λ p k c e. tuple_ends (λ o. (o.0, (o.1, (o.2, (o.3, o.4))))) (pair_ends I.lawful (ends_more (P.MayFollow p.0) c.1 (ends_more
-        (Q.MayFollow p.1) c.2 (ends_more (R.MayFollow p.2) c.3 e.1))) (P.reads p.0 k.0 c.0.0) (pair_ends I.lawful (ends_more (Q.MayFollow p.1) c.2
-        (ends_more (R.MayFollow p.2) c.3 e.1)) (Q.reads p.1 k.1.0 c.0.1) (pair_ends I.lawful (ends_more (R.MayFollow p.2) c.3 e.1) (R.reads p.2
-        k.1.1.0 c.0.2) (pair_ends I.lawful e.1 (S.reads p.3 k.1.1.1.0 c.0.3) (T.ends p.4 k.1.1.1.1 c.0.4 e.0))))) };
+    ghost ends = { λ p k c e. tuple_ends (λ o. (o.0, (o.1, (o.2, (o.3, o.4))))) (first_end I.lawful (P.reads p.0 k.0 c.0.0) (next_end I.lawful c.1 (Q.reads
+        p.1 k.1.0 c.0.1) (next_end I.lawful c.2 (R.reads p.2 k.1.1.0 c.0.2) (next_end I.lawful c.3 (S.reads p.3 k.1.1.1.0 c.0.3) (last_end e.1 (T.ends p.4
+        k.1.1.1.1 c.0.4 e.0)))))) };
 }
 
 impl<
@@ -208,12 +202,9 @@ impl<
 > Ending<I> for (P, Q, R, S, T, U) {
     ghost MayEnd = { λ p. U.MayEnd p.5 × ((b : U.Output) (ys : List I.Item) → U.Form p.5 b ys → T.MayFollow p.4 ys) };
 
-    ghost ends = { λ p k c e. tuple_ends (λ o. (o.0, (o.1, (o.2, (o.3, (o.4, o.5)))))) (pair_ends I.lawful (ends_more (P.MayFollow p.0) c.1
-        (ends_more (Q.MayFollow p.1) c.2 (ends_more (R.MayFollow p.2) c.3 (ends_more (S.MayFollow p.3) c.4 e.1)))) (P.reads p.0 k.0 c.0.0) (pair_ends
-        I.lawful (ends_more (Q.MayFollow p.1) c.2 (ends_more (R.MayFollow p.2) c.3 (ends_more (S.MayFollow p.3) c.4 e.1))) (Q.reads p.1 k.1.0 c.0.1)
-        (pair_ends I.lawful (ends_more (R.MayFollow p.2) c.3 (ends_more (S.MayFollow p.3) c.4 e.1)) (R.reads p.2 k.1.1.0 c.0.2) (pair_ends I.lawful
-        (ends_more (S.MayFollow p.3) c.4 e.1) (S.reads p.3 k.1.1.1.0 c.0.3) (pair_ends I.lawful e.1 (T.reads p.4 k.1.1.1.1.0 c.0.4) (U.ends p.5
-        k.1.1.1.1.1 c.0.5 e.0)))))) };
+    ghost ends = { λ p k c e. tuple_ends (λ o. (o.0, (o.1, (o.2, (o.3, (o.4, o.5)))))) (first_end I.lawful (P.reads p.0 k.0 c.0.0) (next_end I.lawful c.1
+        (Q.reads p.1 k.1.0 c.0.1) (next_end I.lawful c.2 (R.reads p.2 k.1.1.0 c.0.2) (next_end I.lawful c.3 (S.reads p.3 k.1.1.1.0 c.0.3) (next_end I.lawful
+        c.4 (T.reads p.4 k.1.1.1.1.0 c.0.4) (last_end e.1 (U.ends p.5 k.1.1.1.1.1 c.0.5 e.0))))))) };
 }
 
 impl<
@@ -228,13 +219,10 @@ impl<
 > Ending<I> for (P, Q, R, S, T, U, V) {
     ghost MayEnd = { λ p. V.MayEnd p.6 × ((b : V.Output) (ys : List I.Item) → V.Form p.6 b ys → U.MayFollow p.5 ys) };
 
-    ghost ends = { λ p k c e. tuple_ends (λ o. (o.0, (o.1, (o.2, (o.3, (o.4, (o.5, o.6))))))) (pair_ends I.lawful (ends_more (P.MayFollow p.0) c.1
-        (ends_more (Q.MayFollow p.1) c.2 (ends_more (R.MayFollow p.2) c.3 (ends_more (S.MayFollow p.3) c.4 (ends_more (T.MayFollow p.4) c.5 e.1)))))
-        (P.reads p.0 k.0 c.0.0) (pair_ends I.lawful (ends_more (Q.MayFollow p.1) c.2 (ends_more (R.MayFollow p.2) c.3 (ends_more (S.MayFollow p.3)
-        c.4 (ends_more (T.MayFollow p.4) c.5 e.1)))) (Q.reads p.1 k.1.0 c.0.1) (pair_ends I.lawful (ends_more (R.MayFollow p.2) c.3 (ends_more
-        (S.MayFollow p.3) c.4 (ends_more (T.MayFollow p.4) c.5 e.1))) (R.reads p.2 k.1.1.0 c.0.2) (pair_ends I.lawful (ends_more (S.MayFollow p.3)
-        c.4 (ends_more (T.MayFollow p.4) c.5 e.1)) (S.reads p.3 k.1.1.1.0 c.0.3) (pair_ends I.lawful (ends_more (T.MayFollow p.4) c.5 e.1) (T.reads
-        p.4 k.1.1.1.1.0 c.0.4) (pair_ends I.lawful e.1 (U.reads p.5 k.1.1.1.1.1.0 c.0.5) (V.ends p.6 k.1.1.1.1.1.1 c.0.6 e.0))))))) };
+    ghost ends = { λ p k c e. tuple_ends (λ o. (o.0, (o.1, (o.2, (o.3, (o.4, (o.5, o.6))))))) (first_end I.lawful (P.reads p.0 k.0 c.0.0) (next_end I.lawful
+        c.1 (Q.reads p.1 k.1.0 c.0.1) (next_end I.lawful c.2 (R.reads p.2 k.1.1.0 c.0.2) (next_end I.lawful c.3 (S.reads p.3 k.1.1.1.0 c.0.3) (next_end
+        I.lawful c.4 (T.reads p.4 k.1.1.1.1.0 c.0.4) (next_end I.lawful c.5 (U.reads p.5 k.1.1.1.1.1.0 c.0.5) (last_end e.1 (V.ends p.6 k.1.1.1.1.1.1 c.0.6
+        e.0)))))))) };
 }
 
 impl<
@@ -250,13 +238,8 @@ impl<
 > Ending<I> for (P, Q, R, S, T, U, V, W) {
     ghost MayEnd = { λ p. W.MayEnd p.7 × ((b : W.Output) (ys : List I.Item) → W.Form p.7 b ys → V.MayFollow p.6 ys) };
 
-    ghost ends = { λ p k c e. tuple_ends (λ o. (o.0, (o.1, (o.2, (o.3, (o.4, (o.5, (o.6, o.7)))))))) (pair_ends I.lawful (ends_more (P.MayFollow p.0)
-        c.1 (ends_more (Q.MayFollow p.1) c.2 (ends_more (R.MayFollow p.2) c.3 (ends_more (S.MayFollow p.3) c.4 (ends_more (T.MayFollow p.4) c.5
-        (ends_more (U.MayFollow p.5) c.6 e.1)))))) (P.reads p.0 k.0 c.0.0) (pair_ends I.lawful (ends_more (Q.MayFollow p.1) c.2 (ends_more
-        (R.MayFollow p.2) c.3 (ends_more (S.MayFollow p.3) c.4 (ends_more (T.MayFollow p.4) c.5 (ends_more (U.MayFollow p.5) c.6 e.1))))) (Q.reads
-        p.1 k.1.0 c.0.1) (pair_ends I.lawful (ends_more (R.MayFollow p.2) c.3 (ends_more (S.MayFollow p.3) c.4 (ends_more (T.MayFollow p.4) c.5
-        (ends_more (U.MayFollow p.5) c.6 e.1)))) (R.reads p.2 k.1.1.0 c.0.2) (pair_ends I.lawful (ends_more (S.MayFollow p.3) c.4 (ends_more
-        (T.MayFollow p.4) c.5 (ends_more (U.MayFollow p.5) c.6 e.1))) (S.reads p.3 k.1.1.1.0 c.0.3) (pair_ends I.lawful (ends_more (T.MayFollow p.4)
-        c.5 (ends_more (U.MayFollow p.5) c.6 e.1)) (T.reads p.4 k.1.1.1.1.0 c.0.4) (pair_ends I.lawful (ends_more (U.MayFollow p.5) c.6 e.1) (U.reads
-        p.5 k.1.1.1.1.1.0 c.0.5) (pair_ends I.lawful e.1 (V.reads p.6 k.1.1.1.1.1.1.0 c.0.6) (W.ends p.7 k.1.1.1.1.1.1.1 c.0.7 e.0)))))))) };
+    ghost ends = { λ p k c e. tuple_ends (λ o. (o.0, (o.1, (o.2, (o.3, (o.4, (o.5, (o.6, o.7)))))))) (first_end I.lawful (P.reads p.0 k.0 c.0.0) (next_end
+        I.lawful c.1 (Q.reads p.1 k.1.0 c.0.1) (next_end I.lawful c.2 (R.reads p.2 k.1.1.0 c.0.2) (next_end I.lawful c.3 (S.reads p.3 k.1.1.1.0 c.0.3)
+        (next_end I.lawful c.4 (T.reads p.4 k.1.1.1.1.0 c.0.4) (next_end I.lawful c.5 (U.reads p.5 k.1.1.1.1.1.0 c.0.5) (next_end I.lawful c.6 (V.reads p.6
+        k.1.1.1.1.1.1.0 c.0.6) (last_end e.1 (W.ends p.7 k.1.1.1.1.1.1.1 c.0.7 e.0))))))))) };
 }

@@ -10,7 +10,7 @@ ghost use Rattle.nom_sink.specs.Written.{LacksRoom, Space};
 use crate::piece::{AllItems, EachValue, OneValue};
 use crate::unmarked::{UnitItems, Unmarked};
 use crate::writer::Writer;
-use nom_multi_length::{LengthCount, LengthData, LengthValue};
+use nom_multi::{LengthCount, LengthData, LengthValue};
 use nom_sink::error::WriteError;
 use nom_sink::items::{EachOf, Measured, PutItem};
 use nom_sink::piece::{InTurn, Piece};

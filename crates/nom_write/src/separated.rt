@@ -11,7 +11,7 @@ ghost use Rattle.nom_write.specs.laws.SeparatedReads.{separated_list0_reads, sep
 
 use crate::piece::{Fixed, OneValue};
 use crate::writer::{Constant, Writer};
-use nom_multi::{SeparatedList0, SeparatedList1};
+use nom_separated::{SeparatedList0, SeparatedList1};
 use nom_sink::error::WriteError;
 use nom_sink::items::{EachOf, PutItem};
 use nom_sink::piece::{InTurn, Piece};

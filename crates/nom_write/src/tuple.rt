@@ -1,8 +1,7 @@
 //! Tuples of two to eight members. A form is one of the first member, followed by one of the others.
-ghost use Rattle.nom_internal.specs.Sequence.{pair_of};
-ghost use Rattle.nom_write.specs.laws.LeadLaws.{both_leads, pair_leads, tuple_leads};
+ghost use Rattle.nom_write.specs.laws.LeadLaws.{first_leads, then_first};
 ghost use Rattle.nom_sink.specs.Parts.{Both, BothFail, Meets};
-ghost use Rattle.nom_write.specs.laws.SequenceReads.{meets_more, pair_reads, tuple_reads};
+ghost use Rattle.nom_write.specs.laws.SequenceReads.{first_member, last_member, next_member, tuple_reads};
 
 use crate::piece::OneValue;
 use crate::writer::Writer;
@@ -25,21 +24,14 @@ impl<I: Items, P: Writer<I>, Q: Writer<I, Error = P::Error>> Writer<I> for (P, Q
     ghost Lead = { λ p. P.Lead p.0 };
 
     #[inline(always)]
-    fn write<X: Sink<I::Item>>(
-        &self,
-        value: &(P::Output, Q::Output),
-        out: &mut X,
-    ) -> Result<(), WriteError> {
-        InTurn(
-            OneValue::<I, P>(&self.0, &value.0, PhantomData),
-            OneValue::<I, Q>(&self.1, &value.1, PhantomData),
-        )
-        .put(out)
+    fn write<X: Sink<I::Item>>(&self, value: &Self::Output, out: &mut X) -> Result<(), WriteError> {
+        let rest = OneValue::<I, Q>(&self.1, &value.1, PhantomData);
+        InTurn(OneValue::<I, P>(&self.0, &value.0, PhantomData), rest).put(out)
     }
 
-    ghost reads = { λ p k c. tuple_reads (λ o. (o.0, o.1)) (pair_reads I.lawful c.1 (P.reads p.0 k.0 c.0.0) (Q.reads p.1 k.1 c.0.1)) };
+    ghost reads = { λ p k c. tuple_reads (λ o. (o.0, o.1)) (first_member I.lawful (P.reads p.0 k.0 c.0.0) (last_member c.1 (Q.reads p.1 k.1 c.0.1))) };
 
-    ghost leads = { λ p. both_leads (tuple_leads (pair_leads (P.leads p.0) (Q.grammar (Q.state p.1))) (λ o. (o.0, o.1))) };
+    ghost leads = { λ p. first_leads (P.leads p.0) (λ v. v.0) (λ s i o a. then_first a) };
 }
 
 impl<I: Items, P: Writer<I>, Q: Writer<I, Error = P::Error>, R: Writer<I, Error = P::Error>> Writer<
@@ -58,26 +50,16 @@ impl<I: Items, P: Writer<I>, Q: Writer<I, Error = P::Error>, R: Writer<I, Error 
     ghost Lead = { λ p. P.Lead p.0 };
 
     #[inline(always)]
-    fn write<X: Sink<I::Item>>(
-        &self,
-        value: &(P::Output, Q::Output, R::Output),
-        out: &mut X,
-    ) -> Result<(), WriteError> {
-        InTurn(
-            OneValue::<I, P>(&self.0, &value.0, PhantomData),
-            InTurn(
-                OneValue::<I, Q>(&self.1, &value.1, PhantomData),
-                OneValue::<I, R>(&self.2, &value.2, PhantomData),
-            ),
-        )
-        .put(out)
+    fn write<X: Sink<I::Item>>(&self, value: &Self::Output, out: &mut X) -> Result<(), WriteError> {
+        let rest = OneValue::<I, R>(&self.2, &value.2, PhantomData);
+        let rest = InTurn(OneValue::<I, Q>(&self.1, &value.1, PhantomData), rest);
+        InTurn(OneValue::<I, P>(&self.0, &value.0, PhantomData), rest).put(out)
     }
 
-    ghost reads = { λ p k c. tuple_reads (λ o. (o.0, (o.1, o.2))) (pair_reads I.lawful (meets_more (P.MayFollow p.0) c.1 c.2) (P.reads p.0 k.0 c.0.0)
-        (pair_reads I.lawful c.2 (Q.reads p.1 k.1.0 c.0.1) (R.reads p.2 k.1.1 c.0.2))) };
+    ghost reads = { λ p k c. tuple_reads (λ o. (o.0, (o.1, o.2))) (first_member I.lawful (P.reads p.0 k.0 c.0.0) (next_member I.lawful c.1 (Q.reads p.1 k.1.0
+        c.0.1) (last_member c.2 (R.reads p.2 k.1.1 c.0.2)))) };
 
-    ghost leads = { λ p. both_leads (tuple_leads (pair_leads (P.leads p.0) (pair_of I.model (Q.grammar (Q.state p.1)) (R.grammar (R.state p.2)))) (λ
-        o. (o.0, (o.1, o.2)))) };
+    ghost leads = { λ p. first_leads (P.leads p.0) (λ v. v.0) (λ s i o a. then_first a) };
 }
 
 impl<
@@ -89,8 +71,8 @@ impl<
 > Writer<I> for (P, Q, R, S) {
     ghost Form = { λ p v. Both (P.Form p.0 v.0) (Both (Q.Form p.1 v.1) (Both (R.Form p.2 v.2) (S.Form p.3 v.3))) };
 
-    ghost Fails = { λ p v. BothFail (P.Form p.0 v.0) (P.Fails p.0 v.0) (BothFail (Q.Form p.1 v.1) (Q.Fails p.1 v.1) (BothFail (R.Form p.2 v.2)
-        (R.Fails p.2 v.2) (S.Fails p.3 v.3))) };
+    ghost Fails = { λ p v. BothFail (P.Form p.0 v.0) (P.Fails p.0 v.0) (BothFail (Q.Form p.1 v.1) (Q.Fails p.1 v.1) (BothFail (R.Form p.2 v.2) (R.Fails p.2
+        v.2) (S.Fails p.3 v.3))) };
 
     ghost MayFollow = { λ p. S.MayFollow p.3 };
 
@@ -102,30 +84,17 @@ impl<
     ghost Lead = { λ p. P.Lead p.0 };
 
     #[inline(always)]
-    fn write<X: Sink<I::Item>>(
-        &self,
-        value: &(P::Output, Q::Output, R::Output, S::Output),
-        out: &mut X,
-    ) -> Result<(), WriteError> {
-        InTurn(
-            OneValue::<I, P>(&self.0, &value.0, PhantomData),
-            InTurn(
-                OneValue::<I, Q>(&self.1, &value.1, PhantomData),
-                InTurn(
-                    OneValue::<I, R>(&self.2, &value.2, PhantomData),
-                    OneValue::<I, S>(&self.3, &value.3, PhantomData),
-                ),
-            ),
-        )
-        .put(out)
+    fn write<X: Sink<I::Item>>(&self, value: &Self::Output, out: &mut X) -> Result<(), WriteError> {
+        let rest = OneValue::<I, S>(&self.3, &value.3, PhantomData);
+        let rest = InTurn(OneValue::<I, R>(&self.2, &value.2, PhantomData), rest);
+        let rest = InTurn(OneValue::<I, Q>(&self.1, &value.1, PhantomData), rest);
+        InTurn(OneValue::<I, P>(&self.0, &value.0, PhantomData), rest).put(out)
     }
 
-    ghost reads = { λ p k c. tuple_reads (λ o. (o.0, (o.1, (o.2, o.3)))) (pair_reads I.lawful (meets_more (P.MayFollow p.0) c.1 (meets_more
-        (Q.MayFollow p.1) c.2 c.3)) (P.reads p.0 k.0 c.0.0) (pair_reads I.lawful (meets_more (Q.MayFollow p.1) c.2 c.3) (Q.reads p.1 k.1.0 c.0.1)
-        (pair_reads I.lawful c.3 (R.reads p.2 k.1.1.0 c.0.2) (S.reads p.3 k.1.1.1 c.0.3)))) };
+    ghost reads = { λ p k c. tuple_reads (λ o. (o.0, (o.1, (o.2, o.3)))) (first_member I.lawful (P.reads p.0 k.0 c.0.0) (next_member I.lawful c.1 (Q.reads p.1
+        k.1.0 c.0.1) (next_member I.lawful c.2 (R.reads p.2 k.1.1.0 c.0.2) (last_member c.3 (S.reads p.3 k.1.1.1 c.0.3))))) };
 
-    ghost leads = { λ p. both_leads (tuple_leads (pair_leads (P.leads p.0) (pair_of I.model (Q.grammar (Q.state p.1)) (pair_of I.model (R.grammar
-        (R.state p.2)) (S.grammar (S.state p.3))))) (λ o. (o.0, (o.1, (o.2, o.3))))) };
+    ghost leads = { λ p. first_leads (P.leads p.0) (λ v. v.0) (λ s i o a. then_first a) };
 }
 
 impl<
@@ -138,8 +107,8 @@ impl<
 > Writer<I> for (P, Q, R, S, T) {
     ghost Form = { λ p v. Both (P.Form p.0 v.0) (Both (Q.Form p.1 v.1) (Both (R.Form p.2 v.2) (Both (S.Form p.3 v.3) (T.Form p.4 v.4)))) };
 
-    ghost Fails = { λ p v. BothFail (P.Form p.0 v.0) (P.Fails p.0 v.0) (BothFail (Q.Form p.1 v.1) (Q.Fails p.1 v.1) (BothFail (R.Form p.2 v.2)
-        (R.Fails p.2 v.2) (BothFail (S.Form p.3 v.3) (S.Fails p.3 v.3) (T.Fails p.4 v.4)))) };
+    ghost Fails = { λ p v. BothFail (P.Form p.0 v.0) (P.Fails p.0 v.0) (BothFail (Q.Form p.1 v.1) (Q.Fails p.1 v.1) (BothFail (R.Form p.2 v.2) (R.Fails p.2
+        v.2) (BothFail (S.Form p.3 v.3) (S.Fails p.3 v.3) (T.Fails p.4 v.4)))) };
 
     ghost MayFollow = { λ p. T.MayFollow p.4 };
 
@@ -152,34 +121,19 @@ impl<
     ghost Lead = { λ p. P.Lead p.0 };
 
     #[inline(always)]
-    fn write<X: Sink<I::Item>>(
-        &self,
-        value: &(P::Output, Q::Output, R::Output, S::Output, T::Output),
-        out: &mut X,
-    ) -> Result<(), WriteError> {
-        InTurn(
-            OneValue::<I, P>(&self.0, &value.0, PhantomData),
-            InTurn(
-                OneValue::<I, Q>(&self.1, &value.1, PhantomData),
-                InTurn(
-                    OneValue::<I, R>(&self.2, &value.2, PhantomData),
-                    InTurn(
-                        OneValue::<I, S>(&self.3, &value.3, PhantomData),
-                        OneValue::<I, T>(&self.4, &value.4, PhantomData),
-                    ),
-                ),
-            ),
-        )
-        .put(out)
+    fn write<X: Sink<I::Item>>(&self, value: &Self::Output, out: &mut X) -> Result<(), WriteError> {
+        let rest = OneValue::<I, T>(&self.4, &value.4, PhantomData);
+        let rest = InTurn(OneValue::<I, S>(&self.3, &value.3, PhantomData), rest);
+        let rest = InTurn(OneValue::<I, R>(&self.2, &value.2, PhantomData), rest);
+        let rest = InTurn(OneValue::<I, Q>(&self.1, &value.1, PhantomData), rest);
+        InTurn(OneValue::<I, P>(&self.0, &value.0, PhantomData), rest).put(out)
     }
 
-    ghost reads = { λ p k c. tuple_reads (λ o. (o.0, (o.1, (o.2, (o.3, o.4))))) (pair_reads I.lawful (meets_more (P.MayFollow p.0) c.1 (meets_more
-        (Q.MayFollow p.1) c.2 (meets_more (R.MayFollow p.2) c.3 c.4))) (P.reads p.0 k.0 c.0.0) (pair_reads I.lawful (meets_more (Q.MayFollow p.1) c.2
-        (meets_more (R.MayFollow p.2) c.3 c.4)) (Q.reads p.1 k.1.0 c.0.1) (pair_reads I.lawful (meets_more (R.MayFollow p.2) c.3 c.4) (R.reads p.2
-        k.1.1.0 c.0.2) (pair_reads I.lawful c.4 (S.reads p.3 k.1.1.1.0 c.0.3) (T.reads p.4 k.1.1.1.1 c.0.4))))) };
+    ghost reads = { λ p k c. tuple_reads (λ o. (o.0, (o.1, (o.2, (o.3, o.4))))) (first_member I.lawful (P.reads p.0 k.0 c.0.0) (next_member I.lawful c.1
+        (Q.reads p.1 k.1.0 c.0.1) (next_member I.lawful c.2 (R.reads p.2 k.1.1.0 c.0.2) (next_member I.lawful c.3 (S.reads p.3 k.1.1.1.0 c.0.3) (last_member
+        c.4 (T.reads p.4 k.1.1.1.1 c.0.4)))))) };
 
-    ghost leads = { λ p. both_leads (tuple_leads (pair_leads (P.leads p.0) (pair_of I.model (Q.grammar (Q.state p.1)) (pair_of I.model (R.grammar
-        (R.state p.2)) (pair_of I.model (S.grammar (S.state p.3)) (T.grammar (T.state p.4)))))) (λ o. (o.0, (o.1, (o.2, (o.3, o.4)))))) };
+    ghost leads = { λ p. first_leads (P.leads p.0) (λ v. v.0) (λ s i o a. then_first a) };
 }
 
 impl<
@@ -191,11 +145,11 @@ impl<
     T: Writer<I, Error = P::Error>,
     U: Writer<I, Error = P::Error>,
 > Writer<I> for (P, Q, R, S, T, U) {
-    ghost Form = { λ p v. Both (P.Form p.0 v.0) (Both (Q.Form p.1 v.1) (Both (R.Form p.2 v.2) (Both (S.Form p.3 v.3) (Both (T.Form p.4 v.4) (U.Form
-        p.5 v.5))))) };
+    ghost Form = { λ p v. Both (P.Form p.0 v.0) (Both (Q.Form p.1 v.1) (Both (R.Form p.2 v.2) (Both (S.Form p.3 v.3) (Both (T.Form p.4 v.4) (U.Form p.5
+        v.5))))) };
 
-    ghost Fails = { λ p v. BothFail (P.Form p.0 v.0) (P.Fails p.0 v.0) (BothFail (Q.Form p.1 v.1) (Q.Fails p.1 v.1) (BothFail (R.Form p.2 v.2)
-        (R.Fails p.2 v.2) (BothFail (S.Form p.3 v.3) (S.Fails p.3 v.3) (BothFail (T.Form p.4 v.4) (T.Fails p.4 v.4) (U.Fails p.5 v.5))))) };
+    ghost Fails = { λ p v. BothFail (P.Form p.0 v.0) (P.Fails p.0 v.0) (BothFail (Q.Form p.1 v.1) (Q.Fails p.1 v.1) (BothFail (R.Form p.2 v.2) (R.Fails p.2
+        v.2) (BothFail (S.Form p.3 v.3) (S.Fails p.3 v.3) (BothFail (T.Form p.4 v.4) (T.Fails p.4 v.4) (U.Fails p.5 v.5))))) };
 
     ghost MayFollow = { λ p. U.MayFollow p.5 };
 
@@ -209,47 +163,20 @@ impl<
     ghost Lead = { λ p. P.Lead p.0 };
 
     #[inline(always)]
-    fn write<X: Sink<I::Item>>(
-        &self,
-        value: &(
-            P::Output,
-            Q::Output,
-            R::Output,
-            S::Output,
-            T::Output,
-            U::Output,
-        ),
-        out: &mut X,
-    ) -> Result<(), WriteError> {
-        InTurn(
-            OneValue::<I, P>(&self.0, &value.0, PhantomData),
-            InTurn(
-                OneValue::<I, Q>(&self.1, &value.1, PhantomData),
-                InTurn(
-                    OneValue::<I, R>(&self.2, &value.2, PhantomData),
-                    InTurn(
-                        OneValue::<I, S>(&self.3, &value.3, PhantomData),
-                        InTurn(
-                            OneValue::<I, T>(&self.4, &value.4, PhantomData),
-                            OneValue::<I, U>(&self.5, &value.5, PhantomData),
-                        ),
-                    ),
-                ),
-            ),
-        )
-        .put(out)
+    fn write<X: Sink<I::Item>>(&self, value: &Self::Output, out: &mut X) -> Result<(), WriteError> {
+        let rest = OneValue::<I, U>(&self.5, &value.5, PhantomData);
+        let rest = InTurn(OneValue::<I, T>(&self.4, &value.4, PhantomData), rest);
+        let rest = InTurn(OneValue::<I, S>(&self.3, &value.3, PhantomData), rest);
+        let rest = InTurn(OneValue::<I, R>(&self.2, &value.2, PhantomData), rest);
+        let rest = InTurn(OneValue::<I, Q>(&self.1, &value.1, PhantomData), rest);
+        InTurn(OneValue::<I, P>(&self.0, &value.0, PhantomData), rest).put(out)
     }
 
-    ghost reads = { λ p k c. tuple_reads (λ o. (o.0, (o.1, (o.2, (o.3, (o.4, o.5)))))) (pair_reads I.lawful (meets_more (P.MayFollow p.0) c.1
-        (meets_more (Q.MayFollow p.1) c.2 (meets_more (R.MayFollow p.2) c.3 (meets_more (S.MayFollow p.3) c.4 c.5)))) (P.reads p.0 k.0 c.0.0)
-        (pair_reads I.lawful (meets_more (Q.MayFollow p.1) c.2 (meets_more (R.MayFollow p.2) c.3 (meets_more (S.MayFollow p.3) c.4 c.5))) (Q.reads
-        p.1 k.1.0 c.0.1) (pair_reads I.lawful (meets_more (R.MayFollow p.2) c.3 (meets_more (S.MayFollow p.3) c.4 c.5)) (R.reads p.2 k.1.1.0 c.0.2)
-        (pair_reads I.lawful (meets_more (S.MayFollow p.3) c.4 c.5) (S.reads p.3 k.1.1.1.0 c.0.3) (pair_reads I.lawful c.5 (T.reads p.4 k.1.1.1.1.0
-        c.0.4) (U.reads p.5 k.1.1.1.1.1 c.0.5)))))) };
+    ghost reads = { λ p k c. tuple_reads (λ o. (o.0, (o.1, (o.2, (o.3, (o.4, o.5)))))) (first_member I.lawful (P.reads p.0 k.0 c.0.0) (next_member I.lawful
+        c.1 (Q.reads p.1 k.1.0 c.0.1) (next_member I.lawful c.2 (R.reads p.2 k.1.1.0 c.0.2) (next_member I.lawful c.3 (S.reads p.3 k.1.1.1.0 c.0.3)
+        (next_member I.lawful c.4 (T.reads p.4 k.1.1.1.1.0 c.0.4) (last_member c.5 (U.reads p.5 k.1.1.1.1.1 c.0.5))))))) };
 
-    ghost leads = { λ p. both_leads (tuple_leads (pair_leads (P.leads p.0) (pair_of I.model (Q.grammar (Q.state p.1)) (pair_of I.model (R.grammar
-        (R.state p.2)) (pair_of I.model (S.grammar (S.state p.3)) (pair_of I.model (T.grammar (T.state p.4)) (U.grammar (U.state p.5))))))) (λ o.
-        (o.0, (o.1, (o.2, (o.3, (o.4, o.5))))))) };
+    ghost leads = { λ p. first_leads (P.leads p.0) (λ v. v.0) (λ s i o a. then_first a) };
 }
 
 impl<
@@ -262,12 +189,12 @@ impl<
     U: Writer<I, Error = P::Error>,
     V: Writer<I, Error = P::Error>,
 > Writer<I> for (P, Q, R, S, T, U, V) {
-    ghost Form = { λ p v. Both (P.Form p.0 v.0) (Both (Q.Form p.1 v.1) (Both (R.Form p.2 v.2) (Both (S.Form p.3 v.3) (Both (T.Form p.4 v.4) (Both
-        (U.Form p.5 v.5) (V.Form p.6 v.6)))))) };
+    ghost Form = { λ p v. Both (P.Form p.0 v.0) (Both (Q.Form p.1 v.1) (Both (R.Form p.2 v.2) (Both (S.Form p.3 v.3) (Both (T.Form p.4 v.4) (Both (U.Form p.5
+        v.5) (V.Form p.6 v.6)))))) };
 
-    ghost Fails = { λ p v. BothFail (P.Form p.0 v.0) (P.Fails p.0 v.0) (BothFail (Q.Form p.1 v.1) (Q.Fails p.1 v.1) (BothFail (R.Form p.2 v.2)
-        (R.Fails p.2 v.2) (BothFail (S.Form p.3 v.3) (S.Fails p.3 v.3) (BothFail (T.Form p.4 v.4) (T.Fails p.4 v.4) (BothFail (U.Form p.5 v.5)
-        (U.Fails p.5 v.5) (V.Fails p.6 v.6)))))) };
+    ghost Fails = { λ p v. BothFail (P.Form p.0 v.0) (P.Fails p.0 v.0) (BothFail (Q.Form p.1 v.1) (Q.Fails p.1 v.1) (BothFail (R.Form p.2 v.2) (R.Fails p.2
+        v.2) (BothFail (S.Form p.3 v.3) (S.Fails p.3 v.3) (BothFail (T.Form p.4 v.4) (T.Fails p.4 v.4) (BothFail (U.Form p.5 v.5) (U.Fails p.5 v.5) (V.Fails
+        p.6 v.6)))))) };
 
     ghost MayFollow = { λ p. V.MayFollow p.6 };
 
@@ -282,53 +209,22 @@ impl<
     ghost Lead = { λ p. P.Lead p.0 };
 
     #[inline(always)]
-    fn write<X: Sink<I::Item>>(
-        &self,
-        value: &(
-            P::Output,
-            Q::Output,
-            R::Output,
-            S::Output,
-            T::Output,
-            U::Output,
-            V::Output,
-        ),
-        out: &mut X,
-    ) -> Result<(), WriteError> {
-        InTurn(
-            OneValue::<I, P>(&self.0, &value.0, PhantomData),
-            InTurn(
-                OneValue::<I, Q>(&self.1, &value.1, PhantomData),
-                InTurn(
-                    OneValue::<I, R>(&self.2, &value.2, PhantomData),
-                    InTurn(
-                        OneValue::<I, S>(&self.3, &value.3, PhantomData),
-                        InTurn(
-                            OneValue::<I, T>(&self.4, &value.4, PhantomData),
-                            InTurn(
-                                OneValue::<I, U>(&self.5, &value.5, PhantomData),
-                                OneValue::<I, V>(&self.6, &value.6, PhantomData),
-                            ),
-                        ),
-                    ),
-                ),
-            ),
-        )
-        .put(out)
+    fn write<X: Sink<I::Item>>(&self, value: &Self::Output, out: &mut X) -> Result<(), WriteError> {
+        let rest = OneValue::<I, V>(&self.6, &value.6, PhantomData);
+        let rest = InTurn(OneValue::<I, U>(&self.5, &value.5, PhantomData), rest);
+        let rest = InTurn(OneValue::<I, T>(&self.4, &value.4, PhantomData), rest);
+        let rest = InTurn(OneValue::<I, S>(&self.3, &value.3, PhantomData), rest);
+        let rest = InTurn(OneValue::<I, R>(&self.2, &value.2, PhantomData), rest);
+        let rest = InTurn(OneValue::<I, Q>(&self.1, &value.1, PhantomData), rest);
+        InTurn(OneValue::<I, P>(&self.0, &value.0, PhantomData), rest).put(out)
     }
 
-    ghost reads = { λ p k c. tuple_reads (λ o. (o.0, (o.1, (o.2, (o.3, (o.4, (o.5, o.6))))))) (pair_reads I.lawful (meets_more (P.MayFollow p.0) c.1
-        (meets_more (Q.MayFollow p.1) c.2 (meets_more (R.MayFollow p.2) c.3 (meets_more (S.MayFollow p.3) c.4 (meets_more (T.MayFollow p.4) c.5
-        c.6))))) (P.reads p.0 k.0 c.0.0) (pair_reads I.lawful (meets_more (Q.MayFollow p.1) c.2 (meets_more (R.MayFollow p.2) c.3 (meets_more
-        (S.MayFollow p.3) c.4 (meets_more (T.MayFollow p.4) c.5 c.6)))) (Q.reads p.1 k.1.0 c.0.1) (pair_reads I.lawful (meets_more (R.MayFollow p.2)
-        c.3 (meets_more (S.MayFollow p.3) c.4 (meets_more (T.MayFollow p.4) c.5 c.6))) (R.reads p.2 k.1.1.0 c.0.2) (pair_reads I.lawful (meets_more
-        (S.MayFollow p.3) c.4 (meets_more (T.MayFollow p.4) c.5 c.6)) (S.reads p.3 k.1.1.1.0 c.0.3) (pair_reads I.lawful (meets_more (T.MayFollow
-        p.4) c.5 c.6) (T.reads p.4 k.1.1.1.1.0 c.0.4) (pair_reads I.lawful c.6 (U.reads p.5 k.1.1.1.1.1.0 c.0.5) (V.reads p.6 k.1.1.1.1.1.1
-        c.0.6))))))) };
+    ghost reads = { λ p k c. tuple_reads (λ o. (o.0, (o.1, (o.2, (o.3, (o.4, (o.5, o.6))))))) (first_member I.lawful (P.reads p.0 k.0 c.0.0) (next_member
+        I.lawful c.1 (Q.reads p.1 k.1.0 c.0.1) (next_member I.lawful c.2 (R.reads p.2 k.1.1.0 c.0.2) (next_member I.lawful c.3 (S.reads p.3 k.1.1.1.0 c.0.3)
+        (next_member I.lawful c.4 (T.reads p.4 k.1.1.1.1.0 c.0.4) (next_member I.lawful c.5 (U.reads p.5 k.1.1.1.1.1.0 c.0.5) (last_member c.6 (V.reads p.6
+        k.1.1.1.1.1.1 c.0.6)))))))) };
 
-    ghost leads = { λ p. both_leads (tuple_leads (pair_leads (P.leads p.0) (pair_of I.model (Q.grammar (Q.state p.1)) (pair_of I.model (R.grammar
-        (R.state p.2)) (pair_of I.model (S.grammar (S.state p.3)) (pair_of I.model (T.grammar (T.state p.4)) (pair_of I.model (U.grammar (U.state
-        p.5)) (V.grammar (V.state p.6)))))))) (λ o. (o.0, (o.1, (o.2, (o.3, (o.4, (o.5, o.6)))))))) };
+    ghost leads = { λ p. first_leads (P.leads p.0) (λ v. v.0) (λ s i o a. then_first a) };
 }
 
 impl<
@@ -342,17 +238,17 @@ impl<
     V: Writer<I, Error = P::Error>,
     W: Writer<I, Error = P::Error>,
 > Writer<I> for (P, Q, R, S, T, U, V, W) {
-    ghost Form = { λ p v. Both (P.Form p.0 v.0) (Both (Q.Form p.1 v.1) (Both (R.Form p.2 v.2) (Both (S.Form p.3 v.3) (Both (T.Form p.4 v.4) (Both
-        (U.Form p.5 v.5) (Both (V.Form p.6 v.6) (W.Form p.7 v.7))))))) };
+    ghost Form = { λ p v. Both (P.Form p.0 v.0) (Both (Q.Form p.1 v.1) (Both (R.Form p.2 v.2) (Both (S.Form p.3 v.3) (Both (T.Form p.4 v.4) (Both (U.Form p.5
+        v.5) (Both (V.Form p.6 v.6) (W.Form p.7 v.7))))))) };
 
-    ghost Fails = { λ p v. BothFail (P.Form p.0 v.0) (P.Fails p.0 v.0) (BothFail (Q.Form p.1 v.1) (Q.Fails p.1 v.1) (BothFail (R.Form p.2 v.2)
-        (R.Fails p.2 v.2) (BothFail (S.Form p.3 v.3) (S.Fails p.3 v.3) (BothFail (T.Form p.4 v.4) (T.Fails p.4 v.4) (BothFail (U.Form p.5 v.5)
-        (U.Fails p.5 v.5) (BothFail (V.Form p.6 v.6) (V.Fails p.6 v.6) (W.Fails p.7 v.7))))))) };
+    ghost Fails = { λ p v. BothFail (P.Form p.0 v.0) (P.Fails p.0 v.0) (BothFail (Q.Form p.1 v.1) (Q.Fails p.1 v.1) (BothFail (R.Form p.2 v.2) (R.Fails p.2
+        v.2) (BothFail (S.Form p.3 v.3) (S.Fails p.3 v.3) (BothFail (T.Form p.4 v.4) (T.Fails p.4 v.4) (BothFail (U.Form p.5 v.5) (U.Fails p.5 v.5) (BothFail
+        (V.Form p.6 v.6) (V.Fails p.6 v.6) (W.Fails p.7 v.7))))))) };
 
     ghost MayFollow = { λ p. W.MayFollow p.7 };
 
-    ghost CanWrite = { λ p. (P.CanWrite p.0 × Q.CanWrite p.1 × R.CanWrite p.2 × S.CanWrite p.3 × T.CanWrite p.4 × U.CanWrite p.5 × V.CanWrite p.6 ×
-        W.CanWrite p.7) ×
+    ghost CanWrite = { λ p. (P.CanWrite p.0 × Q.CanWrite p.1 × R.CanWrite p.2 × S.CanWrite p.3 × T.CanWrite p.4 × U.CanWrite p.5 × V.CanWrite p.6 × W.CanWrite
+        p.7) ×
         Meets (P.MayFollow p.0) (λ ys. (b : Q.Output) × Q.Form p.1 b ys) (Q.MayFollow p.1) ×
         Meets (Q.MayFollow p.1) (λ ys. (b : R.Output) × R.Form p.2 b ys) (R.MayFollow p.2) ×
         Meets (R.MayFollow p.2) (λ ys. (b : S.Output) × S.Form p.3 b ys) (S.MayFollow p.3) ×
@@ -364,77 +260,21 @@ impl<
     ghost Lead = { λ p. P.Lead p.0 };
 
     #[inline(always)]
-    fn write<X: Sink<I::Item>>(
-        &self,
-        value: &(
-            P::Output,
-            Q::Output,
-            R::Output,
-            S::Output,
-            T::Output,
-            U::Output,
-            V::Output,
-            W::Output,
-        ),
-        out: &mut X,
-    ) -> Result<(), WriteError> {
-        InTurn(
-            OneValue::<I, P>(&self.0, &value.0, PhantomData),
-            InTurn(
-                OneValue::<I, Q>(&self.1, &value.1, PhantomData),
-                InTurn(
-                    OneValue::<I, R>(&self.2, &value.2, PhantomData),
-                    InTurn(
-                        OneValue::<I, S>(&self.3, &value.3, PhantomData),
-                        InTurn(
-                            OneValue::<I, T>(&self.4, &value.4, PhantomData),
-                            InTurn(
-                                OneValue::<I, U>(&self.5, &value.5, PhantomData),
-                                InTurn(
-                                    OneValue::<I, V>(&self.6, &value.6, PhantomData),
-                                    OneValue::<I, W>(&self.7, &value.7, PhantomData),
-                                ),
-                            ),
-                        ),
-                    ),
-                ),
-            ),
-        )
-        .put(out)
+    fn write<X: Sink<I::Item>>(&self, value: &Self::Output, out: &mut X) -> Result<(), WriteError> {
+        let rest = OneValue::<I, W>(&self.7, &value.7, PhantomData);
+        let rest = InTurn(OneValue::<I, V>(&self.6, &value.6, PhantomData), rest);
+        let rest = InTurn(OneValue::<I, U>(&self.5, &value.5, PhantomData), rest);
+        let rest = InTurn(OneValue::<I, T>(&self.4, &value.4, PhantomData), rest);
+        let rest = InTurn(OneValue::<I, S>(&self.3, &value.3, PhantomData), rest);
+        let rest = InTurn(OneValue::<I, R>(&self.2, &value.2, PhantomData), rest);
+        let rest = InTurn(OneValue::<I, Q>(&self.1, &value.1, PhantomData), rest);
+        InTurn(OneValue::<I, P>(&self.0, &value.0, PhantomData), rest).put(out)
     }
 
-    ghost reads = { λ p k c. tuple_reads (λ o. (o.0, (o.1, (o.2, (o.3, (o.4, (o.5, (o.6, o.7)))))))) (pair_reads I.lawful (meets_more (P.MayFollow
-        p.0) c.1 (meets_more (Q.MayFollow p.1) c.2 (meets_more (R.MayFollow p.2) c.3 (meets_more (S.MayFollow p.3) c.4 (meets_more (T.MayFollow p.4)
-        c.5 (meets_more (U.MayFollow p.5) c.6 c.7)))))) (P.reads p.0 k.0 c.0.0) (pair_reads I.lawful (meets_more (Q.MayFollow p.1) c.2 (meets_more
-        (R.MayFollow p.2) c.3 (meets_more (S.MayFollow p.3) c.4 (meets_more (T.MayFollow p.4) c.5 (meets_more (U.MayFollow p.5) c.6 c.7))))) (Q.reads
-        p.1 k.1.0 c.0.1) (pair_reads I.lawful (meets_more (R.MayFollow p.2) c.3 (meets_more (S.MayFollow p.3) c.4 (meets_more (T.MayFollow p.4) c.5
-        (meets_more (U.MayFollow p.5) c.6 c.7)))) (R.reads p.2 k.1.1.0 c.0.2) (pair_reads I.lawful (meets_more (S.MayFollow p.3) c.4 (meets_more
-        (T.MayFollow p.4) c.5 (meets_more (U.MayFollow p.5) c.6 c.7))) (S.reads p.3 k.1.1.1.0 c.0.3) (pair_reads I.lawful (meets_more (T.MayFollow
-        p.4) c.5 (meets_more (U.MayFollow p.5) c.6 c.7)) (T.reads p.4 k.1.1.1.1.0 c.0.4) (pair_reads I.lawful (meets_more (U.MayFollow p.5) c.6 c.7)
-        (U.reads p.5 k.1.1.1.1.1.0 c.0.5) (pair_reads I.lawful c.7 (V.reads p.6 k.1.1.1.1.1.1.0 c.0.6) (W.reads p.7 k.1.1.1.1.1.1.1 c.0.7)))))))) };
+    ghost reads = { λ p k c. tuple_reads (λ o. (o.0, (o.1, (o.2, (o.3, (o.4, (o.5, (o.6, o.7)))))))) (first_member I.lawful (P.reads p.0 k.0 c.0.0)
+        (next_member I.lawful c.1 (Q.reads p.1 k.1.0 c.0.1) (next_member I.lawful c.2 (R.reads p.2 k.1.1.0 c.0.2) (next_member I.lawful c.3 (S.reads p.3
+        k.1.1.1.0 c.0.3) (next_member I.lawful c.4 (T.reads p.4 k.1.1.1.1.0 c.0.4) (next_member I.lawful c.5 (U.reads p.5 k.1.1.1.1.1.0 c.0.5) (next_member
+        I.lawful c.6 (V.reads p.6 k.1.1.1.1.1.1.0 c.0.6) (last_member c.7 (W.reads p.7 k.1.1.1.1.1.1.1 c.0.7))))))))) };
 
-    ghost leads = { λ p. both_leads (tuple_leads (pair_leads (P.leads p.0) (pair_of I.model (Q.grammar (Q.state p.1)) (pair_of I.model (R.grammar
-        (R.state p.2)) (pair_of I.model (S.grammar (S.state p.3)) (pair_of I.model (T.grammar (T.state p.4)) (pair_of I.model (U.grammar (U.state
-        p.5)) (pair_of I.model (V.grammar (V.state p.6)) (W.grammar (W.state p.7))))))))) (λ o. (
-          o.0,
-          (
-            o.1,
-            (
-              o.2,
-              (
-                o.3,
-                (
-                  o.4,
-                  (
-                    o.5,
-                    (
-                      o.6,
-                      o.7,
-                    ),
-                  ),
-                ),
-              ),
-            ),
-          ),
-        ))) };
+    ghost leads = { λ p. first_leads (P.leads p.0) (λ v. v.0) (λ s i o a. then_first a) };
 }

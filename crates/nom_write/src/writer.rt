@@ -19,14 +19,14 @@ pub trait Writer<I: Items>: StreamParser<I> {
     /// Why a value isn't written, by the length and the room of the sink.
     ghost Fails: { Self → Self.Output → Space → WriteError → Type 0 };
 
-    /// What may follow a form.
+    /// What may follow a form: the follow set.
     ghost MayFollow: { Self → List I.Item → Type 0 } = { λ _ _. Unit {0} };
 
     /// What a caller of `write` must prove: that the form of each part may follow the part before it.
     ghost CanWrite: { Self → Type 0 } = { λ _. Unit {0} };
 
-    /// What forms begin with, if the parser alone determines it: some words, each the codes of some items. The parser refuses as many
-    /// other items.
+    /// What forms begin with, if the parser alone determines it: the first set. It has words, each the codes of some items. The parser
+    /// refuses as many other items.
     ///
     /// Branches are kept apart if their words differ. The code of a byte is the byte, that of a character its code point, and that of a
     /// bit 1 or 0.

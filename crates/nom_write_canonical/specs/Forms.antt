@@ -4,6 +4,7 @@ use Rattle.nom_internal.specs.Prelude.{Accept, AreValues, Grammar, IResult, Mode
 use Rattle.nom_sink.specs.declared.error.WriteError.{WriteError}
 use Rattle.nom_sink.specs.Choices.{IsUnfit}
 use Rattle.nom_sink.specs.Written.{SinkModel, Space, Written}
+use Rattle.nom_write.specs.Choices.{BranchForms, first_forms, or_forms}
 
 module _ {I A : Type 0} (w : Model I A) (Fact : List A → Type 0) (i : I) (n : ℕ) where
   -- an input begins with items, of a length, of which the fact holds
@@ -41,6 +42,21 @@ pub record IsOneForm {A : Type 0} (IsValue : A → Type 0) (Form : List A → Ty
 pub record Excludes {O A : Type 0} (First : O → List A → Type 0) (Fails : O → Space → WriteError → Type 0) (Second : O → List A → Type 0) : Type 0 where
   pub unfit : (v : O) (xs : List A) → Second v xs → IsUnfit (Fails v)
   pub apart : (v : O) (xs ys : List A) → First v xs → Second v ys → ⊥
+
+-- some branches, of which none writes a value that one before it writes
+pub record Exclusive (O A : Type 0) : Type 1 where
+  pub forms : BranchForms O A
+  pub AreExclusive : Type 0
+
+abbrev pub first_exclusive : {O A : Type 0} → (O → List A → Type 0) → (O → Space → WriteError → Type 0) → Exclusive O A
+first_exclusive Form Fails = record { forms = first_forms Form Fails; AreExclusive = Unit {0} }
+
+-- the branches before, and one more
+abbrev pub or_exclusive : {O A : Type 0} → Exclusive O A → (O → List A → Type 0) → (O → Space → WriteError → Type 0) → Exclusive O A
+or_exclusive before Form Fails = record {
+  forms = or_forms before.forms Form Fails;
+  AreExclusive = before.AreExclusive × Excludes before.forms.Form before.forms.Fails Form;
+}
 
 -- no value has two forms
 abbrev pub HasOneForm : {O A : Type 0} → (A → Type 0) → (O → List A → Type 0) → Type 0

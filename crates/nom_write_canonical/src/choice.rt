@@ -1,7 +1,8 @@
-//! Choices. No branch writes a value that an earlier one writes.
-ghost use Rattle.nom_write_canonical.specs.Forms.{Excludes};
+//! Choices. No branch writes a value that an earlier one writes. What two branches exclude their choice excludes, by `both_exclude` of
+//! `specs/laws/ChoiceForms.antt`.
+ghost use Rattle.nom_write_canonical.specs.Forms.{Excludes, first_exclusive, or_exclusive};
 ghost use Rattle.nom_write_canonical.specs.laws.CaseForms.{alt_accepts};
-ghost use Rattle.nom_write_canonical.specs.laws.ChoiceForms.{apart_from_both, both_exclude, either_accepts, either_one, either_split_accepts};
+ghost use Rattle.nom_write_canonical.specs.laws.ChoiceForms.{either_accepts, either_one};
 
 use crate::canonical::Canonical;
 use nom_branch::Choice;
@@ -22,13 +23,13 @@ impl<
 
 impl<I: Items, P: Canonical<I>, Q: Canonical<I, Error = P::Error, Output = P::Output>> Canonical<I>
     for Choice<(P, Q)> {
-    ghost IsCanonical = { λ p. (P.IsCanonical p.parsers.0 × Q.IsCanonical p.parsers.1) × Excludes (P.Form p.parsers.0) (P.Fails p.parsers.0) (Q.Form
-        p.parsers.1) };
+    ghost IsCanonical = { λ p. let b = p.parsers in (P.IsCanonical b.0 × Q.IsCanonical b.1) × (or_exclusive (first_exclusive (P.Form b.0) (P.Fails b.0))
+        (Q.Form b.1) (Q.Fails b.1)).AreExclusive };
 
-    ghost accepts_forms = { λ p c. alt_accepts P.Error.errors (either_accepts P.Error.errors c.1 (P.accepts_forms p.parsers.0 c.0.0) (Q.accepts_forms
-        p.parsers.1 c.0.1)) };
+    ghost accepts_forms = { λ p c. let b = p.parsers in let e = P.Error.errors in alt_accepts e (either_accepts e c.1.1 (P.accepts_forms b.0 c.0.0)
+        (Q.accepts_forms b.1 c.0.1)) };
 
-    ghost one_form = { λ p c v. either_one ((c.1).apart v) (P.one_form p.parsers.0 c.0.0 v) (Q.one_form p.parsers.1 c.0.1 v) };
+    ghost one_form = { λ p c v. let b = p.parsers in either_one ((c.1.1).apart v) (P.one_form b.0 c.0.0 v) (Q.one_form b.1 c.0.1 v) };
 }
 
 impl<
@@ -37,16 +38,14 @@ impl<
     Q: Canonical<I, Error = P::Error, Output = P::Output>,
     R: Canonical<I, Error = P::Error, Output = P::Output>,
 > Canonical<I> for Choice<(P, Q, R)> {
-    ghost IsCanonical = { λ p. (P.IsCanonical p.parsers.0 × Q.IsCanonical p.parsers.1 × R.IsCanonical p.parsers.2) × Excludes (P.Form p.parsers.0)
-        (P.Fails p.parsers.0) (Q.Form p.parsers.1) × (Excludes (P.Form p.parsers.0) (P.Fails p.parsers.0) (R.Form p.parsers.2) × Excludes (Q.Form
-        p.parsers.1) (Q.Fails p.parsers.1) (R.Form p.parsers.2)) };
+    ghost IsCanonical = { λ p. let b = p.parsers in (P.IsCanonical b.0 × Q.IsCanonical b.1 × R.IsCanonical b.2) × (or_exclusive (or_exclusive (first_exclusive
+        (P.Form b.0) (P.Fails b.0)) (Q.Form b.1) (Q.Fails b.1)) (R.Form b.2) (R.Fails b.2)).AreExclusive };
 
-    ghost accepts_forms = { λ p c. alt_accepts P.Error.errors (either_split_accepts (either_accepts P.Error.errors (both_exclude c.2.0 c.2.1)
-        (either_accepts P.Error.errors c.1 (P.accepts_forms p.parsers.0 c.0.0) (Q.accepts_forms p.parsers.1 c.0.1)) (R.accepts_forms p.parsers.2
-        c.0.2))) };
+    ghost accepts_forms = { λ p c. let b = p.parsers in let e = P.Error.errors in alt_accepts e (either_accepts e c.1.1 (either_accepts e c.1.0.1
+        (P.accepts_forms b.0 c.0.0) (Q.accepts_forms b.1 c.0.1)) (R.accepts_forms b.2 c.0.2)) };
 
-    ghost one_form = { λ p c v. either_one (apart_from_both ((c.1).apart v) ((c.2.0).apart v)) (P.one_form p.parsers.0 c.0.0 v) (either_one
-        ((c.2.1).apart v) (Q.one_form p.parsers.1 c.0.1 v) (R.one_form p.parsers.2 c.0.2 v)) };
+    ghost one_form = { λ p c v. let b = p.parsers in either_one ((c.1.1).apart v) (either_one ((c.1.0.1).apart v) (P.one_form b.0 c.0.0 v) (Q.one_form b.1
+        c.0.1 v)) (R.one_form b.2 c.0.2 v) };
 }
 
 impl<
@@ -56,20 +55,15 @@ impl<
     R: Canonical<I, Error = P::Error, Output = P::Output>,
     S: Canonical<I, Error = P::Error, Output = P::Output>,
 > Canonical<I> for Choice<(P, Q, R, S)> {
-    ghost IsCanonical = { λ p. (P.IsCanonical p.parsers.0 × Q.IsCanonical p.parsers.1 × R.IsCanonical p.parsers.2 × S.IsCanonical p.parsers.3) ×
-        Excludes (P.Form p.parsers.0) (P.Fails p.parsers.0) (Q.Form p.parsers.1) × (Excludes (P.Form p.parsers.0) (P.Fails p.parsers.0) (R.Form
-        p.parsers.2) × Excludes (Q.Form p.parsers.1) (Q.Fails p.parsers.1) (R.Form p.parsers.2)) × (Excludes (P.Form p.parsers.0) (P.Fails
-        p.parsers.0) (S.Form p.parsers.3) × Excludes (Q.Form p.parsers.1) (Q.Fails p.parsers.1) (S.Form p.parsers.3) × Excludes (R.Form p.parsers.2)
-        (R.Fails p.parsers.2) (S.Form p.parsers.3)) };
+    ghost IsCanonical = { λ p. let b = p.parsers in (P.IsCanonical b.0 × Q.IsCanonical b.1 × R.IsCanonical b.2 × S.IsCanonical b.3) × (or_exclusive
+        (or_exclusive (or_exclusive (first_exclusive (P.Form b.0) (P.Fails b.0)) (Q.Form b.1) (Q.Fails b.1)) (R.Form b.2) (R.Fails b.2)) (S.Form b.3) (S.Fails
+        b.3)).AreExclusive };
 
-    ghost accepts_forms = { λ p c. alt_accepts P.Error.errors (either_split_accepts (either_split_accepts (either_accepts P.Error.errors (both_exclude
-        (both_exclude c.3.0 c.3.1) c.3.2) (either_accepts P.Error.errors (both_exclude c.2.0 c.2.1) (either_accepts P.Error.errors c.1
-        (P.accepts_forms p.parsers.0 c.0.0) (Q.accepts_forms p.parsers.1 c.0.1)) (R.accepts_forms p.parsers.2 c.0.2)) (S.accepts_forms p.parsers.3
-        c.0.3)))) };
+    ghost accepts_forms = { λ p c. let b = p.parsers in let e = P.Error.errors in alt_accepts e (either_accepts e c.1.1 (either_accepts e c.1.0.1
+        (either_accepts e c.1.0.0.1 (P.accepts_forms b.0 c.0.0) (Q.accepts_forms b.1 c.0.1)) (R.accepts_forms b.2 c.0.2)) (S.accepts_forms b.3 c.0.3)) };
 
-    ghost one_form = { λ p c v. either_one (apart_from_both ((c.1).apart v) (apart_from_both ((c.2.0).apart v) ((c.3.0).apart v))) (P.one_form
-        p.parsers.0 c.0.0 v) (either_one (apart_from_both ((c.2.1).apart v) ((c.3.1).apart v)) (Q.one_form p.parsers.1 c.0.1 v) (either_one
-        ((c.3.2).apart v) (R.one_form p.parsers.2 c.0.2 v) (S.one_form p.parsers.3 c.0.3 v))) };
+    ghost one_form = { λ p c v. let b = p.parsers in either_one ((c.1.1).apart v) (either_one ((c.1.0.1).apart v) (either_one ((c.1.0.0.1).apart v)
+        (P.one_form b.0 c.0.0 v) (Q.one_form b.1 c.0.1 v)) (R.one_form b.2 c.0.2 v)) (S.one_form b.3 c.0.3 v) };
 }
 
 impl<
@@ -80,24 +74,17 @@ impl<
     S: Canonical<I, Error = P::Error, Output = P::Output>,
     T: Canonical<I, Error = P::Error, Output = P::Output>,
 > Canonical<I> for Choice<(P, Q, R, S, T)> {
-    ghost IsCanonical = { λ p. (P.IsCanonical p.parsers.0 × Q.IsCanonical p.parsers.1 × R.IsCanonical p.parsers.2 × S.IsCanonical p.parsers.3 ×
-        T.IsCanonical p.parsers.4) × Excludes (P.Form p.parsers.0) (P.Fails p.parsers.0) (Q.Form p.parsers.1) × (Excludes (P.Form p.parsers.0)
-        (P.Fails p.parsers.0) (R.Form p.parsers.2) × Excludes (Q.Form p.parsers.1) (Q.Fails p.parsers.1) (R.Form p.parsers.2)) × (Excludes (P.Form
-        p.parsers.0) (P.Fails p.parsers.0) (S.Form p.parsers.3) × Excludes (Q.Form p.parsers.1) (Q.Fails p.parsers.1) (S.Form p.parsers.3) × Excludes
-        (R.Form p.parsers.2) (R.Fails p.parsers.2) (S.Form p.parsers.3)) × (Excludes (P.Form p.parsers.0) (P.Fails p.parsers.0) (T.Form p.parsers.4) ×
-        Excludes (Q.Form p.parsers.1) (Q.Fails p.parsers.1) (T.Form p.parsers.4) × Excludes (R.Form p.parsers.2) (R.Fails p.parsers.2) (T.Form
-        p.parsers.4) × Excludes (S.Form p.parsers.3) (S.Fails p.parsers.3) (T.Form p.parsers.4)) };
+    ghost IsCanonical = { λ p. let b = p.parsers in (P.IsCanonical b.0 × Q.IsCanonical b.1 × R.IsCanonical b.2 × S.IsCanonical b.3 × T.IsCanonical b.4) ×
+        (or_exclusive (or_exclusive (or_exclusive (or_exclusive (first_exclusive (P.Form b.0) (P.Fails b.0)) (Q.Form b.1) (Q.Fails b.1)) (R.Form b.2) (R.Fails
+        b.2)) (S.Form b.3) (S.Fails b.3)) (T.Form b.4) (T.Fails b.4)).AreExclusive };
 
-    ghost accepts_forms = { λ p c. alt_accepts P.Error.errors (either_split_accepts (either_split_accepts (either_split_accepts (either_accepts
-        P.Error.errors (both_exclude (both_exclude (both_exclude c.4.0 c.4.1) c.4.2) c.4.3) (either_accepts P.Error.errors (both_exclude (both_exclude
-        c.3.0 c.3.1) c.3.2) (either_accepts P.Error.errors (both_exclude c.2.0 c.2.1) (either_accepts P.Error.errors c.1 (P.accepts_forms p.parsers.0
-        c.0.0) (Q.accepts_forms p.parsers.1 c.0.1)) (R.accepts_forms p.parsers.2 c.0.2)) (S.accepts_forms p.parsers.3 c.0.3)) (T.accepts_forms
-        p.parsers.4 c.0.4))))) };
+    ghost accepts_forms = { λ p c. let b = p.parsers in let e = P.Error.errors in alt_accepts e (either_accepts e c.1.1 (either_accepts e c.1.0.1
+        (either_accepts e c.1.0.0.1 (either_accepts e c.1.0.0.0.1 (P.accepts_forms b.0 c.0.0) (Q.accepts_forms b.1 c.0.1)) (R.accepts_forms b.2 c.0.2))
+        (S.accepts_forms b.3 c.0.3)) (T.accepts_forms b.4 c.0.4)) };
 
-    ghost one_form = { λ p c v. either_one (apart_from_both ((c.1).apart v) (apart_from_both ((c.2.0).apart v) (apart_from_both ((c.3.0).apart v)
-        ((c.4.0).apart v)))) (P.one_form p.parsers.0 c.0.0 v) (either_one (apart_from_both ((c.2.1).apart v) (apart_from_both ((c.3.1).apart v)
-        ((c.4.1).apart v))) (Q.one_form p.parsers.1 c.0.1 v) (either_one (apart_from_both ((c.3.2).apart v) ((c.4.2).apart v)) (R.one_form p.parsers.2
-        c.0.2 v) (either_one ((c.4.3).apart v) (S.one_form p.parsers.3 c.0.3 v) (T.one_form p.parsers.4 c.0.4 v)))) };
+    ghost one_form = { λ p c v. let b = p.parsers in either_one ((c.1.1).apart v) (either_one ((c.1.0.1).apart v) (either_one ((c.1.0.0.1).apart v)
+        (either_one ((c.1.0.0.0.1).apart v) (P.one_form b.0 c.0.0 v) (Q.one_form b.1 c.0.1 v)) (R.one_form b.2 c.0.2 v)) (S.one_form b.3 c.0.3 v)) (T.one_form
+        b.4 c.0.4 v) };
 }
 
 impl<
@@ -109,30 +96,17 @@ impl<
     T: Canonical<I, Error = P::Error, Output = P::Output>,
     U: Canonical<I, Error = P::Error, Output = P::Output>,
 > Canonical<I> for Choice<(P, Q, R, S, T, U)> {
-    ghost IsCanonical = { λ p. (P.IsCanonical p.parsers.0 × Q.IsCanonical p.parsers.1 × R.IsCanonical p.parsers.2 × S.IsCanonical p.parsers.3 ×
-        T.IsCanonical p.parsers.4 × U.IsCanonical p.parsers.5) × Excludes (P.Form p.parsers.0) (P.Fails p.parsers.0) (Q.Form p.parsers.1) × (Excludes
-        (P.Form p.parsers.0) (P.Fails p.parsers.0) (R.Form p.parsers.2) × Excludes (Q.Form p.parsers.1) (Q.Fails p.parsers.1) (R.Form p.parsers.2)) ×
-        (Excludes (P.Form p.parsers.0) (P.Fails p.parsers.0) (S.Form p.parsers.3) × Excludes (Q.Form p.parsers.1) (Q.Fails p.parsers.1) (S.Form
-        p.parsers.3) × Excludes (R.Form p.parsers.2) (R.Fails p.parsers.2) (S.Form p.parsers.3)) × (Excludes (P.Form p.parsers.0) (P.Fails
-        p.parsers.0) (T.Form p.parsers.4) × Excludes (Q.Form p.parsers.1) (Q.Fails p.parsers.1) (T.Form p.parsers.4) × Excludes (R.Form p.parsers.2)
-        (R.Fails p.parsers.2) (T.Form p.parsers.4) × Excludes (S.Form p.parsers.3) (S.Fails p.parsers.3) (T.Form p.parsers.4)) × (Excludes (P.Form
-        p.parsers.0) (P.Fails p.parsers.0) (U.Form p.parsers.5) × Excludes (Q.Form p.parsers.1) (Q.Fails p.parsers.1) (U.Form p.parsers.5) × Excludes
-        (R.Form p.parsers.2) (R.Fails p.parsers.2) (U.Form p.parsers.5) × Excludes (S.Form p.parsers.3) (S.Fails p.parsers.3) (U.Form p.parsers.5) ×
-        Excludes (T.Form p.parsers.4) (T.Fails p.parsers.4) (U.Form p.parsers.5)) };
+    ghost IsCanonical = { λ p. let b = p.parsers in (P.IsCanonical b.0 × Q.IsCanonical b.1 × R.IsCanonical b.2 × S.IsCanonical b.3 × T.IsCanonical b.4 ×
+        U.IsCanonical b.5) × (or_exclusive (or_exclusive (or_exclusive (or_exclusive (or_exclusive (first_exclusive (P.Form b.0) (P.Fails b.0)) (Q.Form b.1)
+        (Q.Fails b.1)) (R.Form b.2) (R.Fails b.2)) (S.Form b.3) (S.Fails b.3)) (T.Form b.4) (T.Fails b.4)) (U.Form b.5) (U.Fails b.5)).AreExclusive };
 
-    ghost accepts_forms = { λ p c. alt_accepts P.Error.errors (either_split_accepts (either_split_accepts (either_split_accepts (either_split_accepts
-        (either_accepts P.Error.errors (both_exclude (both_exclude (both_exclude (both_exclude c.5.0 c.5.1) c.5.2) c.5.3) c.5.4) (either_accepts
-        P.Error.errors (both_exclude (both_exclude (both_exclude c.4.0 c.4.1) c.4.2) c.4.3) (either_accepts P.Error.errors (both_exclude (both_exclude
-        c.3.0 c.3.1) c.3.2) (either_accepts P.Error.errors (both_exclude c.2.0 c.2.1) (either_accepts P.Error.errors c.1 (P.accepts_forms p.parsers.0
-        c.0.0) (Q.accepts_forms p.parsers.1 c.0.1)) (R.accepts_forms p.parsers.2 c.0.2)) (S.accepts_forms p.parsers.3 c.0.3)) (T.accepts_forms
-        p.parsers.4 c.0.4)) (U.accepts_forms p.parsers.5 c.0.5)))))) };
+    ghost accepts_forms = { λ p c. let b = p.parsers in let e = P.Error.errors in alt_accepts e (either_accepts e c.1.1 (either_accepts e c.1.0.1
+        (either_accepts e c.1.0.0.1 (either_accepts e c.1.0.0.0.1 (either_accepts e c.1.0.0.0.0.1 (P.accepts_forms b.0 c.0.0) (Q.accepts_forms b.1 c.0.1))
+        (R.accepts_forms b.2 c.0.2)) (S.accepts_forms b.3 c.0.3)) (T.accepts_forms b.4 c.0.4)) (U.accepts_forms b.5 c.0.5)) };
 
-    ghost one_form = { λ p c v. either_one (apart_from_both ((c.1).apart v) (apart_from_both ((c.2.0).apart v) (apart_from_both ((c.3.0).apart v)
-        (apart_from_both ((c.4.0).apart v) ((c.5.0).apart v))))) (P.one_form p.parsers.0 c.0.0 v) (either_one (apart_from_both ((c.2.1).apart v)
-        (apart_from_both ((c.3.1).apart v) (apart_from_both ((c.4.1).apart v) ((c.5.1).apart v)))) (Q.one_form p.parsers.1 c.0.1 v) (either_one
-        (apart_from_both ((c.3.2).apart v) (apart_from_both ((c.4.2).apart v) ((c.5.2).apart v))) (R.one_form p.parsers.2 c.0.2 v) (either_one
-        (apart_from_both ((c.4.3).apart v) ((c.5.3).apart v)) (S.one_form p.parsers.3 c.0.3 v) (either_one ((c.5.4).apart v) (T.one_form p.parsers.4
-        c.0.4 v) (U.one_form p.parsers.5 c.0.5 v))))) };
+    ghost one_form = { λ p c v. let b = p.parsers in either_one ((c.1.1).apart v) (either_one ((c.1.0.1).apart v) (either_one ((c.1.0.0.1).apart v)
+        (either_one ((c.1.0.0.0.1).apart v) (either_one ((c.1.0.0.0.0.1).apart v) (P.one_form b.0 c.0.0 v) (Q.one_form b.1 c.0.1 v)) (R.one_form b.2 c.0.2 v))
+        (S.one_form b.3 c.0.3 v)) (T.one_form b.4 c.0.4 v)) (U.one_form b.5 c.0.5 v) };
 }
 
 impl<
@@ -145,36 +119,19 @@ impl<
     U: Canonical<I, Error = P::Error, Output = P::Output>,
     V: Canonical<I, Error = P::Error, Output = P::Output>,
 > Canonical<I> for Choice<(P, Q, R, S, T, U, V)> {
-    ghost IsCanonical = { λ p. (P.IsCanonical p.parsers.0 × Q.IsCanonical p.parsers.1 × R.IsCanonical p.parsers.2 × S.IsCanonical p.parsers.3 ×
-        T.IsCanonical p.parsers.4 × U.IsCanonical p.parsers.5 × V.IsCanonical p.parsers.6) × Excludes (P.Form p.parsers.0) (P.Fails p.parsers.0)
-        (Q.Form p.parsers.1) × (Excludes (P.Form p.parsers.0) (P.Fails p.parsers.0) (R.Form p.parsers.2) × Excludes (Q.Form p.parsers.1) (Q.Fails
-        p.parsers.1) (R.Form p.parsers.2)) × (Excludes (P.Form p.parsers.0) (P.Fails p.parsers.0) (S.Form p.parsers.3) × Excludes (Q.Form p.parsers.1)
-        (Q.Fails p.parsers.1) (S.Form p.parsers.3) × Excludes (R.Form p.parsers.2) (R.Fails p.parsers.2) (S.Form p.parsers.3)) × (Excludes (P.Form
-        p.parsers.0) (P.Fails p.parsers.0) (T.Form p.parsers.4) × Excludes (Q.Form p.parsers.1) (Q.Fails p.parsers.1) (T.Form p.parsers.4) × Excludes
-        (R.Form p.parsers.2) (R.Fails p.parsers.2) (T.Form p.parsers.4) × Excludes (S.Form p.parsers.3) (S.Fails p.parsers.3) (T.Form p.parsers.4)) ×
-        (Excludes (P.Form p.parsers.0) (P.Fails p.parsers.0) (U.Form p.parsers.5) × Excludes (Q.Form p.parsers.1) (Q.Fails p.parsers.1) (U.Form
-        p.parsers.5) × Excludes (R.Form p.parsers.2) (R.Fails p.parsers.2) (U.Form p.parsers.5) × Excludes (S.Form p.parsers.3) (S.Fails p.parsers.3)
-        (U.Form p.parsers.5) × Excludes (T.Form p.parsers.4) (T.Fails p.parsers.4) (U.Form p.parsers.5)) × (Excludes (P.Form p.parsers.0) (P.Fails
-        p.parsers.0) (V.Form p.parsers.6) × Excludes (Q.Form p.parsers.1) (Q.Fails p.parsers.1) (V.Form p.parsers.6) × Excludes (R.Form p.parsers.2)
-        (R.Fails p.parsers.2) (V.Form p.parsers.6) × Excludes (S.Form p.parsers.3) (S.Fails p.parsers.3) (V.Form p.parsers.6) × Excludes (T.Form
-        p.parsers.4) (T.Fails p.parsers.4) (V.Form p.parsers.6) × Excludes (U.Form p.parsers.5) (U.Fails p.parsers.5) (V.Form p.parsers.6)) };
+    ghost IsCanonical = { λ p. let b = p.parsers in (P.IsCanonical b.0 × Q.IsCanonical b.1 × R.IsCanonical b.2 × S.IsCanonical b.3 × T.IsCanonical b.4 ×
+        U.IsCanonical b.5 × V.IsCanonical b.6) × (or_exclusive (or_exclusive (or_exclusive (or_exclusive (or_exclusive (or_exclusive (first_exclusive (P.Form
+        b.0) (P.Fails b.0)) (Q.Form b.1) (Q.Fails b.1)) (R.Form b.2) (R.Fails b.2)) (S.Form b.3) (S.Fails b.3)) (T.Form b.4) (T.Fails b.4)) (U.Form b.5)
+        (U.Fails b.5)) (V.Form b.6) (V.Fails b.6)).AreExclusive };
 
-    ghost accepts_forms = { λ p c. alt_accepts P.Error.errors (either_split_accepts (either_split_accepts (either_split_accepts (either_split_accepts
-        (either_split_accepts (either_accepts P.Error.errors (both_exclude (both_exclude (both_exclude (both_exclude (both_exclude c.6.0 c.6.1) c.6.2)
-        c.6.3) c.6.4) c.6.5) (either_accepts P.Error.errors (both_exclude (both_exclude (both_exclude (both_exclude c.5.0 c.5.1) c.5.2) c.5.3) c.5.4)
-        (either_accepts P.Error.errors (both_exclude (both_exclude (both_exclude c.4.0 c.4.1) c.4.2) c.4.3) (either_accepts P.Error.errors
-        (both_exclude (both_exclude c.3.0 c.3.1) c.3.2) (either_accepts P.Error.errors (both_exclude c.2.0 c.2.1) (either_accepts P.Error.errors c.1
-        (P.accepts_forms p.parsers.0 c.0.0) (Q.accepts_forms p.parsers.1 c.0.1)) (R.accepts_forms p.parsers.2 c.0.2)) (S.accepts_forms p.parsers.3
-        c.0.3)) (T.accepts_forms p.parsers.4 c.0.4)) (U.accepts_forms p.parsers.5 c.0.5)) (V.accepts_forms p.parsers.6 c.0.6))))))) };
+    ghost accepts_forms = { λ p c. let b = p.parsers in let e = P.Error.errors in alt_accepts e (either_accepts e c.1.1 (either_accepts e c.1.0.1
+        (either_accepts e c.1.0.0.1 (either_accepts e c.1.0.0.0.1 (either_accepts e c.1.0.0.0.0.1 (either_accepts e c.1.0.0.0.0.0.1 (P.accepts_forms b.0
+        c.0.0) (Q.accepts_forms b.1 c.0.1)) (R.accepts_forms b.2 c.0.2)) (S.accepts_forms b.3 c.0.3)) (T.accepts_forms b.4 c.0.4)) (U.accepts_forms b.5
+        c.0.5)) (V.accepts_forms b.6 c.0.6)) };
 
-    ghost one_form = { λ p c v. either_one (apart_from_both ((c.1).apart v) (apart_from_both ((c.2.0).apart v) (apart_from_both ((c.3.0).apart v)
-        (apart_from_both ((c.4.0).apart v) (apart_from_both ((c.5.0).apart v) ((c.6.0).apart v)))))) (P.one_form p.parsers.0 c.0.0 v) (either_one
-        (apart_from_both ((c.2.1).apart v) (apart_from_both ((c.3.1).apart v) (apart_from_both ((c.4.1).apart v) (apart_from_both ((c.5.1).apart v)
-        ((c.6.1).apart v))))) (Q.one_form p.parsers.1 c.0.1 v) (either_one (apart_from_both ((c.3.2).apart v) (apart_from_both ((c.4.2).apart v)
-        (apart_from_both ((c.5.2).apart v) ((c.6.2).apart v)))) (R.one_form p.parsers.2 c.0.2 v) (either_one (apart_from_both ((c.4.3).apart v)
-        (apart_from_both ((c.5.3).apart v) ((c.6.3).apart v))) (S.one_form p.parsers.3 c.0.3 v) (either_one (apart_from_both ((c.5.4).apart v)
-        ((c.6.4).apart v)) (T.one_form p.parsers.4 c.0.4 v) (either_one ((c.6.5).apart v) (U.one_form p.parsers.5 c.0.5 v) (V.one_form p.parsers.6
-        c.0.6 v)))))) };
+    ghost one_form = { λ p c v. let b = p.parsers in either_one ((c.1.1).apart v) (either_one ((c.1.0.1).apart v) (either_one ((c.1.0.0.1).apart v)
+        (either_one ((c.1.0.0.0.1).apart v) (either_one ((c.1.0.0.0.0.1).apart v) (either_one ((c.1.0.0.0.0.0.1).apart v) (P.one_form b.0 c.0.0 v) (Q.one_form
+        b.1 c.0.1 v)) (R.one_form b.2 c.0.2 v)) (S.one_form b.3 c.0.3 v)) (T.one_form b.4 c.0.4 v)) (U.one_form b.5 c.0.5 v)) (V.one_form b.6 c.0.6 v) };
 }
 
 impl<
@@ -188,42 +145,18 @@ impl<
     V: Canonical<I, Error = P::Error, Output = P::Output>,
     W: Canonical<I, Error = P::Error, Output = P::Output>,
 > Canonical<I> for Choice<(P, Q, R, S, T, U, V, W)> {
-    ghost IsCanonical = { λ p. (P.IsCanonical p.parsers.0 × Q.IsCanonical p.parsers.1 × R.IsCanonical p.parsers.2 × S.IsCanonical p.parsers.3 ×
-        T.IsCanonical p.parsers.4 × U.IsCanonical p.parsers.5 × V.IsCanonical p.parsers.6 × W.IsCanonical p.parsers.7) × Excludes (P.Form p.parsers.0)
-        (P.Fails p.parsers.0) (Q.Form p.parsers.1) × (Excludes (P.Form p.parsers.0) (P.Fails p.parsers.0) (R.Form p.parsers.2) × Excludes (Q.Form
-        p.parsers.1) (Q.Fails p.parsers.1) (R.Form p.parsers.2)) × (Excludes (P.Form p.parsers.0) (P.Fails p.parsers.0) (S.Form p.parsers.3) ×
-        Excludes (Q.Form p.parsers.1) (Q.Fails p.parsers.1) (S.Form p.parsers.3) × Excludes (R.Form p.parsers.2) (R.Fails p.parsers.2) (S.Form
-        p.parsers.3)) × (Excludes (P.Form p.parsers.0) (P.Fails p.parsers.0) (T.Form p.parsers.4) × Excludes (Q.Form p.parsers.1) (Q.Fails
-        p.parsers.1) (T.Form p.parsers.4) × Excludes (R.Form p.parsers.2) (R.Fails p.parsers.2) (T.Form p.parsers.4) × Excludes (S.Form p.parsers.3)
-        (S.Fails p.parsers.3) (T.Form p.parsers.4)) × (Excludes (P.Form p.parsers.0) (P.Fails p.parsers.0) (U.Form p.parsers.5) × Excludes (Q.Form
-        p.parsers.1) (Q.Fails p.parsers.1) (U.Form p.parsers.5) × Excludes (R.Form p.parsers.2) (R.Fails p.parsers.2) (U.Form p.parsers.5) × Excludes
-        (S.Form p.parsers.3) (S.Fails p.parsers.3) (U.Form p.parsers.5) × Excludes (T.Form p.parsers.4) (T.Fails p.parsers.4) (U.Form p.parsers.5)) ×
-        (Excludes (P.Form p.parsers.0) (P.Fails p.parsers.0) (V.Form p.parsers.6) × Excludes (Q.Form p.parsers.1) (Q.Fails p.parsers.1) (V.Form
-        p.parsers.6) × Excludes (R.Form p.parsers.2) (R.Fails p.parsers.2) (V.Form p.parsers.6) × Excludes (S.Form p.parsers.3) (S.Fails p.parsers.3)
-        (V.Form p.parsers.6) × Excludes (T.Form p.parsers.4) (T.Fails p.parsers.4) (V.Form p.parsers.6) × Excludes (U.Form p.parsers.5) (U.Fails
-        p.parsers.5) (V.Form p.parsers.6)) × (Excludes (P.Form p.parsers.0) (P.Fails p.parsers.0) (W.Form p.parsers.7) × Excludes (Q.Form p.parsers.1)
-        (Q.Fails p.parsers.1) (W.Form p.parsers.7) × Excludes (R.Form p.parsers.2) (R.Fails p.parsers.2) (W.Form p.parsers.7) × Excludes (S.Form
-        p.parsers.3) (S.Fails p.parsers.3) (W.Form p.parsers.7) × Excludes (T.Form p.parsers.4) (T.Fails p.parsers.4) (W.Form p.parsers.7) × Excludes
-        (U.Form p.parsers.5) (U.Fails p.parsers.5) (W.Form p.parsers.7) × Excludes (V.Form p.parsers.6) (V.Fails p.parsers.6) (W.Form p.parsers.7)) };
+    ghost IsCanonical = { λ p. let b = p.parsers in (P.IsCanonical b.0 × Q.IsCanonical b.1 × R.IsCanonical b.2 × S.IsCanonical b.3 × T.IsCanonical b.4 ×
+        U.IsCanonical b.5 × V.IsCanonical b.6 × W.IsCanonical b.7) × (or_exclusive (or_exclusive (or_exclusive (or_exclusive (or_exclusive (or_exclusive
+        (or_exclusive (first_exclusive (P.Form b.0) (P.Fails b.0)) (Q.Form b.1) (Q.Fails b.1)) (R.Form b.2) (R.Fails b.2)) (S.Form b.3) (S.Fails b.3)) (T.Form
+        b.4) (T.Fails b.4)) (U.Form b.5) (U.Fails b.5)) (V.Form b.6) (V.Fails b.6)) (W.Form b.7) (W.Fails b.7)).AreExclusive };
 
-    ghost accepts_forms = { λ p c. alt_accepts P.Error.errors (either_split_accepts (either_split_accepts (either_split_accepts (either_split_accepts
-        (either_split_accepts (either_split_accepts (either_accepts P.Error.errors (both_exclude (both_exclude (both_exclude (both_exclude
-        (both_exclude (both_exclude c.7.0 c.7.1) c.7.2) c.7.3) c.7.4) c.7.5) c.7.6) (either_accepts P.Error.errors (both_exclude (both_exclude
-        (both_exclude (both_exclude (both_exclude c.6.0 c.6.1) c.6.2) c.6.3) c.6.4) c.6.5) (either_accepts P.Error.errors (both_exclude (both_exclude
-        (both_exclude (both_exclude c.5.0 c.5.1) c.5.2) c.5.3) c.5.4) (either_accepts P.Error.errors (both_exclude (both_exclude (both_exclude c.4.0
-        c.4.1) c.4.2) c.4.3) (either_accepts P.Error.errors (both_exclude (both_exclude c.3.0 c.3.1) c.3.2) (either_accepts P.Error.errors
-        (both_exclude c.2.0 c.2.1) (either_accepts P.Error.errors c.1 (P.accepts_forms p.parsers.0 c.0.0) (Q.accepts_forms p.parsers.1 c.0.1))
-        (R.accepts_forms p.parsers.2 c.0.2)) (S.accepts_forms p.parsers.3 c.0.3)) (T.accepts_forms p.parsers.4 c.0.4)) (U.accepts_forms p.parsers.5
-        c.0.5)) (V.accepts_forms p.parsers.6 c.0.6)) (W.accepts_forms p.parsers.7 c.0.7)))))))) };
+    ghost accepts_forms = { λ p c. let b = p.parsers in let e = P.Error.errors in alt_accepts e (either_accepts e c.1.1 (either_accepts e c.1.0.1
+        (either_accepts e c.1.0.0.1 (either_accepts e c.1.0.0.0.1 (either_accepts e c.1.0.0.0.0.1 (either_accepts e c.1.0.0.0.0.0.1 (either_accepts e
+        c.1.0.0.0.0.0.0.1 (P.accepts_forms b.0 c.0.0) (Q.accepts_forms b.1 c.0.1)) (R.accepts_forms b.2 c.0.2)) (S.accepts_forms b.3 c.0.3)) (T.accepts_forms
+        b.4 c.0.4)) (U.accepts_forms b.5 c.0.5)) (V.accepts_forms b.6 c.0.6)) (W.accepts_forms b.7 c.0.7)) };
 
-    ghost one_form = { λ p c v. either_one (apart_from_both ((c.1).apart v) (apart_from_both ((c.2.0).apart v) (apart_from_both ((c.3.0).apart v)
-        (apart_from_both ((c.4.0).apart v) (apart_from_both ((c.5.0).apart v) (apart_from_both ((c.6.0).apart v) ((c.7.0).apart v))))))) (P.one_form
-        p.parsers.0 c.0.0 v) (either_one (apart_from_both ((c.2.1).apart v) (apart_from_both ((c.3.1).apart v) (apart_from_both ((c.4.1).apart v)
-        (apart_from_both ((c.5.1).apart v) (apart_from_both ((c.6.1).apart v) ((c.7.1).apart v)))))) (Q.one_form p.parsers.1 c.0.1 v) (either_one
-        (apart_from_both ((c.3.2).apart v) (apart_from_both ((c.4.2).apart v) (apart_from_both ((c.5.2).apart v) (apart_from_both ((c.6.2).apart v)
-        ((c.7.2).apart v))))) (R.one_form p.parsers.2 c.0.2 v) (either_one (apart_from_both ((c.4.3).apart v) (apart_from_both ((c.5.3).apart v)
-        (apart_from_both ((c.6.3).apart v) ((c.7.3).apart v)))) (S.one_form p.parsers.3 c.0.3 v) (either_one (apart_from_both ((c.5.4).apart v)
-        (apart_from_both ((c.6.4).apart v) ((c.7.4).apart v))) (T.one_form p.parsers.4 c.0.4 v) (either_one (apart_from_both ((c.6.5).apart v)
-        ((c.7.5).apart v)) (U.one_form p.parsers.5 c.0.5 v) (either_one ((c.7.6).apart v) (V.one_form p.parsers.6 c.0.6 v) (W.one_form p.parsers.7
-        c.0.7 v))))))) };
+    ghost one_form = { λ p c v. let b = p.parsers in either_one ((c.1.1).apart v) (either_one ((c.1.0.1).apart v) (either_one ((c.1.0.0.1).apart v)
+        (either_one ((c.1.0.0.0.1).apart v) (either_one ((c.1.0.0.0.0.1).apart v) (either_one ((c.1.0.0.0.0.0.1).apart v) (either_one
+        ((c.1.0.0.0.0.0.0.1).apart v) (P.one_form b.0 c.0.0 v) (Q.one_form b.1 c.0.1 v)) (R.one_form b.2 c.0.2 v)) (S.one_form b.3 c.0.3 v)) (T.one_form b.4
+        c.0.4 v)) (U.one_form b.5 c.0.5 v)) (V.one_form b.6 c.0.6 v)) (W.one_form b.7 c.0.7 v) };
 }

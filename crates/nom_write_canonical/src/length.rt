@@ -4,7 +4,7 @@ ghost use Rattle.nom_write_canonical.specs.laws.ListForms.{each_one, held_one, l
 ghost use Rattle.nom_write_canonical.specs.laws.SequenceForms.{both_one};
 
 use crate::canonical::Canonical;
-use nom_multi_length::{LengthCount, LengthData};
+use nom_multi::{LengthCount, LengthData};
 use nom_traits::input::Items;
 use nom_write::length::OfSize;
 use nom_write::unmarked::UnitItems;

@@ -5,7 +5,8 @@ ghost use Rattle.nom_write_canonical.specs.laws.SeparatedForms.{separated_list1_
 ghost use Rattle.nom_write_canonical.specs.laws.SequenceForms.{one_beside};
 
 use crate::canonical::{Canonical, CanonicalConstant};
-use nom_multi::{Count, Many0, SeparatedList1};
+use nom_multi::{Count, Many0};
+use nom_separated::SeparatedList1;
 use nom_traits::input::{Input, Items};
 use std::alloc::Allocator;
 

@@ -7,10 +7,10 @@ use Rattle.nom_sink.specs.declared.error.WriteError.TheVariants as Write
 use Rattle.nom_sink.specs.Written.{Space}
 use Rattle.nom_sink.specs.Written.Lack.{OfSpace}
 use Rattle.nom_write_stream.specs.Outgoing.{AreBytes, IsItem, NoRoom}
-use Rattle.nom_write_stream.specs.Told.{told_of}
+use Rattle.nom_write_stream.specs.Reasons.{why_unwritten}
 use Rattle.nom_write_stream.proofs.Everywhere.{values_after}
 
-full : (e : WriteError) (start : ℕ) → told_of e start ≡ None → e ≡ Write.Full
+full : (e : WriteError) (start : ℕ) → why_unwritten e start ≡ None → e ≡ Write.Full
 full Write.OutOfMemory start h = absurd (cc (h))
 full Write.Full start h = refl
 full (Write.TooLong n) start h = absurd (cc (h))
@@ -40,7 +40,7 @@ module _ (Form : List ℕ → Type 0) (Fails : Space → WriteError → Type 0) 
 
 -- there is no room in the memory that is taken
 pub no_room_now : (Form : List ℕ → Type 0) (Fails : Space → WriteError → Type 0) (most room start from : ℕ) (e : WriteError) →
-    told_of e from ≡ None →
+    why_unwritten e from ≡ None →
     most ≤ room → Fails (record { lack = OfSpace; room = room; start = start }) e → NoRoom Form Fails most start
 no_room_now Form Fails most room start from e none enough f = inl (record {
   room = room;

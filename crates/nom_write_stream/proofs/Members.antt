@@ -1,7 +1,7 @@
 -- Which grammars have an outcome at every input: numbers, and what stands after a length.
 use Rattle.std.specs.Prelude.{ℕ, true, List, Option, refl}
 use Rattle.nom_internal.specs.Prelude.{bytes_model, Errors, Grammar, IsLawful, Meaning, labelled}
-use Rattle.nom_multi_length.specs.Lengths.{HasSize, length_count_meaning, length_data_of}
+use Rattle.nom_multi.specs.Lengths.{HasSize, length_count_meaning, length_data_of}
 use Rattle.nom_number.specs.Numbers.{bytes_lack, number_meaning}
 use Rattle.nom_stream.specs.Items.{Bytes}
 use Rattle.nom_write_stream.specs.Pipes.{HasOutcome}

@@ -8,7 +8,7 @@ use Rattle.nom_sink.specs.Written.{Space}
 use Rattle.nom_write_stream.specs.declared.outgoing.Outgoing.{Outgoing}
 use Rattle.nom_write_stream.specs.declared.outgoing.Unwritten.{Unwritten}
 use Rattle.nom_write_stream.specs.declared.outgoing.Unwritten.TheVariants.{TooLong, Mismatch, Nothing, OverLimit, Fault, OutOfMemory}
-use Rattle.nom_write_stream.specs.Outgoing.{Adds, AddsAll, Counts, IsItem, Sends, WhyNot}
+use Rattle.nom_write_stream.specs.Outgoing.{WritesItem, WritesItems, Counts, IsItem, Sends, WhyNot}
 use Rattle.nom_write_stream.specs.Targets.{NoFault}
 use Rattle.nom_write_stream.proofs.Known.{fault_then, none_then}
 use Rattle.nom_write_stream.proofs.Sending.{no_call, sends_none, sends_then}
@@ -64,7 +64,7 @@ module _ {W A O : Type 0} (contents : W → Option (List ℕ)) (Form : O → Lis
   none_added a = record { bytes = []; forms = refl; sends = sends_none contents a a refl refl; faults = no_call a a refl }
 
   module _ (k : ℕ) (a b c : Outgoing W A) (h : Added k a b) (m : b.most ≡ a.most) where
-    pub one_added : (v : O) → k < length vs → v ≡ get_or vs k v → (x : Unit {0}) → Adds contents b c (Form v) (Fails v) (Ok x) → Added (k + 1) a c
+    pub one_added : (v : O) → k < length vs → v ≡ get_or vs k v → (x : Unit {0}) → WritesItem contents b c (Form v) (Fails v) (Ok x) → Added (k + 1) a c
     one_added v below is x s = record {
       bytes = h.bytes ++ s.0;
       forms = each_more (λ v. IsItem (Form v) a.most) k vs v below is h.bytes s.0 h.forms (subst (λ z. IsItem (Form v) z s.0) m s.1);
@@ -72,8 +72,8 @@ module _ {W A O : Type 0} (contents : W → Option (List ℕ)) (Form : O → Lis
       faults = none_then a.target b.target c.target h.faults s.3;
     }
 
-    pub one_halts : (v : O) → k < length vs → v ≡ get_or vs k v → (why : Unwritten) → Adds contents b c (Form v) (Fails v) (Err why) →
-        AddsAll contents a c Form Fails vs (Err (record { count = k; why = why }))
+    pub one_halts : (v : O) → k < length vs → v ≡ get_or vs k v → (why : Unwritten) → WritesItem contents b c (Form v) (Fails v) (Err why) →
+        WritesItems contents a c Form Fails vs (Err (record { count = k; why = why }))
     one_halts v below is why s = (
       h.bytes,
       h.forms,
@@ -83,7 +83,7 @@ module _ {W A O : Type 0} (contents : W → Option (List ℕ)) (Form : O → Lis
       counts_then a b c why h.faults s.2,
     )
 
-  pub all_added : (k : ℕ) → length vs ≤ k → (a b : Outgoing W A) → Added k a b → (x : Unit {0}) → AddsAll contents a b Form Fails vs (Ok x)
+  pub all_added : (k : ℕ) → length vs ≤ k → (a b : Outgoing W A) → Added k a b → (x : Unit {0}) → WritesItems contents a b Form Fails vs (Ok x)
   all_added k end a b h x = (
     h.bytes,
     subst (λ us. Each (λ v. IsItem (Form v) a.most) us h.bytes) (take_all k vs end) h.forms,

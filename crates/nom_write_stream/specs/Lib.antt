@@ -1,4 +1,4 @@
 pub mod Outgoing
 pub mod Pipes
+pub mod Reasons
 pub mod Targets
-pub mod Told

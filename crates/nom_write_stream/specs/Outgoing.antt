@@ -79,14 +79,14 @@ Counts a b OutOfMemory = NoFault a.target b.target
 
 module _ {W A : Type 0} (contents : W → Option (List ℕ)) (a b : Outgoing W A) where
   -- what one `write_item` does: a form of the item is held or written after what was held, or there is a reason
-  abbrev pub Adds : (List ℕ → Type 0) → (Space → WriteError → Type 0) → Result (Unit {0}) Unwritten → Type 0
-  Adds Form Fails (Ok _) = (xs : List ℕ) × IsItem Form a.most xs × Sends contents a b xs × NoFault a.target b.target
-  Adds Form Fails (Err why) = Sends contents a b [] × WhyNot Form Fails a.most why × Counts a b why
+  abbrev pub WritesItem : (List ℕ → Type 0) → (Space → WriteError → Type 0) → Result (Unit {0}) Unwritten → Type 0
+  WritesItem Form Fails (Ok _) = (xs : List ℕ) × IsItem Form a.most xs × Sends contents a b xs × NoFault a.target b.target
+  WritesItem Form Fails (Err why) = Sends contents a b [] × WhyNot Form Fails a.most why × Counts a b why
 
   -- what `write_items` does: forms of the items, one after another; or of those before one, and a reason of that one
-  abbrev pub AddsAll : {O : Type 0} → (O → List ℕ → Type 0) → (O → Space → WriteError → Type 0) → List O → Result (Unit {0}) Halted →
+  abbrev pub WritesItems : {O : Type 0} → (O → List ℕ → Type 0) → (O → Space → WriteError → Type 0) → List O → Result (Unit {0}) Halted →
       Type 0
-  AddsAll Form Fails vs (Ok _) = (xs : List ℕ) × Each (λ v. IsItem (Form v) a.most) vs xs × Sends contents a b xs × NoFault a.target b.target
-  AddsAll {O} Form Fails vs (Err h) =
+  WritesItems Form Fails vs (Ok _) = (xs : List ℕ) × Each (λ v. IsItem (Form v) a.most) vs xs × Sends contents a b xs × NoFault a.target b.target
+  WritesItems {O} Form Fails vs (Err h) =
       (xs : List ℕ) × Each (λ v. IsItem (Form v) a.most) (take h.count vs) xs × Sends contents a b xs × (h.count < length vs) ×
       ((v : O) × (v ≡ get_or vs h.count v) × WhyNot (Form v) (Fails v) a.most h.why) × Counts a b h.why

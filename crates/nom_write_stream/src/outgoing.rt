@@ -1,6 +1,6 @@
 //! Items that are written one after another.
 ghost use Rattle.std.specs.Prelude.{◌≡◌, ◌≤◌, length, vec_capacity};
-ghost use Rattle.nom_write_stream.specs.Told.{told_of};
+ghost use Rattle.nom_write_stream.specs.Reasons.{why_unwritten};
 
 use crate::held::Held;
 use crate::target::Target;
@@ -57,7 +57,7 @@ pub struct Outgoing<W, A: Allocator> {
 
 // Why an item that begins at `start` of the held bytes isn't written, or `None` if it has no room beside them.
 fn why_of(error: WriteError, start: usize) -> Option<Unwritten>
-    ensures { result ≡ told_of error start }
+    ensures { result ≡ why_unwritten error start }
 {
     match error {
         WriteError::OutOfMemory => Some(Unwritten::OutOfMemory),
@@ -69,7 +69,7 @@ fn why_of(error: WriteError, start: usize) -> Option<Unwritten>
 
 impl<W: Write, A: Allocator> Outgoing<W, A> {
     ghost use Rattle.std.specs.Prelude.{◌<◌, [], IfErr, IfOk, OnErr, OnOk};
-    ghost use Rattle.nom_write_stream.specs.Outgoing.{Adds, AddsAll, Fits, Flushes, Sends, held_of};
+    ghost use Rattle.nom_write_stream.specs.Outgoing.{WritesItem, WritesItems, Fits, Flushes, Sends, held_of};
     ghost use Rattle.nom_write_stream.specs.Targets.{CountsWrite, IsLate};
 
     /// Returns an empty buffer before `target`, and takes the memory for `most` bytes.
@@ -149,7 +149,7 @@ impl<W: Write, A: Allocator> Outgoing<W, A> {
         value: &P::Output,
     ) -> Result<(), Unwritten>
         requires can { P.CanWrite writer.now }
-        ensures adds { Adds W.contents self.old self.new (P.Form writer.now value.now) (P.Fails writer.now value.now) result }
+        ensures adds { WritesItem W.contents self.old self.new (P.Form writer.now value.now) (P.Fails writer.now value.now) result }
         ensures flushes { self.new.target.flushes ≡ self.old.target.flushes }
         ensures most { self.new.most ≡ self.old.most }
     {
@@ -176,7 +176,7 @@ impl<W: Write, A: Allocator> Outgoing<W, A> {
         values: &[P::Output],
     ) -> Result<(), Halted>
         requires can { P.CanWrite writer.now }
-        ensures adds { AddsAll W.contents self.old self.new (P.Form writer.now) (P.Fails writer.now) values.now result }
+        ensures adds { WritesItems W.contents self.old self.new (P.Form writer.now) (P.Fails writer.now) values.now result }
         ensures flushes { self.new.target.flushes ≡ self.old.target.flushes }
         ensures most { self.new.most ≡ self.old.most }
     {

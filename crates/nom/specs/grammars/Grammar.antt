@@ -4,9 +4,9 @@ use Rattle.std.specs.Prelude.{◌≡◌, ℕ, Bool, List, Option, Vec}
 use Rattle.nom_internal.specs.Prelude.{IResult, Errors, Model, Slice, View, Grammar, map_by}
 use Rattle.nom_internal.specs.Judged.{map_opt_by}
 use Rattle.nom_combinator.specs.Outputs.{value_by, verify_by}
-use Rattle.nom_func.specs.Func.{AnswersBy}
-use Rattle.nom_multi_length.specs.Lengths as Lengths
-use Rattle.nom_multi_length.specs.Values as Values
+use Rattle.nom_calls.specs.Func.{AnswersBy}
+use Rattle.nom_multi.specs.Lengths as Lengths
+use Rattle.nom_multi.specs.Values as Values
 pub use Rattle.nom_internal.specs.Grammar.{Grammar, Parses, Shows, sliced, valued}
 pub use Rattle.nom_internal.specs.Sequence.{pair_of}
 pub use Rattle.nom_sequence.specs.Sequences.{delimited_of, preceded_of, separated_pair_of, terminated_of}
@@ -16,7 +16,7 @@ pub use Rattle.nom_combinator.specs.Ends.{all_consuming_of}
 pub use Rattle.nom_multi.specs.Many.{many0_of, many1_of}
 pub use Rattle.nom_multi.specs.Bounded.{count_of, many_m_n_of}
 pub use Rattle.nom_multi.specs.Till.{many_till_of}
-pub use Rattle.nom_multi.specs.Separated.{separated_list0_of, separated_list1_of}
+pub use Rattle.nom_separated.specs.Separated.{separated_list0_of, separated_list1_of}
 pub use Rattle.nom_multi_fold.specs.Counts.{many0_count_of, many1_count_of, many_m_n_count_of}
 
 -- what a function that others take as a part by `func` answers by the grammar, with what its outputs are compared by

@@ -46,9 +46,6 @@ module _ {S I A : Type 0} (m : Moving S I A) (w : Model I A) where
   pub same_moving : (x y : S) → IsSame w (m.held x) (m.held y) → m.mark x ≡ m.mark y → IsSame (moving_model m w) x y
   same_moving x y h e = record { elements_are = h.elements_are; mark_is = both_are e h.mark_is }
 
-  pub moving_place : (x : S) (n : ℕ) → IsBoundary (moving_model m w) x n → IsBoundary w (m.held x) n
-  moving_place x n p = record { front = p.front; rest = p.rest; whole = p.whole; length_is = p.length_is }
-
   -- the places are those of what is held
   pub place_moving : (x : S) (n : ℕ) → IsBoundary w (m.held x) n → IsBoundary (moving_model m w) x n
   place_moving x n p = record { front = p.front; rest = p.rest; whole = p.whole; length_is = p.length_is }

@@ -9,7 +9,7 @@ use Rattle.nom_combinator.specs.Contexts.{context_of}
 use Rattle.nom_error.specs.Errors.{Contexts}
 use Rattle.nom_combinator.specs.Verdicts.{OptOutput, cut_of, opt_of, opt_outcome}
 use Rattle.nom_sink.specs.declared.error.WriteError.{WriteError}
-use Rattle.nom_sink.specs.Choices.{Either, EitherFails}
+use Rattle.nom_sink.specs.Choices.{Either}
 use Rattle.nom_write.specs.Choices.{Apart, Refuses}
 use Rattle.nom_write.specs.Options.{CondForm, OptForm, WhereRun}
 use Rattle.nom_write.specs.Reads.{Anything, IsEnd, NoItem, NoItemIn, Reads, ReadsAtEnd, ReadsBefore}
@@ -77,21 +77,6 @@ module _ {I A P Q O E : Type 0} {w : Model I A} (errs : Errors I E) {g : Grammar
             read = λ i rest o known e k a. r.read i rest o known e k
                 (subst (λ z. GoesOnRefused (Next s i) z o) (refuses s v xs f.1 i rest a.first known e a.answered) a.goes_on);
           }
-
--- a first that can't write a value and a second that can't are a choice that can't
-either_grouped : {T : Type 0} (A B C : List T → Type 0) (AFails BFails : Space → WriteError → Type 0) (xs : List T) →
-    Either A AFails (Either B BFails C) xs → Either (Either A AFails B) (EitherFails AFails BFails) C xs
-either_grouped A B C AFails BFails xs (inl a) = inl (inl a)
-either_grouped A B C AFails BFails xs (inr (u, inl b)) = inl (inr (u, b))
-either_grouped A B C AFails BFails xs (inr (u, inr (v, c))) = inr ((v.0, v.1, inr (u, v.2), v.3), c)
-
-pub either_regrouped : {I T V O E : Type 0} {w : Model I T} {g : Grammar I V O E} {A B C : O → List T → Type 0}
-    {AFails BFails : O → Space → WriteError → Type 0} {Follow : List T → Type 0} →
-    Reads w g (λ v. Either (Either (A v) (AFails v) (B v)) (EitherFails (AFails v) (BFails v)) (C v)) Follow →
-    Reads w g (λ v. Either (A v) (AFails v) (Either (B v) (BFails v) (C v))) Follow
-either_regrouped {A = A} {B} {C} {AFails} {BFails} p = record {
-  reads = λ v xs f. p.reads v xs (either_grouped (A v) (B v) (C v) (AFails v) (BFails v) xs f);
-}
 
 -- what both refuse their choice refuses
 pub either_apart : {I A P Q E : Type 0} {w : Model I A} (errs : Errors I E) {m : Meaning I P E} {n : Meaning I Q E} {Kind : List A → Type 0} →
@@ -170,15 +155,6 @@ module _ {I A V O E : Type 0} {w : Model I A} {g : Grammar I V O E} {Form : O �
               refl,
             );
       }
-
-  pub map_back_ends : {R : Type 0} (IsTaken : O → Type 0) (Gives : O → R → Type 0) (Back : R → O → Type 0) →
-      ((v : R) (x : O) → Back v x → Gives x v) → ReadsAtEnd w g Form →
-      ReadsAtEnd w (map_by IsTaken Gives g) (λ v xs. (x : O) × Back v x × Form x xs)
-  map_back_ends {R} IsTaken Gives Back again p = record {
-    reads = λ v xs f. become_reads w (λ a. a) (λ u. u) (λ n u. refl) (g.meaning.answers false) (λ u. g.IsOutput u f.0) (λ t.
-        (map_by IsTaken Gives g).IsOutput t v)
-        IsEnd IsEnd xs (λ rest k. k) (λ u k. record { output = f.0; is_output = k; given = again v f.0 f.1 }) (p.reads f.0 xs f.2);
-  }
 
 -- a part on a condition
 pub cond_reads : {I A V O E : Type 0} (w : Model I A) (g : Grammar I V O E) (Form : O → List A → Type 0) (Follow : List A → Type 0) (Can : Type 0) →

@@ -5,15 +5,14 @@ use Rattle.std.proofs.lemmas.Bool.{eq-eqb}
 use Rattle.std.specs.Borrow.{Bor}
 use Rattle.nom_internal.specs.Prelude.{Errors, Family, GoesOn, GoesOnRefused, Grammar, Meaning, Model, Modes, OnPart, Outcome, Accept, Refuse, Stop}
 use Rattle.nom_internal.specs.Prelude.{Fails, Needs, bytes_model, ComparesBytes, then_meaning, labelled, either_of, always, with_outputs}
-use Rattle.nom_internal.specs.Prelude.{pair_of, map_by}
-use Rattle.nom_internal.specs.Tuples.{tuple_of}
+use Rattle.nom_internal.specs.Prelude.{Then, map_by, pair_of}
 use Rattle.nom_sequence.specs.Sequences.{preceded_of, terminated_of}
 use Rattle.nom_bytes.specs.Tags.{tag_meaning}
 use Rattle.nom_branch.specs.Alternatives.{alt_of}
 use Rattle.nom_combinator.specs.Contexts.{context_of}
 use Rattle.nom_error.specs.Errors.{Contexts}
 use Rattle.nom_sink.specs.declared.error.WriteError.{WriteError}
-use Rattle.nom_sink.specs.Choices.{Either, EitherFails}
+use Rattle.nom_sink.specs.Choices.{Either}
 use Rattle.nom_write.specs.Choices.{Apart}
 use Rattle.nom_write.specs.Leads.{BeginsWith, Differ, IsAmong, Leads, RefusesOthers, StartsWith, Words}
 use Rattle.nom_write.specs.Leads.{are_others, are_unlike, either_lead, is_unlike, lead_of, whole_lead}
@@ -153,6 +152,11 @@ then_refuses w code tree first next m f lead p = record {
       (p.refuses bs e front rest h s i a.first known el a.answered) a.goes_on;
 }
 
+-- where the first of two parts refuses, both do
+pub then_first : {I A P Q T : Type 0} {w : Model I A} {tree : P → Q → T} {F : I → Outcome P → Type 0} {N : P → I → Outcome Q → Type 0} {i : I}
+    {o : Outcome T} → Then w tree F N i o → (a : Outcome P) × F i a × (a ≡ Refuse → o ≡ Refuse)
+then_first {w = w} {tree} {N = N} {i} {o} a = (a.first, a.answered, λ e. subst (λ z. GoesOn w tree N i z o) e a.goes_on)
+
 -- a part whose refusals stay refusals
 pub case_refuses : {I A P T E F : Type 0} (w : Model I A) (code : A → ℕ) (m : Meaning I P E) (n : Meaning I T F) (lead : Option Words)
     (stays : (s : Bool) (i : I) (o : Outcome T) → n.answers s i o → (a : Outcome P) × m.answers s i a × (a ≡ Refuse → o ≡ Refuse)) →
@@ -183,8 +187,15 @@ module _ {I A V O E : Type 0} {w : Model I A} {code : A → ℕ} {g : Grammar I 
     others = then_refuses w code (λ u v. u) (λ o. o) (with_outputs false) g.meaning (always h.meaning) lead p.others;
   }
 
-  pub tuple_leads : {F : Type 0} (pairs : F → O) → Leads w code (tuple_of pairs g) (λ v. Form (pairs v)) lead
-  tuple_leads pairs = record { begins = λ bs e v xs f. p.begins bs e (pairs v) xs f; others = record { refuses = p.others.refuses } }
+  -- a tuple, by its first member
+  pub first_leads : {U F : Type 0} {h : Grammar I U F E} (first : F → O) {Next : F → List A → Type 0} →
+      ((s : Bool) (i : I) (o : Outcome U) → h.meaning.answers s i o → (a : Outcome V) × g.meaning.answers s i a × (a ≡ Refuse → o ≡ Refuse)) →
+      Leads w code h (λ v. Both (Form (first v)) (Next v)) lead
+  first_leads {h = h} first stays = record {
+    begins = λ bs e v xs f. begins_as code bs xs (f.front ++ f.back) f.whole
+        (begins_before code bs f.front f.back (p.begins bs e (first v) f.front f.first));
+    others = case_refuses w code g.meaning h.meaning lead stays p.others;
+  }
 
   -- a map back
   pub map_leads : {R : Type 0} {IsTaken : O → Type 0} {Gives : O → R → Type 0} {Back : R → O → Type 0} →
@@ -292,19 +303,3 @@ module _ {I A P Q O E : Type 0} {w : Model I A} {code : A → ℕ} (errs : Error
       by (Some bs) (Some cs) p q = both_told bs cs p q
       by (Some bs) None p q = no_lead
       by None b p q = no_lead
-
--- a first that can't write a value and a second that can't are a choice that can't
-grouped : {T : Type 0} (A B C : List T → Type 0) (AFails BFails : Space → WriteError → Type 0) (xs : List T) →
-    Either A AFails (Either B BFails C) xs → Either (Either A AFails B) (EitherFails AFails BFails) C xs
-grouped A B C AFails BFails xs (inl a) = inl (inl a)
-grouped A B C AFails BFails xs (inr (u, inl b)) = inl (inr (u, b))
-grouped A B C AFails BFails xs (inr (u, inr (v, c))) = inr ((v.0, v.1, inr (u, v.2), v.3), c)
-
-pub leads_regrouped : {I T V O E : Type 0} {w : Model I T} {code : T → ℕ} {g : Grammar I V O E} {A B C : O → List T → Type 0}
-    {AFails BFails : O → Space → WriteError → Type 0} {lead : Option Words} →
-    Leads w code g (λ v. Either (Either (A v) (AFails v) (B v)) (EitherFails (AFails v) (BFails v)) (C v)) lead →
-    Leads w code g (λ v. Either (A v) (AFails v) (Either (B v) (BFails v) (C v))) lead
-leads_regrouped {A = A} {B} {C} {AFails} {BFails} p = record {
-  begins = λ bs e v xs f. p.begins bs e v xs (grouped (A v) (B v) (C v) (AFails v) (BFails v) xs f);
-  others = p.others;
-}

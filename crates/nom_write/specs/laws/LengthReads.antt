@@ -9,8 +9,8 @@ use Rattle.nom_traits.specs.Rests.{same_cut}
 use Rattle.nom_bytes.specs.Takes.{take_meaning}
 use Rattle.nom_repeat.specs.Items.{items_meaning}
 use Rattle.nom_repeat.specs.Bounds.{exact_limits}
-use Rattle.nom_multi_length.specs.Lengths.{HasSize, length_count_of, length_data_of}
-use Rattle.nom_multi_length.specs.Values.{cuts, length_value_of, settled, settled_meaning, values_by_length, window_meaning}
+use Rattle.nom_multi.specs.Lengths.{HasSize, length_count_of, length_data_of}
+use Rattle.nom_multi.specs.Values.{cuts, length_value_of, settled, settled_meaning, values_by_length, window_meaning}
 use Rattle.nom_write.specs.Lengths.{FormOfSize}
 use Rattle.nom_sink.specs.Lists.{Each, ItemForm}
 use Rattle.nom_sink.specs.Parts.{AfterLength, Both}

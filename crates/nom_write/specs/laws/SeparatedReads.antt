@@ -7,7 +7,7 @@ use Rattle.nom_internal.specs.Prelude.{Accept, Errors, Grammar, InputLaws, Meani
 use Rattle.nom_error.specs.declared.kind.ErrorKind.{ErrorKind}
 use Rattle.nom_error.specs.declared.kind.ErrorKind.TheVariants as Kind
 use Rattle.nom_multi.specs.Many.{many1_of}
-use Rattle.nom_multi.specs.Separated.{follows, optional_meaning, separated_list0_of, separated_list1_of}
+use Rattle.nom_separated.specs.Separated.{follows, optional_meaning, separated_list0_of, separated_list1_of}
 use Rattle.nom_repeat.specs.declared.items.Limits.{Limits}
 use Rattle.nom_repeat.specs.declared.items.TooFew.{TooFew}
 use Rattle.nom_repeat.specs.declared.items.TooFew.TheVariants.{Added, Never, Passed}

@@ -1,5 +1,5 @@
 -- What is read of parts in sequence: what is written of the second, with all that may follow it, may follow the first.
-use Rattle.std.specs.Prelude.{◌≡◌, ◌+◌, List, [], ◌++◌, false, refl}
+use Rattle.std.specs.Prelude.{◌≡◌, ℕ, List, [], ◌++◌, false, refl}
 use Rattle.std.proofs.Common.{sym, ◌∙◌, ap, subst, append_assoc, append-nil}
 use Rattle.nom_internal.specs.Prelude.{Model, InputLaws, items_len, items_len-append, IsSuffixOf, Grammar, Outcome, Accept, GoesOn, Then, after}
 use Rattle.nom_internal.specs.Prelude.{PairOutput, pair_of}
@@ -37,19 +37,29 @@ module _ {I A P Q T : Type 0} (w : Model I A) (l : InputLaws w) (tree : P → Q 
       ReadsBefore w (Then w tree F N) IsTree Next (xs ++ ys)
   then_reads p q = record { read = reads }
     where
+      n : ℕ
+      n = items_len w.item_len xs
+
+      joined : (u : P) → IsFirst u → (b : Outcome Q) (o : Outcome T) → o ≡ after n (tree u) b → IsTaken w IsNext (items_len w.item_len ys) b →
+          IsTaken w IsTree (items_len w.item_len (xs ++ ys)) o
+      joined u is b o e k = (
+        tree u k.0,
+        subst (λ z. o ≡ Accept z (tree u k.0)) (sym (items_len-append w.item_len xs ys))
+            (e ∙ ap (λ z. after n (tree u) z) {y = Accept (items_len w.item_len ys) k.0} k.1),
+        joins u k.0 is k.2,
+      )
+
+      second : (u : P) → IsFirst u → (i : I) (rest : List A) (o : Outcome T) → w.elements i ≡ xs ++ (ys ++ rest) → Next rest →
+          GoesOn w tree N i (Accept n u) o → IsTaken w IsTree (items_len w.item_len (xs ++ ys)) o
+      second u is i rest o e next g = joined u is g.1 o g.4
+          ((q u is).read g.0 rest g.1 g.2.known (follows w l i g.0 xs (ys ++ rest) e g.2) next g.3)
+
       reads : (i : I) (rest : List A) (o : Outcome T) → w.IsKnown i → w.elements i ≡ (xs ++ ys) ++ rest → Next rest → Then w tree F N i o →
           IsTaken w IsTree (items_len w.item_len (xs ++ ys)) o
       reads i rest o known e next a =
           let e' : w.elements i ≡ xs ++ (ys ++ rest) = e ∙ append_assoc xs ys rest in
           let f = p.read i (ys ++ rest) a.first known e' (meets rest next) a.answered in
-          let g : GoesOn w tree N i (Accept (items_len w.item_len xs) f.0) o = subst (λ z. GoesOn w tree N i z o) f.1 a.goes_on in
-          let j = g.0 in
-          let k = (q f.0 f.2).read j rest g.1 g.2.known (follows w l i j xs (ys ++ rest) e' g.2) next g.3 in
-          let n = items_len w.item_len xs in
-          let m = items_len w.item_len ys in
-          let t : T = tree f.0 k.0 in
-          let whole : o ≡ Accept (n + m) t = g.4 ∙ ap (λ z. after n (tree f.0) z) k.1 in
-          (t, subst (λ z. o ≡ Accept z t) (sym (items_len-append w.item_len xs ys)) whole, joins f.0 k.0 f.2 k.2)
+          second f.0 f.2 i rest o e' next (subst (λ z. GoesOn w tree N i z o) f.1 a.goes_on)
 
 module _ {I A V W O P E : Type 0} {w : Model I A} (l : InputLaws w) {g : Grammar I V O E} {h : Grammar I W P E} where
   pub pair_reads : {FirstForm : O → List A → Type 0} {NextForm : P → List A → Type 0} {First Next : List A → Type 0} →
@@ -110,6 +120,45 @@ module _ {T O P : Type 0} (First : List T → Type 0) {Mid : List T → Type 0} 
 
   pub ends_more : ((v : P) (ys : List T) → Next v ys → Mid ys) → (v : O × P) (ys : List T) → Both (Form v.0) (Next v.1) ys → First ys
   ends_more n v ys f = subst First (sym f.whole) (meets f.front f.back (v.0, f.first) (n v.1 f.back f.second))
+
+-- The members of a tuple from one on: they are read before what may follow the last, and what is written of them, with that, may follow
+-- the member before.
+module _ {I A V O E : Type 0} (w : Model I A) (g : Grammar I V O E) (Form : O → List A → Type 0) (Before Last : List A → Type 0) where
+  pub record Remaining : Type 0 where
+    pub reads : Reads w g Form Last
+    pub meets : Meets Before (λ ys. (b : O) × Form b ys) Last
+
+pub last_member : {I A V O E : Type 0} {w : Model I A} {g : Grammar I V O E} {Form : O → List A → Type 0} {Before Last : List A → Type 0} →
+    Meets Before (λ ys. (b : O) × Form b ys) Last → Reads w g Form Last → Remaining w g Form Before Last
+last_member meets p = record { reads = p; meets = meets }
+
+module _ {I A V W O P E : Type 0} {w : Model I A} (l : InputLaws w) {g : Grammar I V O E} {h : Grammar I W P E} {Form : O → List A → Type 0}
+    {Next : P → List A → Type 0} {Follow Last : List A → Type 0} where
+  pub first_member : Reads w g Form Follow → Remaining w h Next Follow Last → Reads w (pair_of w g h) (λ v. Both (Form v.0) (Next v.1)) Last
+  first_member p rest = pair_reads l rest.meets p rest.reads
+
+  pub next_member : {Before : List A → Type 0} → Meets Before (λ ys. (b : O) × Form b ys) Follow → Reads w g Form Follow →
+      Remaining w h Next Follow Last → Remaining w (pair_of w g h) (λ v. Both (Form v.0) (Next v.1)) Before Last
+  next_member {Before} meets p rest = record { reads = first_member p rest; meets = meets_more Before meets rest.meets }
+
+-- the same, where the last member ends a complete input
+module _ {I A V O E : Type 0} (w : Model I A) (g : Grammar I V O E) (Form : O → List A → Type 0) (Before : List A → Type 0) where
+  pub record RemainingEnds : Type 0 where
+    pub ends : ReadsAtEnd w g Form
+    pub meets : (v : O) (ys : List A) → Form v ys → Before ys
+
+pub last_end : {I A V O E : Type 0} {w : Model I A} {g : Grammar I V O E} {Form : O → List A → Type 0} {Before : List A → Type 0} →
+    ((v : O) (ys : List A) → Form v ys → Before ys) → ReadsAtEnd w g Form → RemainingEnds w g Form Before
+last_end meets p = record { ends = p; meets = meets }
+
+module _ {I A V W O P E : Type 0} {w : Model I A} (l : InputLaws w) {g : Grammar I V O E} {h : Grammar I W P E} {Form : O → List A → Type 0}
+    {Next : P → List A → Type 0} {Follow : List A → Type 0} where
+  pub first_end : Reads w g Form Follow → RemainingEnds w h Next Follow → ReadsAtEnd w (pair_of w g h) (λ v. Both (Form v.0) (Next v.1))
+  first_end p rest = pair_ends l rest.meets p rest.ends
+
+  pub next_end : {Before : List A → Type 0} → Meets Before (λ ys. (b : O) × Form b ys) Follow → Reads w g Form Follow →
+      RemainingEnds w h Next Follow → RemainingEnds w (pair_of w g h) (λ v. Both (Form v.0) (Next v.1)) Before
+  next_end {Before} meets p rest = record { ends = first_end p rest; meets = ends_more Before meets rest.meets }
 
 -- two parts and a third are a first and two others
 both_regrouped : {T : Type 0} {A B C : List T → Type 0} {xs : List T} → Both A (Both B C) xs → Both (Both A B) C xs

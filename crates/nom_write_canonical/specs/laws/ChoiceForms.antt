@@ -9,7 +9,7 @@ use Rattle.nom_write.specs.Options.{OptForm}
 use Rattle.nom_sink.specs.Written.{Space}
 use Rattle.nom_write_canonical.specs.Forms.{AcceptsForms, AcceptsOnly, Excludes, FormOf, HasFront, IsOneForm}
 use Rattle.nom_write_canonical.specs.laws.CaseForms.{become_accepts, front_by, labelled_only}
-use Rattle.nom_write_canonical.specs.laws.SequenceForms.{items_one, renamed_accepts}
+use Rattle.nom_write_canonical.specs.laws.SequenceForms.{items_one}
 
 module _ {I A P Q O E : Type 0} {w : Model I A} (errs : Errors I E) {g : Grammar I P O E} {h : Grammar I Q O E} {First Second : O → List A → Type 0}
     {Fails : O → Space → WriteError → Type 0} where
@@ -66,27 +66,6 @@ both_exclude {T = T} {A} {B} {C} {AFails} {BFails} p q = record {
     apart : (v : _) (xs ys : List T) → Either (A v) (AFails v) (B v) xs → C v ys → ⊥
     apart v xs ys (inl a) c = p.apart v xs ys a c
     apart v xs ys (inr b) c = q.apart v xs ys b.1 c
-
--- what is no form of either of two
-pub apart_from_both : {T : Type 0} {A B C : List T → Type 0} {Fails : Space → WriteError → Type 0} → ((xs ys : List T) → A xs → B ys → ⊥) →
-    ((xs ys : List T) → A xs → C ys → ⊥) → (xs ys : List T) → A xs → Either B Fails C ys → ⊥
-apart_from_both p q xs ys a (inl b) = p xs ys a b
-apart_from_both p q xs ys a (inr c) = q xs ys a c.1
-
--- a first of two and a second are a first, and two others
-either_split : {T : Type 0} (A B C : List T → Type 0) (AFails BFails : Space → WriteError → Type 0) (xs : List T) →
-    Either (Either A AFails B) (EitherFails AFails BFails) C xs → Either A AFails (Either B BFails C) xs
-either_split A B C AFails BFails xs (inl (inl a)) = inl a
-either_split A B C AFails BFails xs (inl (inr b)) = inr (b.0, inl b.1)
-either_split A B C AFails BFails xs (inr ((s, e, inl k, n), c)) = absurd (n k.1)
-either_split A B C AFails BFails xs (inr ((s, e, inr k, n), c)) = inr (k.0, inr ((s, e, k.1, n), c))
-
-pub either_split_accepts : {I T V O E : Type 0} {w : Model I T} {g : Grammar I V O E} {A B C : O → List T → Type 0}
-    {AFails BFails : O → Space → WriteError → Type 0} →
-    AcceptsForms w g (λ v. Either (Either (A v) (AFails v) (B v)) (EitherFails (AFails v) (BFails v)) (C v)) →
-    AcceptsForms w g (λ v. Either (A v) (AFails v) (Either (B v) (BFails v) (C v)))
-either_split_accepts {A = A} {B} {C} {AFails} {BFails} p =
-    renamed_accepts (λ v xs f. either_split (A v) (B v) (C v) (AFails v) (BFails v) xs f) p
 
 opt_only : {P : Type 0} (a : Outcome P) (n : ℕ) (t : Option P) → Accept n t ≡ opt_outcome a → ((u : P) × (a ≡ Accept n u) × (t ≡ Some u)) ⊎
     ((n ≡ 0) × (t ≡ None))

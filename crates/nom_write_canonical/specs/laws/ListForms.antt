@@ -9,7 +9,7 @@ use Rattle.nom_error.specs.declared.kind.ErrorKind.TheVariants as Kind
 use Rattle.nom_bytes.specs.Takes.{take_meaning}
 use Rattle.nom_multi.specs.Bounded.{count_of}
 use Rattle.nom_multi.specs.Many.{many0_of}
-use Rattle.nom_multi_length.specs.Lengths.{HasSize, length_count_of, length_data_of}
+use Rattle.nom_multi.specs.Lengths.{HasSize, length_count_of, length_data_of}
 use Rattle.nom_repeat.specs.Accepted.{EndsItems, TakesItem}
 use Rattle.nom_repeat.specs.Bounds.{any_limits, exact_limits}
 use Rattle.nom_repeat.specs.Items.{items_meaning}

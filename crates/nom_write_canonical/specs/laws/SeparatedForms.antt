@@ -3,8 +3,8 @@ use Rattle.std.specs.Prelude.{ℕ, ◌<◌, Bool, true, List, [], ◌∷◌, ◌
 use Rattle.std.specs.List.{AllZip}
 use Rattle.std.proofs.Common.{sym, subst}
 use Rattle.nom_internal.specs.Prelude.{Accept, Errors, Grammar, InputLaws, Model}
-use Rattle.nom_multi.proofs.SeparatedAccepting.{separated1_accepts_more}
-use Rattle.nom_multi.specs.Separated.{separated_list1_of}
+use Rattle.nom_separated.proofs.SeparatedAccepting.{separated1_accepts_more}
+use Rattle.nom_separated.specs.Separated.{separated_list1_of}
 use Rattle.nom_sequence.specs.Sequences.{preceded_of}
 use Rattle.nom_sink.specs.Lists.{Each, ItemForm}
 use Rattle.nom_write.specs.Separated.{AfterSeparator, SomeForm}

@@ -1,6 +1,6 @@
 use Rattle.std.proofs.Common.{ap, ◌∙◌, subst, sym}
 use Rattle.nom_internal.specs.Prelude.{text_model}
-use Rattle.nom_func.specs.Func.{TakesAll}
+use Rattle.nom_calls.specs.Func.{TakesAll}
 use Rattle.nom_operators.specs.Groups.{groups_left}
 use Rattle.example_formats.specs.Arithmetic.{Applies, Parses, func_of, minus_of, none_of, operand_by, operator_of, sum_by, view}
 use Rattle.example_formats.proofs.Folds.{stands_by}

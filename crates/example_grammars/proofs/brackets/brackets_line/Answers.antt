@@ -1,6 +1,6 @@
 use Rattle.std.specs.Prelude.{false}
 use Rattle.nom_internal.specs.Prelude.{value_pinned}
-use Rattle.nom_func.proofs.FuncSound.{func_sound}
+use Rattle.nom_calls.proofs.FuncSound.{func_sound}
 use Rattle.example_grammars.specs.Brackets.{brackets_lawful}
 use Rattle.example_grammars.proofs.brackets.brackets_line.Goals as goal
 

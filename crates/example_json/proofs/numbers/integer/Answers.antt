@@ -1,6 +1,6 @@
 use Rattle.std.proofs.Common.{codes, refl, ◌∙◌, ap}
 use Rattle.nom_internal.proofs.Shown.{err_from_residual}
-use Rattle.nom_func.specs.Func.{Answers}
+use Rattle.nom_calls.specs.Func.{Answers}
 use Rattle.example_json.specs.Numbers.{i64_of, whole_by}
 use Rattle.example_json.proofs.Between.{before_stops, after}
 use Rattle.example_json.proofs.Told.{taken}

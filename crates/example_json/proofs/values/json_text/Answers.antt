@@ -1,6 +1,6 @@
 use Rattle.std.proofs.Common.{refl}
 use Rattle.nom_internal.proofs.Shown.{err_from_residual}
-use Rattle.nom_func.specs.Func.{Answers}
+use Rattle.nom_calls.specs.Func.{Answers}
 use Rattle.example_json.specs.Json.{json_of}
 use Rattle.example_json.proofs.Ended.{end_stops, ended, value_stops}
 use Rattle.example_json.proofs.Told.{taken, told}

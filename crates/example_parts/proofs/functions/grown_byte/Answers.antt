@@ -1,6 +1,6 @@
 use Rattle.std.proofs.Common.{[], ◌∷◌, ◌≡◌, List, ℕ, ◌++◌, refl}
 use Rattle.nom_internal.specs.Prelude.{IsDecided}
-use Rattle.nom_func.proofs.FuncSound.{items_stream_func}
+use Rattle.nom_calls.proofs.FuncSound.{items_stream_func}
 use Rattle.example_parts.specs.Firsts.{first_outcome}
 use Rattle.example_parts.proofs.functions.grown_byte.Goals as goal
 

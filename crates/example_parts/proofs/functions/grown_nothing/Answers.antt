@@ -1,6 +1,6 @@
 use Rattle.std.proofs.Common.{refl}
 use Rattle.nom_internal.specs.Prelude.{bytes_lawful}
-use Rattle.nom_func.proofs.FuncSound.{outright_stream_func}
+use Rattle.nom_calls.proofs.FuncSound.{outright_stream_func}
 use Rattle.example_parts.proofs.functions.grown_nothing.Goals as goal
 
 pub grown-requires-clause-sound : goal.grown-requires-clause-sound

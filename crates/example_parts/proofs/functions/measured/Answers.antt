@@ -1,6 +1,6 @@
 use Rattle.std.proofs.Common.{length, ap}
 use Rattle.nom_internal.specs.Prelude.{bytes_lawful}
-use Rattle.nom_func.proofs.FuncSound.{outright_func}
+use Rattle.nom_calls.proofs.FuncSound.{outright_func}
 use Rattle.example_parts.proofs.functions.measured.Goals as goal
 
 pub complete-requires-clause-sound : goal.complete-requires-clause-sound

@@ -1,6 +1,6 @@
 use Rattle.nom_internal.proofs.Shown.{parsed}
 use Rattle.nom_internal.specs.Prelude.{value_pinned}
-use Rattle.nom_func.proofs.FuncSound.{answers_by}
+use Rattle.nom_calls.proofs.FuncSound.{answers_by}
 use Rattle.nom_bits.specs.laws.FieldLaws.{bool_lawful}
 use Rattle.nom_bits.proofs.complete.bool.Goals as goal
 

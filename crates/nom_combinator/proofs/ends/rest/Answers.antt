@@ -1,5 +1,5 @@
 use Rattle.nom_internal.specs.Prelude.{slice_pinned}
-use Rattle.nom_func.proofs.FuncSound.{answers_by}
+use Rattle.nom_calls.proofs.FuncSound.{answers_by}
 use Rattle.nom_combinator.specs.laws.AllLaws.{rest_lawful}
 use Rattle.nom_combinator.proofs.ends.rest.Goals as goal
 

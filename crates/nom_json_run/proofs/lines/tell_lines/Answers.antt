@@ -1,7 +1,8 @@
 use Rattle.std.proofs.Common.{arith, ◌≡◌, ◌+◌, Ok, refl, subst}
 use Rattle.nom_stream.specs.Streams.{Decides}
 use Rattle.nom_run.specs.Stream.{MatchRunError, WriteFailed}
-use Rattle.nom_json_run.specs.Lines.{BeginsLine, ListsLine, json_line_of}
+use Rattle.nom_stream.specs.Lines.{line_of}
+use Rattle.nom_json_run.specs.Lines.{BeginsLine, ListsLine}
 use Rattle.nom_json_run.proofs.Listed.{ended, going_none, going_on, no_more, none_then, on_list, on_stop_error, on_stop_status}
 use Rattle.nom_json_run.proofs.lines.tell_lines.Goals as goal
 
@@ -14,7 +15,7 @@ loop-turn-init g c = record {
 pub returns-in-Ok-None-clause-status : goal.returns-in-Ok-None-clause-status
 returns-in-Ok-None-clause-status g c =
     let i = c.loop-turn.invariant in
-    let d = subst (λ f. Decides g.R.Read.remaining json_line_of c.loop-turn.stream c.next_item.new.self (Ok f)) c.in-Ok-None.field-0-is
+    let d = subst (λ f. Decides g.R.Read.remaining line_of c.loop-turn.stream c.next_item.new.self (Ok f)) c.in-Ok-None.field-0-is
     c.in-Ok-None.ensures.decides in (
       ended g.R.Read.remaining c.args.stream.now c.loop-turn.stream c.next_item.new.self (g.W.Sink.held c.args.sink.now)
           (g.W.Sink.held c.loop-turn.sink) c.loop-turn.turn c.status_of.result c.loop-turn.wrong i.going d c.status_of.ensures,
@@ -24,7 +25,7 @@ returns-in-Ok-None-clause-status g c =
 pub returns-in-Err-list-clause-error : goal.returns-in-Err-list-clause-error
 returns-in-Err-list-clause-error g c =
     let i = c.loop-turn.invariant in
-    let d = subst (λ f. Decides g.R.Read.remaining json_line_of c.loop-turn.stream c.next_item.new.self (Ok f)) c.in-Ok-Some.field-0-is
+    let d = subst (λ f. Decides g.R.Read.remaining line_of c.loop-turn.stream c.next_item.new.self (Ok f)) c.in-Ok-Some.field-0-is
     c.in-Ok-Some.ensures.decides in
     on_list g.R.Read.remaining c.args.stream.now c.loop-turn.stream c.next_item.new.self g.W.Sink.held g.W.Sink.failures g.W.Sink.stalls
     c.args.sink.now c.loop-turn.sink c.list.new.sink c.loop-turn.turn c.loop-turn.wrong i.going i.writes c.in-Ok-Some.used c.in-Ok-Some.inside d
@@ -52,7 +53,7 @@ pub loop-turn-preserved : goal.loop-turn-preserved
 loop-turn-preserved g c =
     let i = c.loop-turn.invariant in
     let wrote = c.in-Ok.ensures.wrote in
-    let d = subst (λ f. Decides g.R.Read.remaining json_line_of c.loop-turn.stream c.next_item.new.self (Ok f)) c.in-Ok-Some.field-0-is
+    let d = subst (λ f. Decides g.R.Read.remaining line_of c.loop-turn.stream c.next_item.new.self (Ok f)) c.in-Ok-Some.field-0-is
     c.in-Ok-Some.ensures.decides in
     let listed = subst (λ z. ListsLine (g.W.Sink.held c.loop-turn.sink) (g.W.Sink.held c.list.new.sink) (c.loop-turn.turn + 1)
     c.in-Ok-Some.inside z c.loop-turn.wrong c.in-Ok.next)

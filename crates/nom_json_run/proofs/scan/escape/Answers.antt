@@ -1,5 +1,7 @@
 use Rattle.std.proofs.Common.{◌≡◌, ◌+◌, ◌==◌, None, Some, true, false, drop, arith, ◌∙◌}
-use Rattle.nom_json_run.specs.Json.{after_escape, after_hex, after_letter, begins, first_is, is_letter, rest}
+use Rattle.nom_json_run.specs.Classes.{in_class}
+use Rattle.nom_json_run.specs.declared.class.Class.TheVariants.{Letter}
+use Rattle.nom_json_run.specs.Json.{after_escape, after_hex, after_letter, begins, first_is, rest}
 use Rattle.nom_json_run.proofs.Alike.{fail_map, first_there, reach_map}
 use Rattle.nom_json_run.proofs.Firsts.{first_within, passed_over, taken}
 use Rattle.nom_json_run.proofs.scan.escape.Goals as goal
@@ -22,31 +24,31 @@ returns-then-byte_is-clause-err c =
     (λ bs s. taken (λ b. b == 117) bs start (after_hex 4) (after_letter (drop start bs))
     (first_there (λ b. b == 117) bytes bs start (start + 1) true (omega arith) s e)) c.hexes.ensures.err
 
-pub returns-then-letter_at-clause-ok : goal.returns-then-letter_at-clause-ok
-returns-then-letter_at-clause-ok c =
+pub returns-then-class_at-clause-ok : goal.returns-then-class_at-clause-ok
+returns-then-class_at-clause-ok c =
     let bytes = c.args.bytes.now in
     let start = c.args.start in
     let no : begins 117 (drop start bytes) ≡ false = cc in
-    let e : first_is is_letter (drop start bytes) ≡ true = cc in
+    let e : first_is (in_class Letter) (drop start bytes) ≡ true = cc in
     record {
       begins = omega arith;
-      within = omega (arith, first_within is_letter bytes start e);
+      within = omega (arith, first_within (in_class Letter) bytes start e);
       follows = λ bs s. passed_over (after_hex 4 (rest (drop start bs))) (after_letter (drop start bs)) (begins 117 (drop start bs))
           (first_there (λ b. b == 117) bytes bs start _ false (omega arith) s no)
-          ∙ taken is_letter bs start Some None (first_there is_letter bytes bs start _ true (omega arith) s e);
+          ∙ taken (in_class Letter) bs start Some None (first_there (in_class Letter) bytes bs start _ true (omega arith) s e);
     }
 
-pub returns-else-letter_at-clause-err : goal.returns-else-letter_at-clause-err
-returns-else-letter_at-clause-err c =
+pub returns-else-class_at-clause-err : goal.returns-else-class_at-clause-err
+returns-else-class_at-clause-err c =
     let bytes = c.args.bytes.now in
     let start = c.args.start in
     let no : begins 117 (drop start bytes) ≡ false = cc in
-    let e : first_is is_letter (drop start bytes) ≡ false = cc in
+    let e : first_is (in_class Letter) (drop start bytes) ≡ false = cc in
     record {
       begins = omega arith;
       within = c.requires;
       fails = λ bs s. passed_over (after_hex 4 (rest (drop start bs))) (after_letter (drop start bs)) (begins 117 (drop start bs))
           (first_there (λ b. b == 117) bytes bs start start false (omega arith) s no)
-          ∙ passed_over (Some (rest (drop start bs))) None (first_is is_letter (drop start bs))
-          (first_there is_letter bytes bs start start false (omega arith) s e);
+          ∙ passed_over (Some (rest (drop start bs))) None (first_is (in_class Letter) (drop start bs))
+          (first_there (in_class Letter) bytes bs start start false (omega arith) s e);
     }

@@ -1,4 +1,4 @@
-use Rattle.nom_growing.specs.ByteCuts.{byte_cuts_below}
+use Rattle.nom_calls.specs.ByteCuts.{byte_cuts_below}
 use Rattle.nom_run.proofs.Reported.{on_ok}
 use Rattle.nom_messages_run.proofs.Reported.{reported_messages}
 use Rattle.nom_messages_run.proofs.report.text_of.Goals as goal

@@ -1,6 +1,6 @@
 use Rattle.std.proofs.Common.{arith, ◌∙◌, ◌+◌, Ok, ap, refl, subst, sym, take}
 use Rattle.std.specs.Prelude.{vec_capacity}
-use Rattle.nom_json_run.specs.Lines.{json_line_of}
+use Rattle.nom_stream.specs.Lines.{line_of}
 use Rattle.nom_stream.specs.Streams.{Decides}
 use Rattle.nom_write_stream.proofs.Sending.{sends_none}
 use Rattle.nom_messages_run.specs.Sent.{HaltsAt, HaltsLine, halt_by}
@@ -15,7 +15,7 @@ loop-turn-init g c = record {
 
 pub returns-in-Some : goal.returns-in-Some
 returns-in-Some g c =
-    let d = subst (λ f. Decides g.R.Read.remaining json_line_of c.loop-turn.stream c.next_item.new.self (Ok f)) c.in-Ok-Some.field-0-is
+    let d = subst (λ f. Decides g.R.Read.remaining line_of c.loop-turn.stream c.next_item.new.self (Ok f)) c.in-Ok-Some.field-0-is
     c.in-Ok-Some.ensures.decides in
     let before = c.loop-turn.invariant.going in
     record {
@@ -41,7 +41,7 @@ returns-in-Ok-None g c = record {
     outgoing = c.loop-turn.outgoing;
     lines = c.loop-turn.invariant.going.lines;
     nothing = sends_none g.W.Write.contents c.loop-turn.outgoing c.loop-turn.outgoing refl refl;
-    why = HaltsAt.Ended (subst (λ f. Decides g.R.Read.remaining json_line_of c.loop-turn.stream c.next_item.new.self (Ok f)) c.in-Ok-None.field-0-is
+    why = HaltsAt.Ended (subst (λ f. Decides g.R.Read.remaining line_of c.loop-turn.stream c.next_item.new.self (Ok f)) c.in-Ok-None.field-0-is
         c.in-Ok-None.ensures.decides) (refl, refl) refl;
     flushes = c.loop-turn.invariant.flushes;
   };
@@ -63,7 +63,7 @@ returns-in-Err g c = record {
 
 pub loop-turn-preserved : goal.loop-turn-preserved
 loop-turn-preserved g c =
-    let d = subst (λ f. Decides g.R.Read.remaining json_line_of c.loop-turn.stream c.next_item.new.self (Ok f)) c.in-Ok-Some.field-0-is
+    let d = subst (λ f. Decides g.R.Read.remaining line_of c.loop-turn.stream c.next_item.new.self (Ok f)) c.in-Ok-Some.field-0-is
     c.in-Ok-Some.ensures.decides in
     let sent = c.in-None.ensures.sent in
     record {

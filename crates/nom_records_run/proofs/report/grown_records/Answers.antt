@@ -1,8 +1,8 @@
 use Rattle.std.proofs.Common.{◌∙◌, ap}
 use Rattle.nom_internal.specs.Prelude.{bytes_model}
 use Rattle.nom_internal.specs.Promises.{HasNoFailure}
-use Rattle.nom_growing.specs.ByteCuts.{byte_cuts_below}
-use Rattle.nom_growing.specs.Growing.{IsGrown}
+use Rattle.nom_calls.specs.ByteCuts.{byte_cuts_below}
+use Rattle.nom_calls.specs.Growing.{IsGrown}
 use Rattle.nom_records_run.proofs.Reported.{by_its_tags}
 use Rattle.nom_records_run.proofs.report.grown_records.Goals as goal
 

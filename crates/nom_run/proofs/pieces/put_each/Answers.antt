@@ -1,21 +1,22 @@
-use Rattle.nom_run.proofs.Piecewise.{failed_then, none_then, on_write, put_begun, put_one}
+use Rattle.std.proofs.Common.{◌+◌, drop, refl}
+use Rattle.nom_run.specs.Texts.{lines_text}
+use Rattle.nom_run.proofs.Piecewise.{lines_rest, lines_then, puts_both, puts_first, puts_none}
 use Rattle.nom_run.proofs.pieces.put_each.Goals as goal
 
-pub returns-in-Err-clause-error : goal.returns-in-Err-clause-error
-returns-in-Err-clause-error g c =
-    let i = c.loop-item.invariant in
-    on_write _ _ (λ h. (
-      put_begun (g.P.InPieces.lines c.args.each.now) c.args.room.now.items c.args.items.now c.loop-item.item-index _ c.loop-item-test.true
-          _ _ _ _ i.wrote _ c.item-item.is h.0,
-      failed_then _ _ _ _ _ _ i.writes h.1,
-    )) c.in-Err.error c.in-Err.ensures.error
+pub loop-item-init : goal.loop-item-init
+loop-item-init g c = record { room = c.requires; puts = puts_none }
+
+pub returns-in-Err-clause-puts : goal.returns-in-Err-clause-puts
+returns-in-Err-clause-puts g c =
+    let line = g.P.InPieces.lines c.args.each.now in
+    let items = c.args.items.now in
+    let at = c.loop-item.item-index in
+    puts_both (lines_rest line items at _ c.loop-item-test.true _ c.item-item.is) c.loop-item.invariant.puts
+    (puts_first (lines_text line (drop (at + 1) items)) refl c.in-Err.ensures.puts)
 
 pub loop-item-preserved : goal.loop-item-preserved
-loop-item-preserved g c =
-    let i = c.loop-item.invariant in
-    record {
-      room = c.in-Ok.ensures.room;
-      wrote = put_one (g.P.InPieces.lines c.args.each.now) c.args.room.now.items c.args.items.now c.loop-item.item-index _ c.loop-item-test.true
-          _ _ _ _ i.wrote _ c.item-item.is _ c.in-Ok.ensures.wrote.0;
-      writes = none_then _ _ _ _ _ _ i.writes c.in-Ok.ensures.wrote.1;
-    }
+loop-item-preserved g c = record {
+  room = c.in-Ok.ensures.room;
+  puts = puts_both (lines_then (g.P.InPieces.lines c.args.each.now) c.args.items.now c.loop-item.item-index _ c.loop-item-test.true _ c.item-item.is)
+      c.loop-item.invariant.puts c.in-Ok.ensures.puts;
+}

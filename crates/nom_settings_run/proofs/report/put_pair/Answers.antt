@@ -1,17 +1,9 @@
-use Rattle.std.proofs.Common.{[]}
-use Rattle.nom_run.proofs.Piecewise.{begun_both, begun_first, done_both}
+use Rattle.std.proofs.Common.{refl}
+use Rattle.nom_run.proofs.Piecewise.{puts_both, puts_first}
 use Rattle.nom_settings_run.proofs.report.put_pair.Goals as goal
 
-pub returns-in-Err-clause-error : goal.returns-in-Err-clause-error
-returns-in-Err-clause-error g c = begun_first g.W.Sink.held g.W.Sink.failures g.W.Sink.stalls c.args.sink.now c.put_text.new.sink c.put_text.new.sink
-    c.args.room.now.items c.args.first.now c.args.second.now [] c.in-Err.error c.in-Err.ensures.error
+pub returns-in-Err-clause-puts : goal.returns-in-Err-clause-puts
+returns-in-Err-clause-puts g c = puts_first c.args.second.now refl c.in-Err.ensures.puts
 
-pub returns-clause-wrote : goal.returns-clause-wrote
-returns-clause-wrote g c = done_both g.W.Sink.held g.W.Sink.failures g.W.Sink.stalls c.args.sink.now c.put_text.new.sink c.put_text-2.new.sink
-    c.args.room.now.items c.args.first.now c.args.second.now c.put_text.new.room.items c.in-Ok.ensures.wrote
-    c.put_text-2.result c.put_text-2.new.room.items c.put_text-2.ensures.wrote
-
-pub returns-clause-error : goal.returns-clause-error
-returns-clause-error g c = begun_both g.W.Sink.held g.W.Sink.failures g.W.Sink.stalls c.args.sink.now c.put_text.new.sink c.put_text-2.new.sink
-    c.args.room.now.items c.args.first.now c.args.second.now c.put_text.new.room.items c.in-Ok.ensures.wrote
-    c.put_text-2.result c.put_text-2.ensures.error
+pub returns-clause-puts : goal.returns-clause-puts
+returns-clause-puts g c = puts_both refl c.in-Ok.ensures.puts c.put_text-2.ensures.puts

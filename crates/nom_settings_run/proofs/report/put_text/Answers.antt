@@ -1,17 +1,5 @@
-use Rattle.std.proofs.Common.{◌++◌, subst}
-use Rattle.std.specs.Prelude.{IfErr, IfOk}
-use Rattle.nom_run.specs.Pieces.{BeganText, WroteBut}
-use Rattle.nom_run.specs.Stream.{MatchRunError, NoWriteFailed, WriteFailed}
+use Rattle.nom_run.proofs.Piecewise.{puts_same}
 use Rattle.nom_settings_run.proofs.report.put_text.Goals as goal
 
-pub returns-clause-wrote : goal.returns-clause-wrote
-returns-clause-wrote g c =
-    subst (λ z. IfOk c.put.result (λ _. WroteBut (g.W.Sink.held c.args.sink.now) (g.W.Sink.held c.put.new.sink) (c.args.room.now.items ++ z)
-    c.put.new.room.items × NoWriteFailed (g.W.Sink.failures c.args.sink.now) (g.W.Sink.failures c.put.new.sink)
-    (g.W.Sink.stalls c.args.sink.now) (g.W.Sink.stalls c.put.new.sink))) c.as_bytes.ensures.value c.put.ensures.wrote
-
-pub returns-clause-error : goal.returns-clause-error
-returns-clause-error g c =
-    subst (λ z. IfErr c.put.result (λ e. MatchRunError e ⊥ (BeganText (g.W.Sink.held c.args.sink.now) (g.W.Sink.held c.put.new.sink)
-    (c.args.room.now.items ++ z) × WriteFailed (g.W.Sink.failures c.args.sink.now) (g.W.Sink.failures c.put.new.sink)
-    (g.W.Sink.stalls c.args.sink.now) (g.W.Sink.stalls c.put.new.sink)) ⊥ ⊥)) c.as_bytes.ensures.value c.put.ensures.error
+pub returns-clause-puts : goal.returns-clause-puts
+returns-clause-puts g c = puts_same c.as_bytes.ensures.value c.put.ensures.puts

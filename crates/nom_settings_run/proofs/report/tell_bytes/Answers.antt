@@ -1,6 +1,6 @@
 use Rattle.std.proofs.Common.{[], ◌∷◌, ap, arith, length}
 use Rattle.nom_internal.specs.Prelude.{bytes_model}
-use Rattle.nom_growing.specs.ByteCuts.{byte_cuts}
+use Rattle.nom_calls.specs.ByteCuts.{byte_cuts}
 use Rattle.nom_located.specs.Located.{located, place}
 use Rattle.nom_located.specs.laws.MovingLaws.{place_moving}
 use Rattle.nom_settings_run.proofs.report.tell_bytes.Goals as goal

@@ -1,5 +1,5 @@
 use Rattle.std.proofs.Common.{refl}
-use Rattle.nom_func.specs.laws.FuncLaws.{stream_func_lawful, stream_func_steady}
+use Rattle.nom_calls.specs.laws.FuncLaws.{stream_func_lawful, stream_func_steady}
 use Rattle.nom_internal.specs.Prelude.{bytes_model}
 use Rattle.nom_stream.proofs.Functions.{item_cut, item_stopped}
 use Rattle.nom_stream.proofs.function.ItemFuncGrammar.item.Goals as goal

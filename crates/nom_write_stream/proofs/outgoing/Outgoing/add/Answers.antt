@@ -1,7 +1,7 @@
 use Rattle.std.proofs.Common.{◌≡◌, ◌∙◌, None, length, arith, refl, subst, sym}
 use Rattle.nom_sink.proofs.Lists.{undone}
 use Rattle.nom_write_stream.specs.Outgoing.{AreBytes}
-use Rattle.nom_write_stream.specs.Told.{told_of}
+use Rattle.nom_write_stream.specs.Reasons.{why_unwritten}
 use Rattle.nom_write_stream.proofs.Adding.{added_item, no_room_now, too_long}
 use Rattle.nom_write_stream.proofs.outgoing.Outgoing.add.Goals as goal
 
@@ -29,7 +29,7 @@ returns-else-end-start-clause-added g c =
 pub returns-in-None-clause-added : goal.returns-in-None-clause-added
 returns-in-None-clause-added g c =
     let old = c.args.self.now.held.bytes in
-    let told : told_of c.in-Err.error c.len-start.result ≡ None = sym c.why_of.ensures ∙ c.in-None.is in
+    let told : why_unwritten c.in-Err.error c.len-start.result ≡ None = sym c.why_of.ensures ∙ c.in-None.is in
     let w = c.in-Err.ensures.written in (
       w.0,
       no_room_now (g.P.Writer.Form c.args.writer.now c.args.value.now) (g.P.Writer.Fails c.args.writer.now c.args.value.now) c.args.self.now.most

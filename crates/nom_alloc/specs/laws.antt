@@ -1,3 +1,0 @@
-pub mod FoldAllocLaws
-pub mod MapAllocLaws
-pub mod ValueAllocLaws

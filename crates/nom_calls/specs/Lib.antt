@@ -1,0 +1,9 @@
+pub mod Func
+pub mod Refused
+pub mod Words
+pub mod laws
+pub mod ByteCuts
+pub mod Growing
+pub mod TextCuts
+pub mod Iterated
+pub mod Steps

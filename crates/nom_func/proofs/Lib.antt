@@ -1,2 +1,0 @@
-pub mod FuncShown
-pub mod FuncSound

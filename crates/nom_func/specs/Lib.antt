@@ -1,4 +1,0 @@
-pub mod Func
-pub mod Refused
-pub mod Words
-pub mod laws

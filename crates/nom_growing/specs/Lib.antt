@@ -1,3 +1,0 @@
-pub mod ByteCuts
-pub mod Growing
-pub mod TextCuts

@@ -1,4 +1,0 @@
-//! Inputs that grow.
-#![tactic(auto)]
-
-pub mod growing;

@@ -1,5 +1,0 @@
-//! Hex dumps of bytes and texts.
-#![tactic(auto)]
-
-mod dump;
-pub mod hex;

@@ -1,3 +1,0 @@
-pub mod Staying
-pub mod Stepping
-pub mod Giving

@@ -1,2 +1,0 @@
-pub mod Iterated
-pub mod Steps

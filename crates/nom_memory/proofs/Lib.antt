@@ -1,4 +1,0 @@
-pub mod Items
-pub mod Lists
-pub mod Pieces
-pub mod Until

@@ -1,7 +1,0 @@
-use Rattle.nom_memory.proofs.Lists.{many0_grow}
-use Rattle.nom_memory.proofs.promises.many0_grows_by_items.Goals as goal
-
-pub returns : goal.returns
-returns g c =
-    let s = g.F.Parser.state c.args._parser.now.parser in
-    many0_grow g.I.Items.model g.F.Error.ParseError.errors (g.F.Parser.grammar s).meaning (g.met.F.Parser.lawful s c.requires)

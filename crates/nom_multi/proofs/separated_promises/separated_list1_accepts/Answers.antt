@@ -1,6 +1,0 @@
-use Rattle.nom_multi.proofs.SeparatedAccepting.{separated1_accepts_more}
-use Rattle.nom_multi.proofs.separated_promises.separated_list1_accepts.Goals as goal
-
-pub returns : goal.returns
-returns g c = separated1_accepts_more _ g.F.Error.ParseError.errors (g.G.Parser.grammar (g.G.Parser.state c.args._parser.now.next.first)).meaning
-    (g.F.Parser.grammar (g.F.Parser.state c.args._parser.now.next.second)).meaning

@@ -1,4 +1,0 @@
-pub mod LengthShown
-pub mod Reached
-pub mod ValueShown
-pub mod Accepting

@@ -1,8 +1,0 @@
-use Rattle.nom_multi_length.specs.Lengths.{HasSize}
-use Rattle.nom_multi_length.proofs.Accepting.{length_count_accepts_items}
-use Rattle.nom_multi_length.proofs.promises.length_count_accepts.Goals as goal
-
-pub returns : goal.returns
-returns g c = length_count_accepts_items _ g.F.Error.ParseError.errors
-    (HasSize (g.F.Parser.grammar (g.F.Parser.state c.args._parser.now.length)).IsOutput g.F.Output.ToUsize.size)
-    (g.F.Parser.grammar (g.F.Parser.state c.args._parser.now.length)).meaning (g.G.Parser.grammar (g.G.Parser.state c.args._parser.now.parser)).meaning

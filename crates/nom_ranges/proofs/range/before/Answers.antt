@@ -1,4 +1,0 @@
-use Rattle.nom_ranges.proofs.range.before.Goals as goal
-
-pub returns : goal.returns
-returns c = rw c.saturating_sub.ensures at c.up_to.ensures

@@ -1,4 +1,0 @@
-use Rattle.nom_ranges.proofs.range.through.Goals as goal
-
-pub returns : goal.returns
-returns c = rw c.end.ensures at c.up_to.ensures

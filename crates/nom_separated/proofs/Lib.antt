@@ -1,0 +1,2 @@
+pub mod SeparatedAccepting
+pub mod SeparatedShown

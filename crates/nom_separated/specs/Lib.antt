@@ -1,0 +1,4 @@
+pub mod Separated
+pub mod Promises
+pub mod Words
+pub mod laws

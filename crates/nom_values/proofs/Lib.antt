@@ -1,0 +1,4 @@
+pub mod Lines
+pub mod AsciiDumps
+mod ReadBytes
+mod Counting

@@ -1,0 +1,4 @@
+pub mod Dumps
+pub mod Parses
+pub mod Ranges
+pub mod Turns
