@@ -1,7 +1,7 @@
 -- What is evaluated of terms, as they are read.
-use Rattle.std.specs.Prelude.{◌≡◌, ◌<◌, ◌⊎◌, Bool, true, List, [], ◌∷◌, ◌++◌, length, Option, Some, None, IfSome, IsSome, Result, refl}
+use Rattle.std.specs.Prelude.{◌≡◌, ◌<◌, ◌⊎◌, Bool, true, List, [], ◌∷◌, ◌++◌, length, Option, Some, None, IsSome, Result, refl}
 use Rattle.std.proofs.Common.{sym, ◌∙◌, ap, subst, inl, append_assoc, append-nil}
-use Rattle.nom_internal.specs.Prelude.{PResult, Built, BuiltFrom, Modes, Model, Outcome, Accept, ShowsAnswer, RanOut, Shown, Meaning, closed_meaning}
+use Rattle.nom_internal.specs.Prelude.{PResult, Built, Modes, Model, Outcome, Accept, ShowsAnswer, RanOut, Shown, Meaning, closed_meaning}
 use Rattle.nom_internal.proofs.Shown.{Accepts}
 use Rattle.nom_repeat.specs.Accumulated.{Adds, Accumulated}
 use Rattle.nom_operators.specs.Evaluations.{IsValueOf, term_symbols}
@@ -51,10 +51,9 @@ pub that_some : {X : Type 0} (Fact : X → Type 0) (x : Option X) → OfThat x F
 that_some Fact (Some y) h = refl
 that_some Fact None h = absurd h
 
--- what is built is there, and of that the fact holds
-pub built_some : {X : Type 0} (P Q : X → Type 0) (x : Option X) → ((y : X) → P y → Q y) → Built true P x → IfSome x Q
-built_some P Q (Some y) f h = f y (subst P (sym (some_same y h.0 h.1)) h.2)
-built_some P Q None f h = absurd (cc (h.1))
+-- the fact holds of what is built
+pub of_built : {X : Type 0} (P : X → Type 0) (x : Option X) (y : X) → x ≡ Some y → Built true P x → P y
+of_built P x y e h = subst P (sym (some_same y h.0 (sym e ∙ h.1))) h.2
 
 module _ {K L P Q B O X M : Type 0} (partial : K → Option (Partial P B (Result O X))) (outer : K → List (Pending P B (Result O X))) (fold : K → L)
     (Gives : L → Operation P Q B O → Result O X → Type 0) where
@@ -100,21 +99,20 @@ module _ {K L P Q B O X M : Type 0} (partial : K → Option (Partial P B (Result
         }
 
     -- the value of a first term and of pairs
-    pub evaluated_built : (t : T) (us : List (C × T)) (f : L) (first : Option (TermOutput P O Q M)) (term : TermOutput P O Q M) (begun : K)
-        (all : Option K) (r : Option (Result O X)) → first ≡ Some term → Built true (IsTerm t) first →
-        HasReadInto partial outer fold Gives f (symbols_of_term term) begun → fold begun ≡ f →
+    pub evaluated_built : (t : T) (us : List (C × T)) (f : L) (first : Option (TermOutput P O Q M)) (term : TermOutput P O Q M) (begun k : K)
+        (all : Option K) (r : Result O X) → first ≡ Some term → Built true (IsTerm t) first →
+        HasReadInto partial outer fold Gives f (symbols_of_term term) begun → fold begun ≡ f → all ≡ Some k →
         Built true (Accumulated (PairPushes partial outer fold Gives) CanPush (λ u o. IsBinary u.0 o.0 × IsTerm u.1 o.1) (Some begun) us) all →
-        BuiltFrom true (λ k z. (ss : List (Symbol (Unary P) O (Unary Q) (Binary B))) → HasReadInto partial outer fold Gives (fold k) ss k →
-        IsValueOf (Gives (fold k)) ss z) all r → Built true (IsEvaluated IsTerm IsBinary (Gives f) (t, us)) r
-    evaluated_built t us f first term begun (Some k) r e b h o a g =
+        ((ss : List (Symbol (Unary P) O (Unary Q) (Binary B))) → HasReadInto partial outer fold Gives (fold k) ss k → IsValueOf (Gives (fold k)) ss r) →
+        Built true (IsEvaluated IsTerm IsBinary (Gives f) (t, us)) (Some r)
+    evaluated_built t us f first term begun k all r e b h o q a v =
         let same : term ≡ b.0 = some_same term b.0 (sym e ∙ b.1) in
-        let at : a.0 ≡ k = some_same a.0 k (sym a.1) in (
-          g.0,
-          g.1,
-          evaluated_one t us f term begun k g.0 (subst (IsTerm t) (sym same) b.2) h o
-              (subst (λ z. Accumulated (PairPushes partial outer fold Gives) CanPush (λ u x. IsBinary u.0 x.0 × IsTerm u.1 x.1) (Some begun) us z) at a.2) g.2,
+        let at : a.0 ≡ k = some_same a.0 k (sym a.1 ∙ q) in (
+          r,
+          refl,
+          evaluated_one t us f term begun k r (subst (IsTerm t) (sym same) b.2) h o
+              (subst (λ z. Accumulated (PairPushes partial outer fold Gives) CanPush (λ u x. IsBinary u.0 x.0 × IsTerm u.1 x.1) (Some begun) us z) at a.2) v,
         )
-    evaluated_built t us f first term begun None r e b h o a g = absurd (cc (a.1))
 
 -- what is there is known
 pub that_is : {X : Type 0} (Fact : X → Type 0) (x : Option X) (y : X) → x ≡ Some y → OfThat x Fact → Fact y

@@ -1,5 +1,5 @@
 -- Expressions: terms with operators between them, and a fold that may refuse.
-use Rattle.std.specs.Prelude.{◌≡◌, ◌<◌, ℕ, ◌⊎◌, Bool, List, Result, Ok, is_ok, length}
+use Rattle.std.specs.Prelude.{◌≡◌, ◌<◌, ℕ, ◌⊎◌, Bool, List, Option, Some, None, Result, Ok, Err, is_ok, length}
 use Rattle.nom_error.specs.Errors.{Errors, Externals}
 use Rattle.nom_error.specs.declared.kind.ErrorKind.TheVariants as Kind
 use Rattle.nom_internal.specs.Prelude.{Grammar, Meaning, Model, Accept, IsJudge, closed_meaning, judged_meaning, sequence_meaning, premised, OfError}
@@ -30,6 +30,11 @@ lacking_meaning {V = V} Lacks part m = record m {
   IsFrugal = λ mode. m.IsFrugal mode × ((v : V) → Lacks v → ⊥);
 }
 
+-- if an error of the fold says that memory ran out: a meaning where it may run out for the trees for which the fold gives that error
+abbrev pub lacking_if : {I V O Y E : Type 0} → Option Y → (V → Result O Y → Type 0) → Meaning I V E → Meaning I V E → Meaning I V E
+lacking_if None Evaluates part m = m
+lacking_if (Some e) Evaluates part m = lacking_meaning (λ t. Evaluates t (Err e)) part m
+
 -- Two prefixes or more of a term wait for its operand. The last of them takes no memory.
 abbrev pub PrefixesWait : {T P O Q M : Type 0} → (T → TermOutput P O Q M → Type 0) → T → Type 0
 PrefixesWait {P = P} {O = O} {Q = Q} {M = M} IsTerm t = (o : TermOutput P O Q M) × IsTerm t o × (1 < length o.0.items)
@@ -51,21 +56,24 @@ terms_meaning w errs Waits term binary = lacking_meaning Waits term (sequence_me
 abbrev pub Itself : {R : Type 0} → R → R → Type 0
 Itself r s = s ≡ r
 
--- What is read is evaluated in every mode, by what a tree stands for: a refusal of the fold refuses it, at the start. The premise of the
--- laws is that the fold either refuses all that a tree stands for, or nothing.
-abbrev pub evaluated_meaning : {I A T C O X E : Type 0} → Model I A → Errors I E → Externals I X E → (CanFold : Type 0) →
-    (Waits : T → Type 0) → (T × List (C × T) → Result O X → Type 0) → Meaning I T E → Meaning I C E → Meaning I (T × List (C × T)) E
-evaluated_meaning {O = O} {X = X} w errs externals CanFold Waits Evaluates term binary =
-    premised (term.Runs × binary.Runs × CanFold) (term.IsSound × binary.IsSound × IsJudge {R = Result O X} Evaluates Itself is_ok)
-    (judged_meaning {R = Result O X} Evaluates (λ _. Unit {0}) Itself is_ok (λ i. OfError (externals.of_external i Kind.Precedence)) externals.grows
-    (terms_meaning w errs Waits term binary))
+-- What is read is evaluated in every mode, by what a tree stands for: a refusal of the fold refuses it, at the start. Memory runs out too
+-- where the fold says so. The premise of the laws is that the fold either refuses all that a tree stands for, or nothing, memory aside.
+abbrev pub evaluated_meaning : {I A T C O Y X E : Type 0} → Model I A → Errors I E → Externals I X E → (CanFold : Type 0) →
+    (Tells : Result O Y → Result O X → Type 0) → (no_memory : Option Y) → (Waits : T → Type 0) → (T × List (C × T) → Result O Y → Type 0) →
+    Meaning I T E → Meaning I C E → Meaning I (T × List (C × T)) E
+evaluated_meaning w errs externals CanFold Tells no_memory Waits Evaluates term binary =
+    premised (term.Runs × binary.Runs × CanFold) (term.IsSound × binary.IsSound × IsJudge Evaluates Tells is_ok)
+    (lacking_if no_memory Evaluates (terms_meaning w errs Waits term binary)
+    (judged_meaning Evaluates (λ _. Unit {0}) Tells is_ok (λ i. OfError (externals.of_external i Kind.Precedence)) externals.grows
+    (terms_meaning w errs Waits term binary)))
 
--- an expression, by the grammars of its terms and of its binary operators, and by what the fold gives for each operation
-abbrev pub expression_by : {I A T C P Q B O X M E : Type 0} → Model I A → Errors I E → Externals I X E → (CanFold : Type 0) →
-    (Operation P Q B O → Result O X → Type 0) → Grammar I T (TermOutput P O Q M) E → Grammar I C (Binary B) E → Grammar I (T × List (C × T)) O E
-expression_by w errs externals CanFold Gives term binary = record {
-  meaning = evaluated_meaning w errs externals CanFold (PrefixesWait term.IsOutput) (IsEvaluated term.IsOutput binary.IsOutput Gives)
-      term.meaning binary.meaning;
+-- an expression, by the grammars of its terms and of its binary operators, by what the fold gives for each operation, and what that tells
+abbrev pub expression_by : {I A T C P Q B O Y X M E : Type 0} → Model I A → Errors I E → Externals I X E → (Result O Y → Result O X → Type 0) →
+    Option Y → (CanFold : Type 0) → (Operation P Q B O → Result O Y → Type 0) → Grammar I T (TermOutput P O Q M) E → Grammar I C (Binary B) E →
+    Grammar I (T × List (C × T)) O E
+expression_by w errs externals Tells no_memory CanFold Gives term binary = record {
+  meaning = evaluated_meaning w errs externals CanFold Tells no_memory (PrefixesWait term.IsOutput)
+      (IsEvaluated term.IsOutput binary.IsOutput Gives) term.meaning binary.meaning;
   IsOutput = λ e y. IsEvaluated term.IsOutput binary.IsOutput Gives e (Ok y);
 }
 

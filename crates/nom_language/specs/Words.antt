@@ -1,5 +1,5 @@
 -- The words of expressions.
-use Rattle.std.specs.Prelude.{◌≡◌, ℕ, Result}
+use Rattle.std.specs.Prelude.{◌≡◌, ℕ, Option, Result}
 use Rattle.std.proofs.Common.{ap, ap₂}
 use Rattle.nom_error.specs.Errors.{Errors, Externals}
 use Rattle.nom_traits.specs.Input.{Model}
@@ -8,12 +8,10 @@ use Rattle.nom_operators.specs.declared.operation.Assoc.{Assoc}
 use Rattle.nom_operators.specs.declared.operation.Operation.{Operation}
 use Rattle.nom_operators.specs.declared.precedences.Unary.{Unary}
 use Rattle.nom_operators.specs.declared.precedences.Binary.{Binary}
-use Rattle.nom_language.specs.Allocations as Allocations
 use Rattle.nom_language.specs.Evaluated.{TermOutput}
 use Rattle.nom_language.specs.LeftFolds as LeftFolds
 use Rattle.nom_language.specs.Operators as Operators
 use Rattle.nom_language.specs.Precedences as Precedences
-use Rattle.nom_language.specs.declared.allocating.FoldError.{FoldError}
 
 module _ {I O E : Type 0} where
   abbrev unary_op_meant : ℕ → Word I O E → Word I (Unary O) E
@@ -45,45 +43,27 @@ module _ {I O E : Type 0} where
         binary_op_of precedence assoc g ≡ binary_op_of precedence' assoc' h
     binary_op_same a b p = λ i. binary_op_of (a i) (b i) (p i)
 
--- terms with operators between them: which operations the fold takes, and what it gives for each
-module _ {I A P Q B O X M E : Type 0} (w : Model I A) (errs : Errors I E) (externals : Externals I X E) where
-  abbrev expression_meant : (Operation P Q B O → Type 0) → (Operation P Q B O → Result O X → Type 0) → Word I (TermOutput P O Q M) E → Word I (Binary B) E →
+-- terms with operators between them: which operations the fold takes, what it gives for each, and what that tells
+module _ {I A P Q B O Y X M E : Type 0} (w : Model I A) (errs : Errors I E) (externals : Externals I X E) (Tells : Result O Y → Result O X → Type 0)
+    (no_memory : Option Y) where
+  abbrev expression_meant : (Operation P Q B O → Type 0) → (Operation P Q B O → Result O Y → Type 0) → Word I (TermOutput P O Q M) E → Word I (Binary B) E →
       Word I O E
   expression_meant Takes Gives term binary = word
-      (Precedences.expression_by w errs externals ((x : Operation P Q B O) → Takes x) Gives term.grammar binary.grammar)
+      (Precedences.expression_by w errs externals Tells no_memory ((x : Operation P Q B O) → Takes x) Gives term.grammar binary.grammar)
 
-  pub expression_of : (Operation P Q B O → Type 0) → (Operation P Q B O → Result O X → Type 0) → Word I (TermOutput P O Q M) E → Word I (Binary B) E →
+  pub expression_of : (Operation P Q B O → Type 0) → (Operation P Q B O → Result O Y → Type 0) → Word I (TermOutput P O Q M) E → Word I (Binary B) E →
       Word I O E
   expression_of Takes Gives term binary = expression_meant Takes Gives term binary
 
   module _ {g h : Word I (TermOutput P O Q M) E} {k l : Word I (Binary B) E} where
-    pub expression_worded : (Takes : Operation P Q B O → Type 0) (Gives : Operation P Q B O → Result O X → Type 0) → g ≡ h → k ≡ l →
+    pub expression_worded : (Takes : Operation P Q B O → Type 0) (Gives : Operation P Q B O → Result O Y → Type 0) → g ≡ h → k ≡ l →
         expression_of Takes Gives g k ≡ expression_meant Takes Gives h l
     unfolding expression_of
     expression_worded Takes Gives p q = ap₂ (expression_meant Takes Gives) p q
 
-    pub expression_same : {Takes Takes' : Operation P Q B O → Type 0} {Gives Gives' : Operation P Q B O → Result O X → Type 0} → Takes ≡ Takes' →
+    pub expression_same : {Takes Takes' : Operation P Q B O → Type 0} {Gives Gives' : Operation P Q B O → Result O Y → Type 0} → Takes ≡ Takes' →
         Gives ≡ Gives' → g ≡ h → k ≡ l → expression_of Takes Gives g k ≡ expression_of Takes' Gives' h l
     expression_same a b p r = λ i. expression_of (a i) (b i) (p i) (r i)
-
-  abbrev expression_alloc_meant : (Operation P Q B O → Type 0) → (Operation P Q B O → Result O (FoldError X) → Type 0) → Word I (TermOutput P O Q M) E →
-      Word I (Binary B) E → Word I O E
-  expression_alloc_meant Takes Gives term binary = word
-      (Allocations.expression_alloc_by w errs externals ((x : Operation P Q B O) → Takes x) Gives term.grammar binary.grammar)
-
-  pub expression_alloc_of : (Operation P Q B O → Type 0) → (Operation P Q B O → Result O (FoldError X) → Type 0) → Word I (TermOutput P O Q M) E →
-      Word I (Binary B) E → Word I O E
-  expression_alloc_of Takes Gives term binary = expression_alloc_meant Takes Gives term binary
-
-  module _ {g h : Word I (TermOutput P O Q M) E} {k l : Word I (Binary B) E} where
-    pub expression_alloc_worded : (Takes : Operation P Q B O → Type 0) (Gives : Operation P Q B O → Result O (FoldError X) → Type 0) → g ≡ h → k ≡ l →
-        expression_alloc_of Takes Gives g k ≡ expression_alloc_meant Takes Gives h l
-    unfolding expression_alloc_of
-    expression_alloc_worded Takes Gives p q = ap₂ (expression_alloc_meant Takes Gives) p q
-
-    pub expression_alloc_same : {Takes Takes' : Operation P Q B O → Type 0} {Gives Gives' : Operation P Q B O → Result O (FoldError X) → Type 0} →
-        Takes ≡ Takes' → Gives ≡ Gives' → g ≡ h → k ≡ l → expression_alloc_of Takes Gives g k ≡ expression_alloc_of Takes' Gives' h l
-    expression_alloc_same a b p r = λ i. expression_alloc_of (a i) (b i) (p i) (r i)
 
 -- an expression, and then no binary operator
 module _ {I A O B E : Type 0} (w : Model I A) (errs : Errors I E) where

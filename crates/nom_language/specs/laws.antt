@@ -1,3 +1,2 @@
-pub mod AllocationLaws
 pub mod LanguageLaws
 pub mod PinnedLaws

@@ -1,12 +1,10 @@
 //! The value of an expression, as it is read.
-ghost use Rattle.std.specs.Prelude.{◌≡◌, ◌<◌, IfSome, IsSome, None, [], List, length, true};
-ghost use Rattle.nom_internal.specs.Prelude.{BuiltFrom};
+ghost use Rattle.std.specs.Prelude.{◌≡◌, ◌<◌, IfSome, IsSome, None, List, length};
 ghost use Rattle.nom_language.specs.Evaluated.{symbols_of_term};
 ghost use Rattle.nom_language.specs.helpers.Accumulated.{HasReadInto, PairPushes};
 ghost use Rattle.nom_operators.specs.Evaluations.{IsValueOf};
 ghost use Rattle.nom_operators.specs.OperatorTrees.{Symbol};
-ghost use Rattle.nom_operators.specs.helpers.Pending.{HasRead};
-ghost use Rattle.nom_operators.specs.Steps.{IsNested, waiting};
+ghost use Rattle.nom_operators.specs.Steps.{IsNested};
 ghost use Rattle.nom_operators.specs.declared.operation.Operation.{Operation};
 ghost use Rattle.nom_operators.specs.declared.precedences.Unary.{Unary};
 ghost use Rattle.nom_operators.specs.declared.precedences.Binary.{Binary};
@@ -124,31 +122,9 @@ pub fn begin_evaluation<
     }
 }
 
-/// Returns the value of an evaluation, or the first refusal of the fold, if outputs are built.
+/// Returns the value of all that was read, or the first refusal of the fold.
 #[inline(always)]
-pub fn evaluated<
-    P: Drop,
-    Q: Drop,
-    B: Drop,
-    O: Drop,
-    X: Drop,
-    A: Allocator,
-    G: Fn(Operation<P, Q, B, O>) -> Result<O, X>,
->(evaluation: Option<Evaluation<'_, P, Q, B, O, X, A, G>>) -> Option<Result<O, X>>
-    requires { IfSome evaluation (λ k. IsSome k.partial × IfSome k.partial (λ r. IsNested r.innermost k.outer.items)
-        × ((x : Operation P Q B O) → G.pre k.fold.now x)) }
-    ensures { BuiltFrom true (λ k r. (ss : List (Symbol (Unary P) O (Unary Q) (Binary B))) → HasReadInto (λ k. k.partial) (λ k. k.outer.items)
-        (λ k. k.fold.now) (λ f o r. G.post f o r) k.fold.now ss k → IsValueOf (G.post k.fold.now) ss r) evaluation.entry result }
-{
-    match evaluation {
-        Some(evaluation) => Some(value_of(evaluation)),
-        None => None,
-    }
-}
-
-// The value of all that was read, or the first refusal of the fold.
-#[inline(always)]
-fn value_of<
+pub fn value_of<
     P: Drop,
     Q: Drop,
     B: Drop,

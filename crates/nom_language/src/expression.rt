@@ -1,17 +1,17 @@
 //! Expressions.
 ghost use Rattle.std.specs.Prelude.{◌≡◌, List, Result, true};
-ghost use Rattle.nom_error.specs.Answers.{Refuses};
 ghost use Rattle.nom_internal.specs.Prelude.{modes, ShowsMeaning};
 ghost use Rattle.nom_language.specs.Evaluated.{IsEvaluated};
 ghost use Rattle.nom_language.specs.Precedences.{PrefixesWait, expression_by, terms_meaning};
 ghost use Rattle.nom_operators.specs.declared.operation.Operation.{Operation};
 ghost use Rattle.nom_language.specs.Words as Words;
 
-use crate::evaluation::{Evaluation, begin_evaluation, evaluated};
+use crate::allocating::{AllocatingFold, FoldErrors, PlainFold, stopped};
+use crate::evaluation::{Evaluation, begin_evaluation, value_of};
 use crate::operands::RequireOperands;
 use nom_error::answer::{Err, PResult};
 use nom_error::kind::ErrorKind;
-use nom_error::mode::{Emit, Mode, OutputM, OutputMode};
+use nom_error::mode::{Emit, OutputM, OutputMode};
 use nom_error::outside::FromExternalError;
 use nom_error::value::ParseError;
 use nom_internal::built::{built, emitted};
@@ -23,22 +23,29 @@ use nom_repeat::bounds::any_items;
 use nom_traits::input::{Input, Items};
 use nom_traits::view::Viewed;
 use std::alloc::Allocator;
+use std::marker::PhantomData;
 
 /// The parser that `precedence` returns: terms with operators between them.
 #[derive(Drop)]
-pub struct Expression<A, C, T, G> {
+pub struct Expression<A, C, T, G, W = PlainFold> {
     pub alloc: A,
     /// A binary operator and a term after it.
     pub pair: (C, T),
     pub fold: G,
+    /// The kind of the fold.
+    pub of: PhantomData<W>,
 }
 
-impl<A, C, T, G> Expression<A, C, T, G> {
+/// The parser that `precedence_alloc` returns: terms with operators between them, with a fold that may take
+/// memory.
+pub type ExpressionAlloc<A, C, T, G> = Expression<A, C, T, G, AllocatingFold>;
+
+impl<A, C, T, G, W> Expression<A, C, T, G, W> {
     /// Refuses an operator whose right operand is missing, with `Precedence` at the operator.
     ///
     /// Without it the expression ends before that operator.
     #[inline(always)]
-    pub fn require_operands(self) -> RequireOperands<A, C, T, G>
+    pub fn require_operands(self) -> RequireOperands<A, C, T, G, W>
         ensures { result.expression ≡ self }
     {
         RequireOperands { expression: self }
@@ -52,13 +59,14 @@ impl<
     Q: Drop,
     B: Drop,
     O: Drop,
-    X: Drop,
+    Y: Drop,
     C: Parser<I, Output = Binary<B>, Error = T::Error> + Drop,
     T: Parser<I, Output = (Vec<Unary<P>, A>, O, Vec<Unary<Q>, A>)> + Drop,
-    G: Fn(Operation<P, Q, B, O>) -> Result<O, X>,
-> Parser<I> for Expression<A, C, T, G>
+    G: Fn(Operation<P, Q, B, O>) -> Result<O, Y>,
+    W: FoldErrors<O, Y>,
+> Parser<I> for Expression<A, C, T, G, W>
 where
-    T::Error: FromExternalError<I, X>,
+    T::Error: FromExternalError<I, W::Refusal>,
 {
     ghost use Rattle.nom_language.specs.laws.LanguageLaws.{evaluated_lawful};
 
@@ -72,15 +80,17 @@ where
 
     ghost Tree = { T.Tree × List (C.Tree × T.Tree) };
 
-    ghost grammar = { λ s. expression_by I.model T.Error.errors T.Error.externals ((x : Operation P Q B O) → G.pre s.2 x) (G.post s.2)
-        (T.grammar s.1) (C.grammar s.0) };
+    ghost grammar = { λ s. expression_by I.model T.Error.errors T.Error.externals W.Tells W.no_memory ((x : Operation P Q B O) → G.pre s.2 x)
+        (G.post s.2) (T.grammar s.1) (C.grammar s.0) };
 
-    ghost word = { λ s. Words.expression_of I.model T.Error.errors T.Error.externals (G.pre s.2) (G.post s.2) (T.word s.1) (C.word s.0) };
+    ghost word = { λ s. Words.expression_of I.model T.Error.errors T.Error.externals W.Tells W.no_memory (G.pre s.2) (G.post s.2)
+        (T.word s.1) (C.word s.0) };
 
-    ghost worded = { λ s. Words.expression_worded I.model T.Error.errors T.Error.externals (G.pre s.2) (G.post s.2) (T.worded s.1) (C.worded s.0) };
+    ghost worded = { λ s. Words.expression_worded I.model T.Error.errors T.Error.externals W.Tells W.no_memory (G.pre s.2) (G.post s.2)
+        (T.worded s.1) (C.worded s.0) };
 
     fn process<OM: OutputMode>(&mut self, input: I) -> PResult<I, O, T::Error> {
-        let (end, answer) = terms::<OM, I, A, P, Q, B, O, X, C, T, G>(
+        let (end, answer) = terms::<OM, I, A, P, Q, B, O, Y, C, T, G>(
             self.alloc,
             &mut self.pair,
             &self.fold,
@@ -88,15 +98,12 @@ where
         )?;
         match emitted(answer) {
             Ok(value) => Ok((end, built::<OM::Output, O>(value))),
-            Err(refused) => Err(outside_refusal::<OM::Error, I, X, T::Error>(
-                input,
-                ErrorKind::Precedence,
-                refused,
-            )),
+            Err(error) => Err(stopped::<OM::Error, I, W::Refusal, T::Error>(input, W::told(error))),
         }
     }
 
-    ghost lawful = { λ s k. evaluated_lawful I.lawful T.Error.errors T.Error.externals k.2 (T.lawful s.1 k.0) (C.lawful s.0 k.1) };
+    ghost lawful = { λ s k. evaluated_lawful I.lawful T.Error.errors T.Error.externals W.no_memory _ k.2 (T.lawful s.1 k.0)
+        (C.lawful s.0 k.1) };
 }
 
 impl<
@@ -106,13 +113,14 @@ impl<
     Q: Viewed + Drop,
     B: Viewed + Drop,
     O: Viewed + Drop,
-    X: Drop,
+    Y: Drop,
     C: StreamParser<I, Output = Binary<B>, Error = T::Error> + Drop,
     T: StreamParser<I, Output = (Vec<Unary<P>, A>, O, Vec<Unary<Q>, A>)> + Drop,
-    G: Fn(Operation<P, Q, B, O>) -> Result<O, X>,
-> StreamParser<I> for Expression<A, C, T, G>
+    G: Fn(Operation<P, Q, B, O>) -> Result<O, Y>,
+    W: FoldErrors<O, Y>,
+> StreamParser<I> for Expression<A, C, T, G, W>
 where
-    T::Error: FromExternalError<I, X>,
+    T::Error: FromExternalError<I, W::Refusal>,
 {
     ghost use Rattle.nom_language.specs.laws.LanguageLaws.{evaluated_steady};
     ghost use Rattle.nom_language.specs.laws.PinnedLaws.{expression_pinned};
@@ -122,7 +130,8 @@ where
 
     ghost pinned = { λ p k h. expression_pinned P.view Q.view B.view O.view (T.pinned p.pair.1 k.0 h.0) (C.pinned p.pair.0 k.1 h.1) h.2 };
 
-    ghost steady = { λ s k. evaluated_steady I.lawful T.Error.errors T.Error.externals k.2 (T.steady s.1 k.0) (C.steady s.0 k.1) };
+    ghost steady = { λ s k. evaluated_steady I.lawful T.Error.errors T.Error.externals W.no_memory _ k.2 (T.steady s.1 k.0)
+        (C.steady s.0 k.1) };
 }
 
 /// Reads a term and then pairs, and returns the value of them all, or the first refusal of the fold.
@@ -163,27 +172,8 @@ pub(crate) fn terms<
                 (C, T),
                 Evaluation<'_, P, Q, B, O, X, A, G>,
             >(pair, rest, Some(begun), ErrorKind::Precedence)?;
-            Ok((end, evaluated(all)))
+            Ok((end, Some(value_of(emitted(all)))))
         }
         None => Err(Err::OutOfMemory),
-    }
-}
-
-/// Refuses with an error that is made of another one, if errors are built.
-#[inline(always)]
-pub(crate) fn outside_refusal<M: Mode, I: Drop, X: Drop, E: FromExternalError<I, X> + Drop>(
-    input: I,
-    kind: ErrorKind,
-    error: X,
-) -> Err<E, Option<E>>
-    ensures { Refuses (E.externals.of_external input kind error) E.externals.grows M.BUILDS result }
-{
-    if M::BUILDS {
-        match E::from_external_error(input, kind, error) {
-            Ok(made) => Err::Error(Some(made)),
-            Err(_) => Err::OutOfMemory,
-        }
-    } else {
-        Err::Error(None)
     }
 }

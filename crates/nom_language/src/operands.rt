@@ -7,6 +7,7 @@ ghost use Rattle.nom_language.specs.Precedences.{expression_by, require_operands
 ghost use Rattle.nom_operators.specs.declared.operation.Operation.{Operation};
 ghost use Rattle.nom_language.specs.Words as Words;
 
+use crate::allocating::{FoldErrors, PlainFold};
 use crate::expression::Expression;
 use nom_error::answer::{Err, PResult};
 use nom_error::kind::ErrorKind;
@@ -23,8 +24,8 @@ use std::alloc::Allocator;
 
 /// The parser that `require_operands` returns: an expression that no operator follows.
 #[derive(Drop)]
-pub struct RequireOperands<A, C, T, G> {
-    pub expression: Expression<A, C, T, G>,
+pub struct RequireOperands<A, C, T, G, W = PlainFold> {
+    pub expression: Expression<A, C, T, G, W>,
 }
 
 impl<
@@ -34,13 +35,14 @@ impl<
     Q: Drop,
     B: Drop,
     O: Drop,
-    X: Drop,
+    Y: Drop,
     C: Parser<I, Output = Binary<B>, Error = T::Error> + Drop,
     T: Parser<I, Output = (Vec<Unary<P>, A>, O, Vec<Unary<Q>, A>)> + Drop,
-    G: Fn(Operation<P, Q, B, O>) -> Result<O, X>,
-> Parser<I> for RequireOperands<A, C, T, G>
+    G: Fn(Operation<P, Q, B, O>) -> Result<O, Y>,
+    W: FoldErrors<O, Y>,
+> Parser<I> for RequireOperands<A, C, T, G, W>
 where
-    T::Error: FromExternalError<I, X>,
+    T::Error: FromExternalError<I, W::Refusal>,
 {
     ghost use Rattle.nom_language.specs.laws.LanguageLaws.{evaluated_lawful, require_operands_lawful};
 
@@ -54,14 +56,15 @@ where
 
     ghost Tree = { T.Tree × List (C.Tree × T.Tree) };
 
-    ghost grammar = { λ s. require_operands_of I.model T.Error.errors (C.grammar s.0) (expression_by I.model T.Error.errors T.Error.externals
-        ((x : Operation P Q B O) → G.pre s.2 x) (G.post s.2) (T.grammar s.1) (C.grammar s.0)) };
+    ghost grammar = { λ s. require_operands_of I.model T.Error.errors (C.grammar s.0) (expression_by I.model T.Error.errors T.Error.externals W.Tells
+        W.no_memory ((x : Operation P Q B O) → G.pre s.2 x) (G.post s.2) (T.grammar s.1) (C.grammar s.0)) };
 
     ghost word = { λ s. Words.require_operands_of I.model T.Error.errors (C.word s.0) (Words.expression_of I.model T.Error.errors T.Error.externals
-        (G.pre s.2) (G.post s.2) (T.word s.1) (C.word s.0)) };
+        W.Tells W.no_memory (G.pre s.2) (G.post s.2) (T.word s.1) (C.word s.0)) };
 
     ghost worded = { λ s. Words.require_operands_worded I.model T.Error.errors (C.worded s.0)
-        (Words.expression_worded I.model T.Error.errors T.Error.externals (G.pre s.2) (G.post s.2) (T.worded s.1) (C.worded s.0)) };
+        (Words.expression_worded I.model T.Error.errors T.Error.externals W.Tells W.no_memory (G.pre s.2) (G.post s.2) (T.worded s.1)
+        (C.worded s.0)) };
 
     fn process<OM: OutputMode>(&mut self, input: I) -> PResult<I, O, T::Error> {
         let (rest, value) = self.expression.process::<OM>(input)?;
@@ -70,7 +73,8 @@ where
     }
 
     ghost lawful = { λ s k. require_operands_lawful I.lawful T.Error.errors
-        (evaluated_lawful I.lawful T.Error.errors T.Error.externals {CanFold = Unit {0}} k.2 (T.lawful s.1 k.0) (C.lawful s.0 k.1)) (C.lawful s.0 k.1) };
+        (evaluated_lawful I.lawful T.Error.errors T.Error.externals {CanFold = Unit {0}} W.no_memory _ k.2 (T.lawful s.1 k.0) (C.lawful s.0 k.1))
+        (C.lawful s.0 k.1) };
 }
 
 impl<
@@ -80,13 +84,14 @@ impl<
     Q: Viewed + Drop,
     B: Viewed + Drop,
     O: Viewed + Drop,
-    X: Drop,
+    Y: Drop,
     C: StreamParser<I, Output = Binary<B>, Error = T::Error> + Drop,
     T: StreamParser<I, Output = (Vec<Unary<P>, A>, O, Vec<Unary<Q>, A>)> + Drop,
-    G: Fn(Operation<P, Q, B, O>) -> Result<O, X>,
-> StreamParser<I> for RequireOperands<A, C, T, G>
+    G: Fn(Operation<P, Q, B, O>) -> Result<O, Y>,
+    W: FoldErrors<O, Y>,
+> StreamParser<I> for RequireOperands<A, C, T, G, W>
 where
-    T::Error: FromExternalError<I, X>,
+    T::Error: FromExternalError<I, W::Refusal>,
 {
     ghost use Rattle.nom_language.specs.laws.LanguageLaws.{evaluated_steady, require_operands_steady};
     ghost use Rattle.nom_language.specs.laws.PinnedLaws.{expression_pinned};
@@ -99,7 +104,8 @@ where
         (C.pinned p.expression.pair.0 k.1 h.1) h.2 };
 
     ghost steady = { λ s k. require_operands_steady I.lawful T.Error.errors
-        (evaluated_steady I.lawful T.Error.errors T.Error.externals {CanFold = Unit {0}} k.2 (T.steady s.1 k.0) (C.steady s.0 k.1)) (C.steady s.0 k.1) };
+        (evaluated_steady I.lawful T.Error.errors T.Error.externals {CanFold = Unit {0}} W.no_memory _ k.2 (T.steady s.1 k.0) (C.steady s.0 k.1))
+        (C.steady s.0 k.1) };
 }
 
 // Refuses with `Precedence` if there is an operator.

@@ -1,15 +1,15 @@
 //! Operator precedence.
 ghost use Rattle.std.specs.Prelude.{◌≡◌};
 
-use crate::allocating::ExpressionAlloc;
 pub use crate::allocating::FoldError;
-use crate::expression::Expression;
+use crate::expression::{Expression, ExpressionAlloc};
 use crate::left::LeftAssoc;
 use crate::operator::{BinaryOp, UnaryOp};
 use nom_multi::{Many0, many0};
 pub use nom_operators::operation::{Assoc, Operation};
 pub use nom_operators::precedences::{Binary, Unary};
 use std::alloc::Allocator;
+use std::marker::PhantomData;
 
 /// Gives a prefix or a postfix its precedence.
 ///
@@ -81,6 +81,7 @@ pub fn precedence<A: Allocator + Copy, P, Q, C, F, G>(
         alloc,
         pair: (binary, term),
         fold,
+        of: PhantomData,
     }
 }
 
@@ -106,10 +107,11 @@ pub fn precedence_alloc<A: Allocator + Copy, P, Q, C, F, G>(
     ensures fold { result.fold ≡ fold }
 {
     let term = (many0(alloc, prefix), operand, many0(alloc, postfix));
-    ExpressionAlloc {
+    Expression {
         alloc,
         pair: (binary, term),
         fold,
+        of: PhantomData,
     }
 }
 

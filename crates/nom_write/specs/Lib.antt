@@ -4,7 +4,6 @@ pub mod Decimals
 pub mod FlatMaps
 pub mod Leads
 pub mod Lengths
-pub mod Maps
 pub mod Options
 pub mod Reads
 pub mod Runs

@@ -4,11 +4,11 @@ pub mod ChoiceReads
 pub mod DecimalReads
 pub mod FlatMapReads
 pub mod HexReads
+pub mod JudgedReads
 pub mod LeadLaws
 pub mod LeafReads
 pub mod LengthReads
 pub mod ListReads
-pub mod MapReads
 pub mod OutputReads
 pub mod RunReads
 pub mod SequenceReads

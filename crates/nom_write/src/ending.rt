@@ -1,14 +1,14 @@
 //! Formats that end a complete input. A list, an option, a number in digits and a run are read back there, though more input could make
 //! them longer.
 ghost use Rattle.std.specs.Prelude.{◌≡◌, false, None, Some, List, []};
+ghost use Rattle.std.specs.Fn.{FnReturnsAt};
 ghost use Rattle.nom_bytes.specs.laws.RunLaws.{run_lawful};
 ghost use Rattle.nom_character.specs.ClassRuns.{IsOf, class_lawful, least_of, wanted_error, wanted_grows};
 ghost use Rattle.nom_character_integer.specs.laws.IntegerLaws.{integer_lawful, range_of};
 ghost use Rattle.nom_error.specs.declared.kind.ErrorKind.TheVariants as Kind;
 ghost use Rattle.nom_traits.specs.declared.character.AsciiClass.TheVariants as Class;
 ghost use Rattle.nom_write.specs.Reads.{NoItemIn, ReadsAtEnd};
-ghost use Rattle.nom_write.specs.laws.ChoiceReads.{opt_ends};
-ghost use Rattle.nom_write.specs.laws.MapReads.{mapped_ends};
+ghost use Rattle.nom_write.specs.laws.ChoiceReads.{map_back_ends, opt_ends};
 ghost use Rattle.nom_write.specs.laws.DecimalReads.{decimal_ends};
 ghost use Rattle.nom_write.specs.laws.LeafReads.{binary_reads, byte_reads};
 ghost use Rattle.nom_write.specs.laws.ListReads.{many0_ends};
@@ -16,7 +16,7 @@ ghost use Rattle.nom_write.specs.laws.RunReads.{premised_ends, run_ends};
 ghost use Rattle.nom_write.specs.laws.SeparatedReads.{many1_ends};
 ghost use Rattle.nom_write.specs.laws.SequenceReads.{first_end, followed_ends, last_end, next_end, pair_ends, preceded_ends, tuple_ends};
 
-use crate::map::{Inverse, Mapping, WithBack};
+use crate::map::MapBoth;
 use crate::unmarked::Unmarked;
 use crate::writer::{Constant, Writer};
 use nom_bytes::predicate::Predicate;
@@ -41,6 +41,10 @@ use std::alloc::Allocator;
 pub trait Ending<I: Items>: Writer<I> {
     /// What a caller of `parse_end_back` must prove: that the last part is read back at the end, and that it may follow the one before.
     ghost MayEnd: { Self → Type 0 } = { λ _. Unit {0} };
+
+    /// Does nothing. A value is written through `Writer`.
+    #[inline(always)]
+    fn ending() {}
 
     /// Each form that ends a complete input is read back as its value.
     ghost ends: { (p : Self) → (Self.grammar (Self.state p)).meaning.IsSound → Self.CanWrite p → MayEnd p → ReadsAtEnd I.model
@@ -124,15 +128,15 @@ impl<I: Items, F: Ending<I> + Drop> Ending<I> for Opt<F> {
 
 impl<
     I: Items,
-    P: Ending<I>,
+    F: Ending<I> + Drop,
     O: Viewed + Drop,
-    M: Mapping<I, Part = P, Output = O>,
-    H: Inverse<O, P::Output>,
-> Ending<I> for WithBack<M, H> {
-    ghost MayEnd = { λ p. P.MayEnd (M.part p.map) };
+    G: Fn(F::Output) -> O,
+    H: Fn(&O) -> Option<F::Output>,
+> Ending<I> for MapBoth<F, G, H> {
+    ghost MayEnd = { λ p. F.MayEnd p.map.parser };
 
-    ghost ends = { λ p k c e. mapped_ends (λ v x. H.Returns p.back v (Some x)) (M.outcomes p.map k) c.2
-        (P.ends (M.part p.map) (M.sound p.map k) c.0 e) };
+    ghost ends = { λ p k c e. map_back_ends (G.pre p.map.map) (G.post p.map.map) (λ v x. FnReturnsAt H.Fn p.back v (Some x)) c.2 (F.ends
+        p.map.parser k c.0 e) };
 }
 
 impl<I: Items, F: Constant<I> + Drop, G: Ending<I, Error = F::Error> + Drop> Ending<I>

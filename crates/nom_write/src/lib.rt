@@ -19,6 +19,8 @@ pub mod hexadecimal;
 pub mod length;
 pub mod list;
 pub mod map;
+pub mod map_opt;
+pub mod map_res;
 pub mod number;
 pub mod outputs;
 mod piece;
@@ -38,10 +40,9 @@ pub mod writer;
 pub use crate::ending::Ending;
 pub use crate::flat_map::{FlatMapBoth, flat_map_both};
 pub use crate::hexadecimal::hex_u32;
-pub use crate::map::{
-    Inverse, MapBoth, MapOptBoth, MapResBoth, Mapping, WithBack, map_both, map_opt_both,
-    map_res_both,
-};
+pub use crate::map::{MapBoth, map_both};
+pub use crate::map_opt::{MapOptBoth, map_opt_both};
+pub use crate::map_res::{MapResBoth, map_res_both};
 pub use crate::slices::write_to_slice;
 pub use crate::writer::{Constant, Writer};
 pub use nom_sink::{Sink, SliceSink, TextSink, WriteError, error, sink, slice_sink};

@@ -156,6 +156,15 @@ module _ {I A V O E : Type 0} {w : Model I A} {g : Grammar I V O E} {Form : O �
             );
       }
 
+  pub map_back_ends : {R : Type 0} (IsTaken : O → Type 0) (Gives : O → R → Type 0) (Back : R → O → Type 0) →
+      ((v : R) (x : O) → Back v x → Gives x v) → ReadsAtEnd w g Form →
+      ReadsAtEnd w (map_by IsTaken Gives g) (λ v xs. (x : O) × Back v x × Form x xs)
+  map_back_ends {R} IsTaken Gives Back again p = record {
+    reads = λ v xs f. become_reads w (λ a. a) (λ u. u) (λ n u. refl) (g.meaning.answers false) (λ u. g.IsOutput u f.0) (λ t.
+        (map_by IsTaken Gives g).IsOutput t v)
+        IsEnd IsEnd xs (λ rest k. k) (λ u k. record { output = f.0; is_output = k; given = again v f.0 f.1 }) (p.reads f.0 xs f.2);
+  }
+
 -- a part on a condition
 pub cond_reads : {I A V O E : Type 0} (w : Model I A) (g : Grammar I V O E) (Form : O → List A → Type 0) (Follow : List A → Type 0) (Can : Type 0) →
     (g.meaning.IsSound → Can → Reads w g Form Follow) → (b : Bool) → (cond_of b g).meaning.IsSound → WhereRun b Can →

@@ -1,15 +1,15 @@
 -- Forms of a part whose outcome becomes another: its acceptances alone become acceptances, of the same length.
-use Rattle.std.specs.Prelude.{◌≡◌, ℕ, Bool, true, false, List, refl}
+use Rattle.std.specs.Prelude.{◌≡◌, ℕ, Bool, true, false, List, Option, Some, is_some, Result, Ok, is_ok, refl}
 use Rattle.std.proofs.Common.{sym, ap, subst}
-use Rattle.nom_internal.specs.Prelude.{Accept, Errors, Fails, GivesFor, Grammar, Model, Needs, OnPart, Outcome, Passes, Refuse, Stop}
-use Rattle.nom_internal.specs.Prelude.{labelled}
+use Rattle.nom_internal.specs.Prelude.{Accept, Errors, Fails, GivesFor, Grammar, Judged, Model, Needs, OnPart, Outcome, Passes, Refuse, Stop}
+use Rattle.nom_internal.specs.Prelude.{kept_if, labelled, map_by}
 use Rattle.nom_branch.specs.Alternatives.{alt_of}
 use Rattle.nom_combinator.specs.Contexts.{context_of}
 use Rattle.nom_combinator.specs.Outputs.{GivesValue, value_by, verify_by}
 use Rattle.nom_combinator.specs.Verdicts.{complete_of, complete_outcome, cut_of, cut_outcome}
-use Rattle.nom_error.specs.Errors.{Contexts}
-use Rattle.nom_write.specs.Maps.{GivesOutputs}
-use Rattle.nom_write.specs.laws.MapReads.{judged}
+use Rattle.nom_error.specs.Errors.{Contexts, Externals}
+use Rattle.nom_internal.specs.Judged.{map_opt_by, map_res_by}
+use Rattle.nom_write.specs.laws.JudgedReads.{judged_by}
 use Rattle.nom_write_canonical.specs.Forms.{AcceptsForms, AcceptsItems, AcceptsOnly, FormOf, HasFront, IsOneForm}
 
 -- the same items, by another fact
@@ -55,6 +55,18 @@ complete_only Refuse n t e = absurd (cc (e))
 complete_only (Stop (Fails cause)) n t e = absurd (cc (e))
 complete_only (Stop (Needs k)) n t e = absurd (cc (e))
 
+kept_accepts : {V : Type 0} (b : Bool) (m n : ℕ) (t u : V) → Accept n t ≡ kept_if b (Accept m u) → (m ≡ n) × (u ≡ t)
+kept_accepts true m n t u e = (cc (e), cc (e))
+kept_accepts false m n t u e = absurd (cc (e))
+
+-- what is accepted by a judge the part accepts
+judged : {I V R : Type 0} (F : I → Outcome V → Type 0) (Says : V → R → Type 0) (fits : R → Bool) (i : I) (n : ℕ) (t : V) (o : Outcome V) → F i o →
+    Passes (Judged Says fits) o (Accept n t) → F i (Accept n t)
+judged F Says fits i n t (Accept m u) h k =
+    let r = kept_accepts (fits k.0) m n t u k.2 in subst (λ z. F i (Accept n z)) r.1 (subst (λ z. F i (Accept z u)) r.0 h)
+judged F Says fits i n t Refuse h k = absurd (cc (k))
+judged F Says fits i n t (Stop why) h k = absurd (cc (k))
+
 module _ {I A V O E : Type 0} {w : Model I A} {g : Grammar I V O E} {Form : O → List A → Type 0} where
   -- a choice whose error is closed
   pub alt_accepts : (errs : Errors I E) → AcceptsForms w g Form → AcceptsForms w (alt_of errs g) Form
@@ -80,6 +92,15 @@ module _ {I A V O E : Type 0} {w : Model I A} {g : Grammar I V O E} {Form : O �
         (p.accepts s);
   }
 
+  -- a map with a map back, that takes each value to an output which gives it
+  pub map_back_accepts : {R : Type 0} (IsTaken : O → Type 0) (Gives : O → R → Type 0) (Back : R → O → Type 0) →
+      ((x : O) (v : R) → Gives x v → Back v x) → AcceptsForms w g Form → AcceptsForms w (map_by IsTaken Gives g) (λ v xs. (x : O) × Back v x × Form x xs)
+  map_back_accepts IsTaken Gives Back back p = record {
+    accepts = λ s. become_accepts w (λ a. a) (λ u. u) (λ a n t e. (t, sym e, refl)) (g.meaning.answers s) (FormOf g Form)
+        (FormOf (map_by IsTaken Gives g) (λ v xs. (x : O) × Back v x × Form x xs))
+        (λ u xs f v k. (k.output, back k.output v k.given, f k.output k.is_output)) (p.accepts s);
+  }
+
   -- outputs that pass a test
   pub verify_accepts : (errs : Errors I E) (Takes : O → Type 0) (Says : O → Bool → Type 0) → AcceptsForms w g Form →
       AcceptsForms w (verify_by errs Takes Says g) (λ v xs. Says v true × Form v xs)
@@ -94,15 +115,32 @@ module _ {I A V O E : Type 0} {w : Model I A} {g : Grammar I V O E} {Form : O �
         )) (p.accepts s);
   }
 
--- a map with a map back, that takes each value to an output of which the closure gives it
-pub mapped_accepts : {I A V U O R E F : Type 0} {w : Model I A} {g : Grammar I V O E} {h : Grammar I U R F} {Gives : O → R → Type 0}
-    {Form : O → List A → Type 0} → GivesOutputs g h Gives → (Back : R → O → Type 0) → ((x : O) (v : R) → Gives x v → Back v x) → AcceptsForms w g Form →
-    AcceptsForms w h (λ v xs. (x : O) × Back v x × Form x xs)
-mapped_accepts {O = O} {g = g} {h} {Form = Form} m Back back p = record {
-  accepts = λ s. part_accepts (g.meaning.answers s) (h.meaning.answers s) (FormOf g Form) (FormOf h (λ v xs. (x : O) × Back v x × Form x xs))
-      (λ i n t a.
-      let k = m.accepted s i n t a in (k.0, k.1, λ xs f v is. let y = k.2 v is in (y.0, back y.0 v y.2, f y.0 y.1))) (p.accepts s);
-}
+-- a closure that maps or refuses, with a map back
+module _ {I A V O R P E : Type 0} {w : Model I A} {g : Grammar I V O E} {Form : O → List A → Type 0} (Takes : O → Type 0) (Gives : O → R → Type 0)
+    (fits : R → Bool) (Makes : I → R → E → Type 0) (Grows : Type 0) (fit : P → R) (Back : P → O → Type 0) where
+  judged_back_accepts : ((x : O) (v : P) → Gives x (fit v) → Back v x) → AcceptsForms w g Form →
+      AcceptsForms w (judged_by Takes Gives fits Makes Grows fit g) (λ v xs. (x : O) × Back v x × Form x xs)
+  judged_back_accepts back p = record {
+    accepts = λ s. part_accepts (g.meaning.answers s) ((judged_by Takes Gives fits Makes Grows fit g).meaning.answers s) (FormOf g Form)
+        (FormOf (judged_by Takes Gives fits Makes Grows fit g) (λ v xs. (x : O) × Back v x × Form x xs))
+        (λ i n t a. (
+          t,
+          judged (g.meaning.answers s) (GivesFor g.IsOutput Gives) fits i n t a.outcome (subst (λ z. g.meaning.answers s z a.outcome) (sym a.at_is)
+              a.answered) a.fact,
+          λ xs f v k. (k.output, back k.output v k.given, f k.output k.is_output),
+        )) (p.accepts s);
+  }
+
+module _ {I A V O P E : Type 0} {w : Model I A} {g : Grammar I V O E} {Form : O → List A → Type 0} (Takes : O → Type 0) where
+  pub map_opt_back_accepts : (errs : Errors I E) (Gives : O → Option P → Type 0) (Back : P → O → Type 0) →
+      ((x : O) (v : P) → Gives x (Some v) → Back v x) → AcceptsForms w g Form →
+      AcceptsForms w (map_opt_by errs Takes Gives g) (λ v xs. (x : O) × Back v x × Form x xs)
+  map_opt_back_accepts errs Gives Back back p = judged_back_accepts Takes Gives is_some _ errs.grows Some Back back p
+
+  pub map_res_back_accepts : {X : Type 0} (externals : Externals I X E) (Gives : O → Result P X → Type 0) (Back : P → O → Type 0) →
+      ((x : O) (v : P) → Gives x (Ok v) → Back v x) → AcceptsForms w g Form →
+      AcceptsForms w (map_res_by externals Takes Gives g) (λ v xs. (x : O) × Back v x × Form x xs)
+  map_res_back_accepts externals Gives Back back p = judged_back_accepts Takes Gives is_ok _ externals.grows Ok Back back p
 
 -- items that stand for a value
 pub value_accepts : {I A V O R E : Type 0} {w : Model I A} (g : Grammar I V O E) (value : R) (IsSure : Type 0) (IsClone : R → Type 0) (items : List A) →

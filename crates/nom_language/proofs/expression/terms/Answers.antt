@@ -13,7 +13,7 @@ use Rattle.nom_operators.specs.declared.operation.Operation.{Operation}
 use Rattle.nom_language.specs.helpers.Accumulated.{PairPushes}
 use Rattle.nom_language.specs.Precedences.{PrefixesWait, operator_and_term_meaning}
 use Rattle.nom_language.specs.declared.evaluation.Evaluation.{Evaluation}
-use Rattle.nom_language.proofs.EvaluationShown.{runs_out_beside, built_some, closed_lacks, evaluated_built, term_waits, that_some}
+use Rattle.nom_language.proofs.EvaluationShown.{runs_out_beside, closed_lacks, of_built, evaluated_built, term_waits, that_some}
 use Rattle.nom_language.proofs.expression.terms.Given as given
 use Rattle.nom_language.proofs.expression.terms.Goals as goal
 
@@ -63,8 +63,17 @@ returns-in_err-end-in-Some-clause-shown g c =
     }) c.process-read.ensures.kept c.in_err-end-in-Some.ensures.shown in
     runs_out_beside (then_ok g.met.I.Items.lawful closed (λ t b. output_err more c.from_residual-in_err-end-in-Some.ensures))
 
-pub evaluated-requires : goal.evaluated-requires
-evaluated-requires g c = built_some _ _ c.in_ok-end-in-Some.all (λ k a. a.ready) (accepts c.in_ok-end-in-Some.ensures.shown).built_is
+pub emitted-requires-in-Some : goal.emitted-requires-in-Some
+emitted-requires-in-Some g c = subst IsSome (sym (accepts c.in_ok-end-in-Some.ensures.shown).built_is.1) refl
+
+pub value_of-requires-clause-some : goal.value_of-requires-clause-some
+value_of-requires-clause-some g c = (of_built _ _ _ c.emitted-in-Some.ensures (accepts c.in_ok-end-in-Some.ensures.shown).built_is).ready.0
+
+pub value_of-requires-clause-nested : goal.value_of-requires-clause-nested
+value_of-requires-clause-nested g c = (of_built _ _ _ c.emitted-in-Some.ensures (accepts c.in_ok-end-in-Some.ensures.shown).built_is).ready.1
+
+pub value_of-requires-clause-fold : goal.value_of-requires-clause-fold
+value_of-requires-clause-fold g c = (of_built _ _ _ c.emitted-in-Some.ensures (accepts c.in_ok-end-in-Some.ensures.shown).built_is).ready.2
 
 pub returns-in_ok-end-in-Some-clause-shown : goal.returns-in_ok-end-in-Some-clause-shown
 returns-in_ok-end-in-Some-clause-shown g c =
@@ -81,7 +90,7 @@ returns-in_ok-end-in-Some-clause-shown g c =
     }) c.process-read.ensures.kept c.in_ok-end-in-Some.ensures.shown in
     runs_out_beside (then_ok g.met.I.Items.lawful closed (λ t b. output_ok more (λ us k. evaluated_built (λ (z : Accumulator g). z.partial) (λ z. z.outer.items)
     (λ z. z.fold.now) (λ f o r. g.G.Fn.post f (o, tt) r) term.IsOutput binary.IsOutput (CanPush g) t us c.args.fold.now _ c.emitted.result c.in-Some.begun
-    _ _ c.emitted.ensures b c.in-Some.ensures.read c.in-Some.ensures.fold k c.evaluated.ensures)))
+    _ _ _ c.emitted.ensures b c.in-Some.ensures.read c.in-Some.ensures.fold c.emitted-in-Some.ensures k c.value_of.ensures)))
 
 pub returns-in-None-clause-shown : goal.returns-in-None-clause-shown
 returns-in-None-clause-shown g c =
