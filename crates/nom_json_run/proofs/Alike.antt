@@ -92,7 +92,8 @@ fails_for_map bytes Fails Others i j fault le other h = record {
 }
 
 -- a number, by its parts
-pub number_of_parts : (i j k l : List ℕ) → j ≡ after_one (in_class Minus) i → after_integer j ≡ Some k → after_fraction k ≡ Some l → after_number i ≡ after_exponent l
+pub number_of_parts : (i j k l : List ℕ) → j ≡ after_one (in_class Minus) i → after_integer j ≡ Some k → after_fraction k ≡ Some l →
+    after_number i ≡ after_exponent l
 number_of_parts i j k l m w f =
     ap (λ x. and_then (and_then (after_integer x) after_fraction) after_exponent) (sym m)
     ∙ (ap (λ x. and_then (and_then x after_fraction) after_exponent) w ∙ ap (λ x. and_then x after_exponent) f)

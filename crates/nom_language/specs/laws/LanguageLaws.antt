@@ -2,7 +2,8 @@
 use Rattle.std.specs.Prelude.{List, Option, Some, None, Result, is_ok}
 use Rattle.std.proofs.Common.{inl, inr}
 use Rattle.nom_error.specs.Errors.{Errors, Externals}
-use Rattle.nom_internal.specs.Prelude.{Meaning, Model, Modes, InputLaws, IsLawful, IsSteady, IsJudge, premised, premised_lawful, premised_steady, sequence_meaning}
+use Rattle.nom_internal.specs.Prelude.{Meaning, Model, Modes, InputLaws, IsLawful}
+use Rattle.nom_internal.specs.Prelude.{IsSteady, IsJudge, premised, premised_lawful, premised_steady, sequence_meaning}
 use Rattle.nom_internal.specs.laws.CaseLaws.{closed_lawful, closed_steady}
 use Rattle.nom_internal.specs.laws.JudgedLaws.{judged_lawful, judged_steady}
 use Rattle.nom_internal.specs.laws.SequenceLaws.{sequence_lawful, sequence_steady}

@@ -33,6 +33,6 @@ returns-else-class_at-clause-ok c =
     record {
       begins = omega arith;
       within = c.requires;
-      follows = λ bs s. passed_over (after_digits1 (after_one (in_class Sign) (rest (drop start bs)))) (Some (drop start bs)) (first_is (in_class Mark) (drop start bs))
-          (first_there (in_class Mark) c.args.bytes.now bs start start false (omega arith) s e);
+      follows = λ bs s. passed_over (after_digits1 (after_one (in_class Sign) (rest (drop start bs)))) (Some (drop start bs))
+          (first_is (in_class Mark) (drop start bs)) (first_there (in_class Mark) c.args.bytes.now bs start start false (omega arith) s e);
     }
