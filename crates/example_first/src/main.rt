@@ -4,18 +4,18 @@
 
 ghost use Rattle.std.specs.Prelude.{◌≡◌, ◌++◌, IfOk, length, string_bytes};
 ghost use Rattle.nom_run.specs.Report.{IsTold};
-ghost use Rattle.nom_run.specs.Stream.{NoneAbove};
+ghost use Rattle.nom_run.specs.Runs.{NoneAbove};
 ghost use Rattle.nom_run.specs.Texts.{decided_text, rest_text};
 ghost use Rattle.example_first.specs.First.{IsReport, record_text};
 
 use nom::bytes::{tag, take};
 use nom::error::Error;
 use nom::{Err, IResult, Items, OutOfMemory, Parser, parse_growing};
-use nom_run::counted::Counted;
+use nom_io::counted::Counted;
+use nom_io::stream::Sink;
 use nom_run::error::RunError;
 use nom_run::program::status_of;
 use nom_run::report::{Report, beginning_len, write_built};
-use nom_run::stream::Sink;
 use nom_run::text::{add_bytes, add_decided, add_error, add_failure, add_need, add_rest};
 use std::alloc::Allocator;
 use std::io;

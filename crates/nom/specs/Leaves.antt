@@ -1,5 +1,5 @@
 -- The leaves of grammars over inputs whose items are bytes or characters, as code points.
-use Rattle.std.specs.Prelude.{◌≡◌, ◌*◌, ℕ, ℤ, pos, Bool, true, false, List, Option, Some, None, FitsSigned, length, Contains}
+use Rattle.std.specs.Prelude.{◌≡◌, ◌-◌, ◌*◌, ◌^◌, ℕ, ℤ, pos, Bool, true, false, List, Option, Some, None, FitsSigned, length, Contains}
 use Rattle.std.specs.Int.{Width, FitsUnsignedBits}
 use Rattle.nom_error.specs.declared.kind.ErrorKind.TheVariants as Kind
 use Rattle.nom_internal.specs.Prelude.{Errors, ErrorKind, CompareResult, Model}
@@ -10,6 +10,7 @@ use Rattle.nom_bytes.specs.Tests.{Test, failing, outside, passing, within}
 use Rattle.nom_bytes.specs.Words as Bytes
 use Rattle.nom_character.specs.Tests.{char_outside, char_passing, char_within}
 use Rattle.nom_character.specs.Words as Character
+use Rattle.nom_character_digits.specs.Words as Digits
 use Rattle.nom_character_integer.specs.Words as Integer
 use Rattle.nom_combinator.specs.Words as Combinator
 use Rattle.nom_number.specs.Numbers.{signed_of}
@@ -146,6 +147,10 @@ module _ {I E : Type 0} (w : Model I ℕ) (errs : Errors I E) where
 
   abbrev pub signed_decimal_of : Width → Word I ℤ E
   signed_decimal_of width = Integer.integer_of w errs (λ x. x) (λ z. z) (λ z. FitsSigned width z) true
+
+  -- a number below 2^bits in m to n digits of a base
+  abbrev pub digits_of : (bits base m n : ℕ) → Word I ℕ E
+  digits_of bits base m n = Digits.digits_of w errs (λ x. x) (λ v. v) (2 ^ bits - 1) base m n
 
   -- hexadecimal digits, eight at most, as a number; the shape of a decimal fraction
   abbrev pub hex_u32_of : Word I ℕ E

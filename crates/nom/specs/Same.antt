@@ -11,6 +11,7 @@ use Rattle.nom_bytes.specs.Tests.{failing_same, outside_same, passing_same, with
 use Rattle.nom_bytes.specs.Words.{bounded_same, run_same, run1_same, tag_same, take_same, until_same}
 use Rattle.nom_character.specs.Tests.{char_outside_same, char_passing_same, char_within_same}
 use Rattle.nom_character.specs.Words.{char_same, class_same, satisfy_same}
+use Rattle.nom_character_digits.specs.Words.{digits_same}
 use Rattle.nom_character_integer.specs.Words.{integer_same}
 use Rattle.nom_number.specs.Words.{number_same}
 use Rattle.nom_sequence.specs.Words.{preceded_same, terminated_same}
@@ -65,6 +66,7 @@ pub ruleset words = (
   char_passing_same,
   number_same,
   integer_same,
+  digits_same,
   given_same,
   stream_given_same,
   cut_same,

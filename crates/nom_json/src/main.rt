@@ -3,13 +3,13 @@
 //! `nom_json --lines FILE`: the same for each line of the file. `-` in place of a file is standard input.
 #![tactic(auto)]
 
+use nom_io::counted::Counted;
+use nom_io::stream::Sink;
 use nom_json_run::lines::tell_lines;
 use nom_json_run::report::Checked;
-use nom_run::counted::Counted;
 use nom_run::error::RunError;
 use nom_run::program::{status_of, tell_fault};
 use nom_run::run::run;
-use nom_run::stream::Sink;
 use nom_stream::settings::Settings;
 use nom_stream::stream::Stream;
 use std::alloc::Global;

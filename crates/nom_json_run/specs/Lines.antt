@@ -1,13 +1,15 @@
 -- JSON Lines: what is told of lines that come one after another.
 use Rattle.std.specs.Prelude.{◌≡◌, ℕ, ◌+◌, ◌-◌, ◌^◌, ◌==◌, ◌⊎◌, min, Bool, true, false, if◌then◌else◌, List, [], ◌++◌, take, count_by}
-use Rattle.std.specs.Prelude.{IsUtf8, Option, None, Some, Ok, Err, codes}
+use Rattle.std.specs.Prelude.{IsUtf8, Option, None, Some, Result, Ok, Err, codes}
 use Rattle.std.specs.Fmt.{decimal}
-use Rattle.std.specs.Io.KnownBytes.{Appends}
 use Rattle.std.specs.List.{before_first}
 use Rattle.std.specs.Str.Lossy.{utf8_valid_len}
 use Rattle.nom_located.specs.Lines.{begins_character}
 use Rattle.nom_stream.specs.Lines.{line_of}
-use Rattle.nom_run.specs.Stream.{WroteFront}
+use Rattle.nom_io.specs.Account.{Account}
+use Rattle.nom_io.specs.Written.{Wrote, WroteFront}
+use Rattle.nom_run.specs.declared.error.RunError.{RunError}
+use Rattle.nom_run.specs.declared.error.RunError.TheVariants as Error
 use Rattle.nom_stream.specs.declared.stream.Stop as Stops
 use Rattle.nom_stream.specs.declared.stream.Stop.TheVariants as Stop
 use Rattle.nom_stream.specs.declared.stream.Stream.{Stream}
@@ -50,15 +52,6 @@ abbrev pub IsLine : (number inside : ℕ) (bytes text : List ℕ) (before then_ 
 IsLine number inside bytes text before then_ =
     (IsJson bytes × (text ≡ []) × (then_ ≡ before)) ⊎ ((IsJson bytes → ⊥) × IsLineText number inside bytes text × (then_ ≡ true))
 
--- what is told of a line was written
-abbrev pub ListsLine : (held held' : Option (List ℕ)) (number inside : ℕ) (bytes : List ℕ) (before then_ : Bool) → Type 0
-ListsLine held held' number inside bytes before then_ = (text : List ℕ) × IsLine number inside bytes text before then_ × Appends held held' text
-
--- a beginning of it was, and not all
-abbrev pub BeginsLine : (held held' : Option (List ℕ)) (number inside : ℕ) (bytes : List ℕ) (before : Bool) → Type 0
-BeginsLine held held' number inside bytes before =
-    (text : List ℕ) × (then_ : Bool) × IsLine number inside bytes text before then_ × WroteFront held held' text
-
 -- no line comes, other than for a limit or for want of memory: so it is where a read failed
 abbrev pub IsUnread : Stops.Stop → Type 0
 IsUnread (Stop.Refused kind len) = Unit {0}
@@ -79,39 +72,48 @@ pub data CheckedLines {R A : Type 0} (left : R → Option (List ℕ)) (s : Strea
       Decides left line_of t u (Ok (Some (n, x))) → (IsJson (last_of n u.held) → ⊥) → IsLineText (count + 1) x (last_of n u.held) more →
       CheckedLines left s (count + 1) u (text ++ more) true
 
-module _ {R A : Type 0} (left : R → Option (List ℕ)) (s t : Stream R A) (held held' : Option (List ℕ)) where
+module _ {R A : Type 0} (left : R → Option (List ℕ)) (s t : Stream R A) (a b : Account) where
   -- that many lines came, and what is told of them was written
   pub record Going (count : ℕ) (wrong : Bool) : Type 0 where
     pub text : List ℕ
     pub lines : CheckedLines left s count t text wrong
-    pub wrote : Appends held held' text
+    pub wrote : Wrote a b text
 
--- The lines came to the end of the data, and what is told of them was written, with status 1 where there is a wrong one, and else 0;
--- or the next one was longer than may be held, which is told too, with status 3.
-pub record ToldLines {R A : Type 0} (left : R → Option (List ℕ)) (s t : Stream R A) (held held' : Option (List ℕ)) (status : ℕ) : Type 0 where
-  pub count : ℕ
-  pub before : Stream R A
-  pub text : List ℕ
-  pub wrong : Bool
-  pub lines : CheckedLines left s count before text wrong
-  pub ends : (Decides left line_of before t (Ok None) × (status ≡ (if wrong then 1 else 0)) × Appends held held' text) ⊎
-      (Decides left line_of before t (Err Stop.TooLong) × (status ≡ 3) × Appends held held' (text ++ long_line (count + 1)))
+  -- The lines came to the end of the data, and what is told of them was written, with status 1 where there is a wrong one, and else 0;
+  -- or the next one was longer than may be held, which is told too, with status 3.
+  pub record ToldLines (status : ℕ) : Type 0 where
+    pub count : ℕ
+    pub before : Stream R A
+    pub text : List ℕ
+    pub wrong : Bool
+    pub lines : CheckedLines left s count before text wrong
+    pub ends : (Decides left line_of before t (Ok None) × (status ≡ (if wrong then 1 else 0)) × Wrote a b text) ⊎
+        (Decides left line_of before t (Err Stop.TooLong) × (status ≡ 3) × Wrote a b (text ++ long_line (count + 1)))
 
 -- What was written where there is no status: what is told of the lines before one.
-module _ {R A : Type 0} (left : R → Option (List ℕ)) (s t : Stream R A) (held held' : Option (List ℕ)) where
+module _ {R A : Type 0} (left : R → Option (List ℕ)) (s t : Stream R A) (a b : Account) where
   -- the stream gave no line after them, and says why; or they are as many as can be counted
   abbrev pub ReadsNoLine : Type 0
-  ReadsNoLine = (count : ℕ) × (before : Stream R A) × (wrong : Bool) × Going left s before held held' count wrong ×
+  ReadsNoLine = (count : ℕ) × (before : Stream R A) × (wrong : Bool) × Going left s before a b count wrong ×
       (((why : Stops.Stop) × Decides left line_of before t (Err why) × IsUnread why) ⊎ ((count ≡ 2 ^ 64 - 1) × (t ≡ before)))
 
-  -- and a beginning of what is told of that one
+  -- and a beginning of what is told of that one, until a write failed
   abbrev pub BeginsNext : Type 0
-  BeginsNext = (count : ℕ) × (before : Stream R A) × (wrong : Bool) × (between : Option (List ℕ)) × Going left s before held between count wrong ×
-      (((n x : ℕ) × Decides left line_of before t (Ok (Some (n, x))) × BeginsLine between held' (count + 1) x (last_of n t.held) wrong) ⊎
-      (Decides left line_of before t (Err Stop.TooLong) × WroteFront between held' (long_line (count + 1))))
+  BeginsNext = (count : ℕ) × (before : Stream R A) × (wrong : Bool) × (between : Account) × Going left s before a between count wrong ×
+      (((n x : ℕ) × Decides left line_of before t (Ok (Some (n, x))) ×
+      ((text : List ℕ) × (then_ : Bool) × IsLine (count + 1) x (last_of n t.held) text wrong then_ × WroteFront between b text)) ⊎
+      (Decides left line_of before t (Err Stop.TooLong) × WroteFront between b (long_line (count + 1))))
 
   -- memory was wanted by the stream, or for what is told of that one
   abbrev pub LacksNext : Type 0
-  LacksNext = (count : ℕ) × (before : Stream R A) × (wrong : Bool) × Going left s before held held' count wrong ×
+  LacksNext = (count : ℕ) × (before : Stream R A) × (wrong : Bool) × Going left s before a b count wrong ×
       (Decides left line_of before t (Err Stop.OutOfMemory) ⊎ Decides left line_of before t (Err Stop.TooLong) ⊎
       ((n x : ℕ) × Decides left line_of before t (Ok (Some (n, x)))))
+
+  -- by what is answered
+  abbrev pub ListsLines : Result ℕ RunError → Type 0
+  ListsLines (Ok status) = ToldLines left s t a b status
+  ListsLines (Err Error.Read) = ReadsNoLine
+  ListsLines (Err Error.Write) = BeginsNext
+  ListsLines (Err Error.OutOfMemory) = LacksNext
+  ListsLines (Err Error.Usage) = ⊥

@@ -1,20 +1,18 @@
 //! JSON Lines: a JSON text in each line, from a reader of any length.
-ghost use Rattle.std.specs.Prelude.{◌≡◌, ◌++◌, ◌≤◌, ◌<◌, ◌^◌, ◌==◌, ◌⊎◌, ⊤, Option, if◌then◌else◌, IfErr, IfOk, count_by, length, string_bytes};
-ghost use Rattle.std.specs.Io.KnownBytes.{Appends};
+ghost use Rattle.std.specs.Prelude.{◌≡◌, ◌++◌, ◌≤◌, ◌<◌, ◌^◌, ◌==◌, ◌⊎◌, ⊤, Option, if◌then◌else◌, Err, IfOk, count_by, length, string_bytes};
 ghost use Rattle.std.specs.List.{before_first};
 ghost use Rattle.nom_located.specs.Lines.{begins_character};
-ghost use Rattle.nom_run.specs.Stream.{MatchRunError, NoWriteFailed, WriteFailed, WroteFront};
-ghost use Rattle.nom_json_run.specs.Lines.{BeginsLine, BeginsNext, IsFaultLine, IsLine, IsOctetsLine, IsUnread, LacksNext};
-ghost use Rattle.nom_json_run.specs.Lines.{ListsLine, ReadsNoLine, ToldLines, fault_line, long_line};
+ghost use Rattle.nom_run.specs.Runs.{Tells};
+ghost use Rattle.nom_json_run.specs.Lines.{IsFaultLine, IsLine, IsOctetsLine, IsUnread, ListsLines, fault_line, long_line};
 
 use crate::bracket::Fault;
 use crate::check::verdict;
 use crate::report::{error_of, named};
 use nom_error::answer::OutOfMemory;
+use nom_io::stream::Sink;
 use nom_report::{Placed, render_bytes, render_from};
 use nom_run::error::RunError;
 use nom_run::run::write_all;
-use nom_run::stream::Sink;
 use nom_stream::lines::Lines;
 use nom_stream::stream::{Stop, Stream};
 use std::alloc::Allocator;
@@ -152,11 +150,8 @@ fn list<A: Allocator + Copy, W: Sink>(
     line: &[u8],
     wrong: bool,
 ) -> Result<bool, RunError>
-    ensures wrote { IfOk result (λ then_. ListsLine (W.held sink.old) (W.held sink.new) number inside line.now wrong then_
-        × NoWriteFailed (W.failures sink.old) (W.failures sink.new) (W.stalls sink.old) (W.stalls sink.new)) }
-    ensures error { IfErr result (λ e. MatchRunError e ⊥
-        (BeginsLine (W.held sink.old) (W.held sink.new) number inside line.now wrong
-        × WriteFailed (W.failures sink.old) (W.failures sink.new) (W.stalls sink.old) (W.stalls sink.new)) (sink.new ≡ sink.old) ⊥) }
+    ensures { Tells (λ text then_. IsLine number inside line.now text wrong then_) (W.account sink.old) (W.account sink.new)
+        (sink.new ≡ sink.old) result }
 {
     let found = match told(alloc, number, inside, line, wrong) {
         Ok(found) => found,
@@ -175,11 +170,8 @@ fn tell_too_long<A: Allocator + Copy, W: Sink>(
     sink: &mut W,
     number: u64,
 ) -> Result<u8, RunError>
-    ensures wrote { IfOk result (λ status. (status ≡ 3) × Appends (W.held sink.old) (W.held sink.new) (long_line number)
-        × NoWriteFailed (W.failures sink.old) (W.failures sink.new) (W.stalls sink.old) (W.stalls sink.new)) }
-    ensures error { IfErr result (λ e. MatchRunError e ⊥
-        (WroteFront (W.held sink.old) (W.held sink.new) (long_line number)
-        × WriteFailed (W.failures sink.old) (W.failures sink.new) (W.stalls sink.old) (W.stalls sink.new)) (sink.new ≡ sink.old) ⊥) }
+    ensures { Tells (λ text status. (text ≡ long_line number) × (status ≡ 3)) (W.account sink.old) (W.account sink.new)
+        (sink.new ≡ sink.old) result }
 {
     let text = match line_text(
         alloc,
@@ -203,13 +195,10 @@ fn stopped<A: Allocator + Copy, W: Sink>(
     number: u64,
     why: Stop,
 ) -> Result<u8, RunError>
-    ensures wrote { IfOk result (λ status. (why ≡ Stop.TooLong) × (status ≡ 3) × Appends (W.held sink.old) (W.held sink.new) (long_line number)
-        × NoWriteFailed (W.failures sink.old) (W.failures sink.new) (W.stalls sink.old) (W.stalls sink.new)) }
-    ensures error { IfErr result (λ e. MatchRunError e
-        ((sink.new ≡ sink.old) × IsUnread why)
-        ((why ≡ Stop.TooLong) × WroteFront (W.held sink.old) (W.held sink.new) (long_line number)
-        × WriteFailed (W.failures sink.old) (W.failures sink.new) (W.stalls sink.old) (W.stalls sink.new))
-        ((sink.new ≡ sink.old) × ((why ≡ Stop.OutOfMemory) ⊎ (why ≡ Stop.TooLong))) ⊥) }
+    ensures { ((why ≡ Stop.TooLong) × Tells (λ text status. (text ≡ long_line number) × (status ≡ 3)) (W.account sink.old) (W.account sink.new)
+        (sink.new ≡ sink.old) result)
+        ⊎ ((why ≡ Stop.OutOfMemory) × (sink.new ≡ sink.old) × (result ≡ Err RunError.OutOfMemory))
+        ⊎ (IsUnread why × (sink.new ≡ sink.old) × (result ≡ Err RunError.Read)) }
 {
     match why {
         Stop::TooLong => tell_too_long(alloc, sink, number),
@@ -245,15 +234,7 @@ pub fn tell_lines<R: Read, A: Allocator + Copy, W: Sink>(
     stream: &mut Stream<R, A>,
     sink: &mut W,
 ) -> Result<u8, RunError>
-    ensures status { IfOk result (λ status. ToldLines R.remaining stream.old stream.new (W.held sink.old) (W.held sink.new) status
-        × NoWriteFailed (W.failures sink.old) (W.failures sink.new) (W.stalls sink.old) (W.stalls sink.new)) }
-    ensures error { IfErr result (λ e. MatchRunError e
-        (ReadsNoLine R.remaining stream.old stream.new (W.held sink.old) (W.held sink.new)
-        × NoWriteFailed (W.failures sink.old) (W.failures sink.new) (W.stalls sink.old) (W.stalls sink.new))
-        (BeginsNext R.remaining stream.old stream.new (W.held sink.old) (W.held sink.new)
-        × WriteFailed (W.failures sink.old) (W.failures sink.new) (W.stalls sink.old) (W.stalls sink.new))
-        (LacksNext R.remaining stream.old stream.new (W.held sink.old) (W.held sink.new)
-        × NoWriteFailed (W.failures sink.old) (W.failures sink.new) (W.stalls sink.old) (W.stalls sink.new)) ⊥) }
+    ensures { ListsLines R.remaining stream.old stream.new (W.account sink.old) (W.account sink.new) result }
 {
     let mut grammar = Lines;
     let mut wrong = false;

@@ -10,10 +10,10 @@ use nom_error::answer::OutOfMemory;
 use nom_error::kind::ErrorKind;
 use nom_error::outside::ContextError;
 use nom_error::value::ParseError;
+use nom_io::stream::Sink;
 use nom_report::{Placed, render_bytes, render_from};
 use nom_run::error::RunError;
 use nom_run::report::{Report, write_built};
-use nom_run::stream::Sink;
 use std::alloc::Allocator;
 use std::str;
 

@@ -6,14 +6,14 @@
 //! `nom_messages --write [FILE]`: the messages that the lines of a file stand for, or those of standard input.
 #![tactic(auto)]
 
+use nom_io::counted::Counted;
+use nom_io::stream::Sink;
 use nom_messages_run::pipe::tell_messages;
 use nom_messages_run::report::Messages;
 use nom_messages_run::write::{Halt, add_halt, halt_status, write_lines};
-use nom_run::counted::Counted;
 use nom_run::error::RunError;
 use nom_run::program::{status_of, tell_fault};
 use nom_run::run::write_all;
-use nom_run::stream::Sink;
 use nom_stream::settings::Settings;
 use nom_stream::stream::Stream;
 use nom_write_stream::outgoing::Outgoing;

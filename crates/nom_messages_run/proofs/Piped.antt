@@ -1,24 +1,25 @@
 -- The lines of messages, call by call.
 use Rattle.std.proofs.Common.{arith, ◌≡◌, ℕ, ◌+◌, List, [], ◌∷◌, ◌++◌, Option, Some, Result, Ok, Err, refl, sym, ◌∙◌, ap, subst, append_assoc, append-nil}
-use Rattle.std.proofs.Common.{◌<◌, ◌≤◌, IfErr, IfOk, inl, inr, length, length-append}
+use Rattle.std.proofs.Common.{◌-◌, ◌^◌, ◌<◌, ◌≤◌, ◌⊎◌, inl, inr, length, length-append}
 use Rattle.std.specs.Prelude.{Vec, vec_capacity, vec_len}
-use Rattle.std.specs.Io.KnownBytes.{Appends}
 use Rattle.nom_error.specs.declared.value.Error.{Error}
 use Rattle.nom_internal.specs.Prelude.{Grammar}
-use Rattle.nom_run.proofs.Known.{appends-more, appends-none}
+use Rattle.nom_io.specs.Account.{Account}
+use Rattle.nom_io.specs.Written.{Wrote, WroteFront}
+use Rattle.nom_io.proofs.Written.{begun_then, wrote_all, wrote_none, wrote_then}
 use Rattle.nom_run.specs.declared.error.RunError.{RunError}
-use Rattle.nom_run.specs.declared.error.RunError.TheVariants.{Read, Write, OutOfMemory, Usage}
-use Rattle.nom_run.specs.Pieces.{BeganText, HasRoom, WroteBut}
-use Rattle.nom_run.specs.Stream.{MatchRunError, NoWriteFailed, WriteFailed}
-use Rattle.nom_run.specs.Stream as Run
+use Rattle.nom_run.specs.declared.error.RunError.TheVariants as Run
+use Rattle.nom_run.specs.Pieces.{HasRoom, Puts}
+use Rattle.nom_run.specs.Pieces.Puts.{Added, Broken}
+use Rattle.nom_run.specs.Runs.{Tells}
+use Rattle.nom_run.specs.Runs.Tells.{Whole, Cut, NoMemory}
 use Rattle.nom_stream.specs.declared.stream.Stop as Why
 use Rattle.nom_stream.specs.declared.stream.Stream.{Stream}
 use Rattle.nom_stream.specs.Held.{last_of}
 use Rattle.nom_stream.specs.Items.{Bytes}
 use Rattle.nom_stream.specs.Streams.{Decides}
 use Rattle.nom_messages_run.specs.declared.messages.Received.{Received}
-use Rattle.nom_messages_run.specs.Pipe.{Ends, LacksRoom, Lines, Lists, WroteAll, WroteLines, WroteSome}
-use Rattle.nom_messages_run.specs.Pipe.{ending_status, ending_text, received_text, stopped}
+use Rattle.nom_messages_run.specs.Pipe.{Ends, Lines, Lists, TellsMessages, WroteLines, ending_status, ending_text, received_text, stopped}
 
 none_of : {X : Type 0} (xs : List X) → length xs ≡ 0 → xs ≡ []
 none_of [] e = refl
@@ -26,16 +27,16 @@ none_of (x ∷ xs) e = absurd (omega (arith, e))
 
 module _ {R A V : Type 0} (left : R → Option (List ℕ)) (grammar : Grammar Bytes V Received (Error Bytes)) where
   -- one more message, and its line
-  one_more : (messages : List (ℕ × Received)) (s t u : Stream R A) (text : List ℕ) (n : ℕ) (message : Received) →
+  with_line : (messages : List (ℕ × Received)) (s t u : Stream R A) (text : List ℕ) (n : ℕ) (message : Received) →
       Lines left grammar messages s t text → Decides left grammar t u (Ok (Some (n, message))) →
       Lines left grammar (messages ++ (n, message) ∷ []) s u (text ++ received_text message (last_of n u.held))
-  one_more [] s t u text n message h d =
+  with_line [] s t u text n message h d =
       let line = received_text message (last_of n u.held) in (
         u,
         subst (λ z. Decides left grammar z u (Ok (Some (n, message)))) h.0 d,
         ([], ap (λ z. z ++ line) h.1 ∙ sym (append-nil line), (refl, refl)),
       )
-  one_more ((k, first) ∷ messages) s t u text n message h d =
+  with_line ((k, first) ∷ messages) s t u text n message h d =
       let line = received_text message (last_of n u.held) in
       let rest = h.2 in (
         h.0,
@@ -43,89 +44,87 @@ module _ {R A V : Type 0} (left : R → Option (List ℕ)) (grammar : Grammar By
         (
           rest.0 ++ line,
           ap (λ z. z ++ line) rest.1 ∙ append_assoc (received_text first (last_of k (h.0).held)) rest.0 line,
-          one_more messages h.0 t u rest.0 n message rest.2 d,
+          with_line messages h.0 t u rest.0 n message rest.2 d,
         ),
       )
 
   -- that many messages came, and of their lines all but the text was written
-  pub record Going (s t : Stream R A) (held held' : Option (List ℕ)) (text : List ℕ) (count : ℕ) : Type 0 where
+  pub record Going (s t : Stream R A) (a b : Account) (text : List ℕ) (count : ℕ) : Type 0 where
     pub written : List ℕ
-    pub wrote : Appends held held' written
+    pub wrote : Wrote a b written
     pub lists : Lists left grammar s t (written ++ text) count
 
-  pub none_yet : (s : Stream R A) (held : Option (List ℕ)) (text : List ℕ) → text ≡ [] → Going s s held held text 0
-  none_yet s held text e = record {
-    written = [];
-    wrote = appends-none held;
-    lists = record { messages = []; lines = (refl, e); counted = refl };
-  }
+  pub none_yet : (s : Stream R A) (a : Account) (text : List ℕ) → text ≡ [] → Going s s a a text 0
+  none_yet s a text e = record { written = []; wrote = wrote_none; lists = record { messages = []; lines = (refl, e); counted = refl } }
 
-  module _ (s t : Stream R A) (held now : Option (List ℕ)) (text : List ℕ) (count : ℕ) (g : Going s t held now text count) where
-    module _ (u : Stream R A) (n : ℕ) (message : Received) (given : Option (ℕ × Received)) (is : given ≡ Some (n, message))
-        (decides : Decides left grammar t u (Ok given)) where
-      d : Decides left grammar t u (Ok (Some (n, message)))
-      d = subst (λ z. Decides left grammar t u (Ok z)) is decides
-
-      all_lines : Lists left grammar s u (g.written ++ (text ++ received_text message (last_of n u.held))) (count + 1)
+  module _ {s t : Stream R A} {a b : Account} {text : List ℕ} {count : ℕ} (g : Going s t a b text count) where
+    module _ {u : Stream R A} {n : ℕ} {message : Received} {given : Option (ℕ × Received)} (is : given ≡ Some (n, message))
+        (decides : Decides left grammar t u (Ok given)) {bytes : List ℕ} (lent : bytes ≡ last_of n u.held) where
+      all_lines : Lists left grammar s u (g.written ++ (text ++ received_text message bytes)) (count + 1)
       all_lines = record {
         messages = g.lists.messages ++ (n, message) ∷ [];
-        lines = subst (Lines left grammar (g.lists.messages ++ (n, message) ∷ []) s u)
-            (append_assoc g.written text (received_text message (last_of n u.held)))
-            (one_more g.lists.messages s t u (g.written ++ text) n message g.lists.lines d);
+        lines = subst (λ z. Lines left grammar (g.lists.messages ++ (n, message) ∷ []) s u (g.written ++ (text ++ received_text message z))) (sym lent)
+            (subst (Lines left grammar (g.lists.messages ++ (n, message) ∷ []) s u) (append_assoc g.written text (received_text message (last_of n u.held)))
+            (with_line g.lists.messages s t u (g.written ++ text) n message g.lists.lines (subst (λ z. Decides left grammar t u (Ok z)) is decides)));
         counted = simp length-append (omega (arith, g.lists.counted));
       }
 
-      -- memory is wanted for the first line
-      pub lacks_line : count ≡ 0 → LacksRoom left grammar s u
-      lacks_line e =
-          let all = g.written ++ (text ++ received_text message (last_of n u.held)) in
-          (all, inl (subst (λ k. Lists left grammar s u all (k + 1)) e all_lines))
-
-      pub goes_on : (then : Option (List ℕ)) (new : List ℕ) → WroteBut now then (text ++ received_text message (last_of n u.held)) new →
-          Going s u held then new (count + 1)
-      goes_on then new w = record {
-        written = g.written ++ w.0;
-        wrote = appends-more held now then g.written w.0 g.wrote w.2;
-        lists = subst (λ z. Lists left grammar s u z (count + 1))
-            (ap (λ z. g.written ++ z) w.1 ∙ sym (append_assoc g.written w.0 new)) all_lines;
+      pub goes_on : {c : Account} {new : List ℕ} {x : Unit {0}} {K L : Type 0} → Puts b c text (received_text message bytes) new (Ok x) ⊎
+          (◌≡◌ {A = Result (Unit {0}) RunError} (Ok x) (Err Run.OutOfMemory) × K × L) → Going s u a c new (count + 1)
+      goes_on {new = new} (inl (Added e w)) = record {
+        written = g.written ++ w.front;
+        wrote = wrote_then g.wrote w.wrote;
+        lists = subst (λ z. Lists left grammar s u z (count + 1)) (ap (λ z. g.written ++ z) w.parts ∙ sym (append_assoc g.written w.front new)) all_lines;
       }
+      goes_on (inl (Broken e w)) = absurd (cc (e))
+      goes_on (inr h) = absurd (cc (h.0))
 
-      pub line_begun : (then : Option (List ℕ)) → BeganText now then (text ++ received_text message (last_of n u.held)) →
-          WroteSome left grammar s u held then
-      line_begun then w =
-          let all = text ++ received_text message (last_of n u.held) in
-          let wrote = w.2 in
-          record {
-            text = g.written ++ all;
-            is_text = inl (count + 1, omega arith, all_lines);
-            front = g.written ++ wrote.0;
-            rest = w.0;
-            some = w.1;
-            begins = ap (λ z. g.written ++ z) wrote.1 ∙ sym (append_assoc g.written wrote.0 w.0);
-            wrote = appends-more held now then g.written wrote.0 g.wrote wrote.2;
-          }
+      -- a write failed, or memory is wanted for the first line
+      pub halts : {c : Account} {new : List ℕ} {error : RunError} {K L Same : Type 0} → (K → L → (count ≡ 0) × Same) →
+          Puts b c text (received_text message bytes) new (Err error) ⊎
+          (◌≡◌ {A = Result (Unit {0}) RunError} (Err error) (Err Run.OutOfMemory) × K × L) → TellsMessages left grammar s u a c Same (Err error)
+      halts fresh (inl (Added e w)) = absurd (cc (e))
+      halts {c} {error = error} {Same = Same} fresh (inl (Broken e w)) =
+          let same : Run.Write ≡ error = cc (e) in
+          subst (λ z. TellsMessages left grammar s u a c Same (Err z)) same
+          (g.written ++ (text ++ received_text message bytes), inl (count + 1, omega arith, all_lines), begun_then g.wrote w)
+      halts {c} {error = error} {Same = Same} fresh (inr h) =
+          let same : Run.OutOfMemory ≡ error = cc (h.0) in
+          let first = fresh h.1 h.2 in
+          let all = g.written ++ (text ++ received_text message bytes) in
+          subst (λ z. TellsMessages left grammar s u a c Same (Err z)) same
+          (first.1, (all, inl (subst (λ k. Lists left grammar s u all (k + 1)) first.0 all_lines)))
 
-    -- all is written, or some
-    pub all_written : (then : Option (List ℕ)) → Appends now then text → WroteLines left grammar s t held then count
-    all_written then w = (g.written ++ text, g.lists, appends-more held now then g.written text g.wrote w)
+    -- no more messages can be counted
+    pub flushed : {c : Account} {x : Unit {0}} → count ≡ 2 ^ 64 - 1 → Puts b c text [] [] (Ok x) → WroteLines left grammar s t a c (2 ^ 64 - 1)
+    flushed full (Added e w) =
+        let all = wrote_all w in (
+          g.written ++ (text ++ []),
+          subst (Lists left grammar s t (g.written ++ (text ++ []))) full
+              (subst (λ z. Lists left grammar s t (g.written ++ z) count) (sym (append-nil text)) g.lists),
+          wrote_then g.wrote all,
+        )
+    flushed full (Broken e w) = absurd (cc (e))
 
-    pub some_written : 0 < count → (then : Option (List ℕ)) → BeganText now then text → WroteSome left grammar s t held then
-    some_written some then w =
-        let wrote = w.2 in
-        record {
-          text = g.written ++ text;
-          is_text = inl (count, some, g.lists);
-          front = g.written ++ wrote.0;
-          rest = w.0;
-          some = w.1;
-          begins = ap (λ z. g.written ++ z) wrote.1 ∙ sym (append_assoc g.written wrote.0 w.0);
-          wrote = appends-more held now then g.written wrote.0 g.wrote wrote.2;
-        }
+    pub not_flushed : (Same : Type 0) {c : Account} {error : RunError} → count ≡ 2 ^ 64 - 1 → Puts b c text [] [] (Err error) →
+        TellsMessages left grammar s t a c Same (Err error)
+    not_flushed Same full (Added e w) = absurd (cc (e))
+    not_flushed Same {c} {error} full (Broken e w) =
+        let same : Run.Write ≡ error = cc (e) in
+        subst (λ z. TellsMessages left grammar s t a c Same (Err z)) same (
+          g.written ++ (text ++ []),
+          inl (
+            count,
+            omega (arith, full),
+            subst (λ z. Lists left grammar s t (g.written ++ z) count) (sym (append-nil text)) g.lists,
+          ),
+          begun_then g.wrote w,
+        )
 
     -- and the end
-    module _ (u : Stream R A) (why : Option Why.Stop) (d : Decides left grammar t u (stopped why)) where
-      all_ends : Ends left grammar s u (g.written ++ (text ++ ending_text why u.offset)) (ending_status why)
-      all_ends = record {
+    module _ {u : Stream R A} (why : Option Why.Stop) (d : Decides left grammar t u (stopped why)) where
+      all_ends : (status : ℕ) → status ≡ ending_status why → Ends left grammar s u (g.written ++ (text ++ ending_text why u.offset)) status
+      all_ends status e = record {
         before = t;
         lines = g.written ++ text;
         messages = g.lists.messages;
@@ -133,79 +132,29 @@ module _ {R A V : Type 0} (left : R → Option (List ℕ)) (grammar : Grammar By
         why = why;
         last = d;
         text_is = sym (append_assoc g.written text (ending_text why u.offset));
-        status_is = refl;
+        status_is = e;
       }
 
-      pub ended : (then : Option (List ℕ)) (status : ℕ) → (status ≡ ending_status why) × Appends now then (text ++ ending_text why u.offset) →
-          WroteAll left grammar s u held then status
-      ended then status w =
-          let all = text ++ ending_text why u.offset in (
-            g.written ++ all,
-            subst (Ends left grammar s u (g.written ++ all)) (sym w.0) all_ends,
-            appends-more held now then g.written all g.wrote w.1,
-          )
-
-      pub lacks_end : count ≡ 0 → LacksRoom left grammar s u
+      pub ended : {c : Account} {r : Result ℕ RunError} {K Same : Type 0} → (K → (count ≡ 0) × Same) →
+          Tells (λ last status. (last ≡ text ++ ending_text why u.offset) × (status ≡ ending_status why)) b c K r → TellsMessages left grammar s u a c Same r
       unfolding all_ends
-      lacks_end e =
-          (g.written ++ (text ++ ending_text why u.offset), inr (ending_status why, all_ends, none_of g.lists.messages (g.lists.counted ∙ e)))
-
-      pub end_begun : (then : Option (List ℕ)) → BeganText now then (text ++ ending_text why u.offset) → WroteSome left grammar s u held then
-      end_begun then w =
-          let all = text ++ ending_text why u.offset in
-          let wrote = w.2 in
-          record {
-            text = g.written ++ all;
-            is_text = inr (ending_status why, all_ends);
-            front = g.written ++ wrote.0;
-            rest = w.0;
-            some = w.1;
-            begins = ap (λ z. g.written ++ z) wrote.1 ∙ sym (append_assoc g.written wrote.0 w.0);
-            wrote = appends-more held now then g.written wrote.0 g.wrote wrote.2;
-          }
-
--- no write failed, and then none again
-pub none_then : (f f' f₂ s s' s₂ : ℕ) → NoWriteFailed f f' s s' → NoWriteFailed f' f₂ s' s₂ → NoWriteFailed f f₂ s s₂
-none_then f f' f₂ s s' s₂ p q = (q.0 ∙ p.0, q.1 ∙ p.1)
-
--- or one
-failed_then : (f f' f₂ s s' s₂ : ℕ) → NoWriteFailed f f' s s' → WriteFailed f' f₂ s' s₂ → WriteFailed f f₂ s s₂
-failed_then f f' f₂ s s' s₂ p (inl e) = inl (e ∙ ap Run.one_more p.0)
-failed_then f f' f₂ s s' s₂ p (inr q) = inr (q.0 ∙ p.0, q.1 ∙ ap Run.one_more p.1)
-
--- What is told where memory is wanted or a write failed, from what was written then; before it no write had failed.
-module _ {W : Type 0} (holds : W → Option (List ℕ)) (failures stalls : W → ℕ) (old a b : W)
-    (before : NoWriteFailed (failures old) (failures a) (stalls old) (stalls a)) (text : List ℕ) (Lined Begun Lacks : Type 0)
-    (begun : BeganText (holds a) (holds b) text → Begun) where
-  abbrev WroteThere : Type 0
-  WroteThere = BeganText (holds a) (holds b) text × WriteFailed (failures a) (failures b) (stalls a) (stalls b)
-
-  abbrev Told : RunError → Type 0
-  Told e = MatchRunError e Lined (Begun × WriteFailed (failures old) (failures b) (stalls old) (stalls b)) Lacks ⊥
-
-  failed : WroteThere → Begun × WriteFailed (failures old) (failures b) (stalls old) (stalls b)
-  failed h = (begun h.0, failed_then _ _ _ _ _ _ before h.1)
-
-  module _ {Wanted : Type 0} (lacks : Wanted → Lacks) where
-    pub on_error : (e : RunError) → MatchRunError e ⊥ WroteThere Wanted ⊥ → Told e
-    on_error Read h = absurd h
-    on_error Write h = failed h
-    on_error OutOfMemory h = lacks h
-    on_error Usage h = absurd h
-
-    pub on_err : (r : Result ℕ RunError) → IfErr r (λ e. MatchRunError e ⊥ WroteThere Wanted ⊥) → IfErr r Told
-    on_err (Ok status) h = tt
-    on_err (Err e) h = on_error e h
-
-  pub on_failed_write : (e : RunError) → MatchRunError e ⊥ WroteThere ⊥ ⊥ → Told e
-  on_failed_write Read h = absurd h
-  on_failed_write Write h = failed h
-  on_failed_write OutOfMemory h = absurd h
-  on_failed_write Usage h = absurd h
-
-pub on_ok : {P Q : ℕ → Type 0} (r : Result ℕ RunError) → ((status : ℕ) → P status → Q status) → IfOk r P → IfOk r Q
-on_ok (Ok status) f h = f status h
-on_ok (Err e) f h = tt
+      ended {c} {Same = Same} fresh (Whole last status e i w) = subst (TellsMessages left grammar s u a c Same) (sym e)
+          (g.written ++ (text ++ ending_text why u.offset), all_ends status i.1, subst (λ z. Wrote a c (g.written ++ z)) i.0 (wrote_then g.wrote w))
+      ended {c} {Same = Same} fresh (Cut last status e i w) = subst (TellsMessages left grammar s u a c Same) (sym e) (
+        g.written ++ (text ++ ending_text why u.offset),
+        inr (status, all_ends status i.1),
+        subst (λ z. WroteFront a c (g.written ++ z)) i.0
+            (begun_then g.wrote w),
+      )
+      ended {c} {Same = Same} fresh (NoMemory e k) =
+          let first = fresh k in
+          subst (TellsMessages left grammar s u a c Same) (sym e) (
+            first.1,
+            (
+              g.written ++ (text ++ ending_text why u.offset),
+              inr (ending_status why, all_ends (ending_status why) refl, none_of g.lists.messages (g.lists.counted ∙ first.0)),
+            ),
+          )
 
 -- room that was taken
 pub has_room : {A : Type 0} (room : Vec ℕ A) → vec_len room ≤ 65536 → (vec_capacity room < 65536 → ⊥) → HasRoom room

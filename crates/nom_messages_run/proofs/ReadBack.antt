@@ -12,11 +12,12 @@ use Rattle.nom_sink.specs.Choices.{Either, IsUnfit}
 use Rattle.nom_sink.specs.Parts.{AfterLength, Both}
 use Rattle.nom_sink.specs.Written.{Space}
 use Rattle.nom_sink.specs.Written.Lack.{OfSpace}
-use Rattle.nom_write.specs.Leads.{Leads}
+use Rattle.nom_write.specs.FirstSets.{HasFirst}
 use Rattle.nom_write.specs.Lengths.{FormOfSize}
 use Rattle.nom_write.specs.Reads.{Anything, Holds, Reads}
 use Rattle.nom_write.specs.laws.ChoiceReads.{alt_reads, either_reads, map_back_reads}
-use Rattle.nom_write.specs.laws.LeadLaws.{both_leads, differ_apart, either_leads, fixed_leads, map_leads, pair_leads, preceded_leads, tag_starts}
+use Rattle.nom_write.specs.laws.FirstSetLaws.{both_begins, differ_apart, either_begins, fixed_begins, map_begins}
+use Rattle.nom_write.specs.laws.FirstSetLaws.{pair_begins, preceded_begins, tag_starts}
 use Rattle.nom_write.specs.laws.LeafReads.{binary_reads, tag_reads, tag_reads_some}
 use Rattle.nom_write.specs.laws.LengthReads.{length_data_reads, length_value_reads}
 use Rattle.nom_write.specs.laws.SequenceReads.{pair_reads, preceded_reads}
@@ -85,24 +86,24 @@ module _ {M : Type 0} (ping : ℕ → M) (text : Bytes → M) (close : M) where
   close_reads : Reads bytes_model close_of CloseForm Anything
   close_reads = map_back_reads (λ _. Unit {0}) (λ o v. v ≡ close) (λ v x. v ≡ close) (λ v x h. h) (tag_reads plain_errors (3 ∷ []))
 
-  ping_leads : Leads bytes_model (λ c. c) ping_of PingForm (Some ((1 ∷ []) ∷ []))
-  ping_leads = map_leads (both_leads (pair_leads (fixed_leads (λ c. c) (1 ∷ []) (λ v xs f. f.0) (tag_starts plain_errors (1 ∷ []))) (number_of Big 4)))
+  ping_begins : HasFirst bytes_model (λ c. c) ping_of PingForm (Some ((1 ∷ []) ∷ []))
+  ping_begins = map_begins (both_begins (pair_begins (fixed_begins (λ c. c) (1 ∷ []) (λ v xs f. f.0) (tag_starts plain_errors (1 ∷ []))) (number_of Big 4)))
 
-  text_leads : Leads bytes_model (λ c. c) text_of TextForm (Some ((2 ∷ []) ∷ []))
-  text_leads = map_leads (preceded_leads (λ c. c) (tag_of (2 ∷ [])) (2 ∷ []) (tag_starts plain_errors (2 ∷ [])))
+  text_begins : HasFirst bytes_model (λ c. c) text_of TextForm (Some ((2 ∷ []) ∷ []))
+  text_begins = map_begins (preceded_begins (λ c. c) (tag_of (2 ∷ [])) (2 ∷ []) (tag_starts plain_errors (2 ∷ [])))
 
-  close_leads : Leads bytes_model (λ c. c) close_of CloseForm (Some ((3 ∷ []) ∷ []))
-  close_leads = map_leads (fixed_leads (λ c. c) (3 ∷ []) (λ v xs f. f.0) (tag_starts plain_errors (3 ∷ [])))
+  close_begins : HasFirst bytes_model (λ c. c) close_of CloseForm (Some ((3 ∷ []) ∷ []))
+  close_begins = map_begins (fixed_begins (λ c. c) (3 ∷ []) (λ v xs f. f.0) (tag_starts plain_errors (3 ∷ [])))
 
   abbrev BodyForm : M → List ℕ → Type 0
   BodyForm v = Either (Either (PingForm v) (Any v) (TextForm v)) (Any v) (CloseForm v)
 
-  two_leads : Leads bytes_model (λ c. c) (or_of ping_of text_of) (λ v. Either (PingForm v) (Any v) (TextForm v)) (Some ((1 ∷ []) ∷ (2 ∷ []) ∷ []))
-  two_leads = either_leads plain_errors ping_leads text_leads
+  two_begins : HasFirst bytes_model (λ c. c) (or_of ping_of text_of) (λ v. Either (PingForm v) (Any v) (TextForm v)) (Some ((1 ∷ []) ∷ (2 ∷ []) ∷ []))
+  two_begins = either_begins plain_errors ping_begins text_begins
 
   choice_reads : Reads bytes_model (or_of (or_of ping_of text_of) close_of) BodyForm (λ rest. (Anything rest × Anything rest) × Anything rest)
-  choice_reads = either_reads plain_errors (differ_apart two_leads close_leads refl)
-      (either_reads plain_errors (differ_apart ping_leads text_leads refl) ping_reads text_reads) close_reads
+  choice_reads = either_reads plain_errors (differ_apart two_begins close_begins refl)
+      (either_reads plain_errors (differ_apart ping_begins text_begins refl) ping_reads text_reads) close_reads
 
   abbrev body_by : BytesGrammar Body M
   body_by = alt_of (or_of (or_of ping_of text_of) close_of)

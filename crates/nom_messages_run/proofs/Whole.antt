@@ -1,7 +1,8 @@
 -- What is written is that of the whole.
 use Rattle.std.proofs.Common.{arith, ◌≡◌, ℕ, zero, suc, ◌+◌, ◌-◌, ◌^◌, ◌<◌, ◌≤◌, min, Bool, true, false, List, [], ◌∷◌, ◌++◌, length, Option, Some, None}
 use Rattle.std.proofs.Common.{Ok, refl, sym, ◌∙◌, ap, subst, take}
-use Rattle.std.specs.Io.KnownBytes.{Appends}
+use Rattle.nom_io.specs.Account.{Account}
+use Rattle.nom_io.specs.Written.{Wrote}
 use Rattle.std.specs.List.{AllZip}
 use Rattle.nom_error.specs.declared.value.Error.{Error}
 use Rattle.nom_internal.specs.Prelude.{bytes_model, bytes_lawful, IsSuffixOf, rest_rest, Outcome, Accept, Stop, Needs, Meaning, IsLawful, Grammar}
@@ -177,15 +178,15 @@ module _ {R A V : Type 0} (left : R → Option (List ℕ)) (grammar : Grammar By
         (subst (λ z. AllItems grammar.meaning s.settings.complete z whole trees) one_more a))
 
     -- the last line after the others
-    module _ (s t : Stream R A) (held held' : Option (List ℕ)) (status : ℕ) (text : List ℕ) (e : Ends left grammar s t text status)
-        (wrote : Appends held held' text) (whole : Bytes) (limit : ℕ) (trees : List V)
+    module _ (s t : Stream R A) (old new : Account) (status : ℕ) (text : List ℕ) (e : Ends left grammar s t text status)
+        (wrote : Wrote old new text) (whole : Bytes) (limit : ℕ) (trees : List V)
         (k : Listed s e.before whole (suc limit) trees e.lines) where
       told : (outcome : Outcome V) → AtWhole grammar.meaning s.settings.complete k.place outcome → TellsWhole grammar t (stopped e.why) k.place outcome
       told outcome a = answers e.before t (stopped e.why) e.last k.place k.known k.left_then outcome
           (subst (λ z. AtWhole grammar.meaning z.complete k.place outcome) (sym k.settings) a)
 
       with_last : (outcome : Outcome V) → AtWhole grammar.meaning s.settings.complete k.place outcome → (IsTheEnd s.settings.complete e.why → k.others ≡ []) →
-          WroteWhole grammar s t held held' status whole trees
+          WroteWhole grammar s t old new status whole trees
       with_last outcome a all = record {
         first = k.first;
         others = k.others;
@@ -194,7 +195,7 @@ module _ {R A V : Type 0} (left : R → Option (List ℕ)) (grammar : Grammar By
         lines = e.lines;
         lines_are = k.lines_are;
         why = e.why;
-        wrote = subst (Appends held held') e.text_is wrote;
+        wrote = subst (Wrote old new) e.text_is wrote;
         status_is = e.status_is;
         used = k.used;
         begins = k.begins;
@@ -205,7 +206,7 @@ module _ {R A V : Type 0} (left : R → Option (List ℕ)) (grammar : Grammar By
         are_all = all;
       }
 
-      last_line : (others : List V) → k.others ≡ others → WroteWhole grammar s t held held' status whole trees
+      last_line : (others : List V) → k.others ≡ others → WroteWhole grammar s t old new status whole trees
       last_line [] is =
           let p = subst (AllItems grammar.meaning s.settings.complete (suc limit) k.place) is k.go_on in
           with_last p.0 p.1 (λ _. is)
@@ -216,8 +217,8 @@ module _ {R A V : Type 0} (left : R → Option (List ℕ)) (grammar : Grammar By
           (λ end. absurd (none_accepted lawful t s.settings.complete k.place k.known e.why p.0 v p.2 (told (Accept p.0 v) p.2) end))
 
     pub lines_whole : LinesOfWhole A left grammar
-    lines_whole s t held held' status w whole known has low limit trees a below =
+    lines_whole s t old new status w whole known has low limit trees a below =
         let e = w.1 in
         let more = other_limit grammar.meaning s.settings.complete limit (length e.messages + suc (length trees)) whole trees below (omega arith) a in
         let k = are_listed e.messages s e.before e.lines e.listed whole known has low (suc (length trees)) trees more in
-        last_line s t held held' status w.0 e w.2 whole (length trees) trees k k.others refl
+        last_line s t old new status w.0 e w.2 whole (length trees) trees k k.others refl

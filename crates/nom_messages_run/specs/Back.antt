@@ -1,6 +1,7 @@
 -- What is written of messages is read back as these messages.
 use Rattle.std.specs.Prelude.{◌≡◌, ℕ, ◌-◌, ◌^◌, ◌<◌, ◌≤◌, List, [], ◌++◌, length, Option, Some, None}
-use Rattle.std.specs.Io.KnownBytes.{Appends}
+use Rattle.nom_io.specs.Account.{Account}
+use Rattle.nom_io.specs.Written.{Wrote}
 use Rattle.nom_internal.specs.Prelude.{bytes_model}
 use Rattle.nom.specs.grammars.Bytes.{Big, all_consuming_of, length_value_of, number_of}
 use Rattle.nom_run.specs.Texts.{lines_text}
@@ -63,6 +64,6 @@ abbrev pub SentReadBack : (A B C : Type 0) {R W S : Type 0} → (R → Option (L
 SentReadBack A B C {R} {W} {S} left contents left' =
     (s t : Stream R A) (a b : Outgoing W B) (h : Halts.Halt) (sent : SentBefore left contents s a h t b) (before taken : List ℕ) →
     held_of a ≡ [] → held_of b ≡ [] → contents a.target.inner ≡ Some before → contents b.target.inner ≡ Some (before ++ taken) →
-    length taken < 2 ^ 63 → (u v : Stream S C) (old new : Option (List ℕ)) (status : ℕ) → HasLeft left' u taken → u.offset ≤ 2 ^ 64 - 1 →
+    length taken < 2 ^ 63 → (u v : Stream S C) (old new : Account) (status : ℕ) → HasLeft left' u taken → u.offset ≤ 2 ^ 64 - 1 →
     WroteAll left' message_of u v old new status →
-    (text : List ℕ) × Appends old new text × TellsBack sent.until.messages u.settings.most v.offset text status
+    (text : List ℕ) × Wrote old new text × TellsBack sent.until.messages u.settings.most v.offset text status

@@ -1,9 +1,12 @@
 -- The lines of messages that come one after another, and the last line.
-use Rattle.std.specs.Prelude.{◌≡◌, ℕ, ◌-◌, ◌<◌, ◌⊎◌, List, [], ◌∷◌, ◌++◌, length, drop, codes, Option, Some, None, Ok, Err}
+use Rattle.std.specs.Prelude.{◌≡◌, ℕ, ◌-◌, ◌^◌, ◌<◌, ◌⊎◌, List, [], ◌∷◌, ◌++◌, length, drop, codes, Option, Some, None, Result, Ok, Err}
 use Rattle.std.specs.Fmt.{decimal}
-use Rattle.std.specs.Io.KnownBytes.{Appends}
 use Rattle.nom_internal.specs.Prelude.{size_of, Grammar}
 use Rattle.nom_error.specs.declared.value.Error.{Error}
+use Rattle.nom_io.specs.Account.{Account}
+use Rattle.nom_io.specs.Written.{Wrote, WroteFront}
+use Rattle.nom_run.specs.declared.error.RunError.{RunError}
+use Rattle.nom_run.specs.declared.error.RunError.TheVariants as Error
 use Rattle.nom_run.specs.Texts.{bytes_text, error_text, failure_text, need_text}
 use Rattle.nom_stream.specs.declared.stream.Stop as Why
 use Rattle.nom_stream.specs.declared.stream.Stop.TheVariants as Stop
@@ -22,17 +25,17 @@ received_text (Text len) bytes = bytes_text (codes "text ") (drop (length bytes 
 received_text Close bytes = codes "close\n"
 
 -- what is at an offset
-abbrev pub place_text : (what : List ℕ) → ℕ → List ℕ
-place_text what offset = what ++ codes " at " ++ decimal offset ++ codes "\n"
+abbrev pub offset_text : (what : List ℕ) → ℕ → List ℕ
+offset_text what offset = what ++ codes " at " ++ decimal offset ++ codes "\n"
 
 -- the last line: why there is no further message, at an offset
 abbrev pub ending_text : Option Why.Stop → ℕ → List ℕ
-ending_text None offset = place_text (codes "end") offset
+ending_text None offset = offset_text (codes "end") offset
 ending_text (Some (Stop.Refused kind len)) offset = error_text kind offset
 ending_text (Some (Stop.Failed kind len)) offset = failure_text kind offset
-ending_text (Some Stop.Nothing) offset = place_text (codes "empty") offset
+ending_text (Some Stop.Nothing) offset = offset_text (codes "empty") offset
 ending_text (Some (Stop.Incomplete needed)) offset = need_text (size_of needed)
-ending_text (Some Stop.TooLong) offset = place_text (codes "too long") offset
+ending_text (Some Stop.TooLong) offset = offset_text (codes "too long") offset
 ending_text (Some (Stop.Fault error)) offset = codes "file fault\n"
 ending_text (Some Stop.OutOfMemory) offset = codes "out of memory\n"
 
@@ -77,24 +80,26 @@ module _ {R A V : Type 0} (left : R → Option (List ℕ)) (grammar : Grammar By
       pub text_is : text ≡ lines ++ ending_text why t.offset
       pub status_is : status ≡ ending_status why
 
+  -- memory was wanted for the first line: that of the first message, or the last line
+  abbrev pub LacksFirst : (s t : Stream R A) → Type 0
+  LacksFirst s t = (text : List ℕ) × (Lists s t text 1 ⊎ ((status : ℕ) × (e : Ends s t text status) × (e.messages ≡ [])))
+
   -- What was written: the lines and the last line; the lines of that many messages; or a beginning of either, where there is at
-  -- least one line, and not all.
-  module _ (s t : Stream R A) (held held' : Option (List ℕ)) where
+  -- least one line, until a write failed.
+  module _ (s t : Stream R A) (a b : Account) where
     abbrev pub WroteAll : (status : ℕ) → Type 0
-    WroteAll status = (text : List ℕ) × Ends s t text status × Appends held held' text
+    WroteAll status = (text : List ℕ) × Ends s t text status × Wrote a b text
 
     abbrev pub WroteLines : (count : ℕ) → Type 0
-    WroteLines count = (text : List ℕ) × Lists s t text count × Appends held held' text
+    WroteLines count = (text : List ℕ) × Lists s t text count × Wrote a b text
 
-    pub record WroteSome : Type 0 where
-      pub text : List ℕ
-      pub is_text : ((count : ℕ) × (0 < count) × Lists s t text count) ⊎ ((status : ℕ) × Ends s t text status)
-      pub front : List ℕ
-      pub rest : List ℕ
-      pub some : 0 < length rest
-      pub begins : text ≡ front ++ rest
-      pub wrote : Appends held held' front
+    abbrev pub WroteSome : Type 0
+    WroteSome = (text : List ℕ) × (((count : ℕ) × (0 < count) × Lists s t text count) ⊎ ((status : ℕ) × Ends s t text status)) × WroteFront a b text
 
-  -- memory was wanted for the first line: that of the first message, or the last line
-  abbrev pub LacksRoom : (s t : Stream R A) → Type 0
-  LacksRoom s t = (text : List ℕ) × (Lists s t text 1 ⊎ ((status : ℕ) × (e : Ends s t text status) × (e.messages ≡ [])))
+    -- by what is answered, and whether the sink is as it was
+    abbrev pub TellsMessages : (Same : Type 0) → Result ℕ RunError → Type 0
+    TellsMessages Same (Ok status) = WroteAll status
+    TellsMessages Same (Err Error.Read) = WroteLines (2 ^ 64 - 1)
+    TellsMessages Same (Err Error.Write) = WroteSome
+    TellsMessages Same (Err Error.OutOfMemory) = Same × LacksFirst s t
+    TellsMessages Same (Err Error.Usage) = ⊥

@@ -1,6 +1,7 @@
 -- What is written of messages that come one after another is that of the whole of the data.
 use Rattle.std.specs.Prelude.{◌≡◌, ℕ, ◌+◌, ◌-◌, ◌^◌, ◌<◌, ◌≤◌, min, Bool, false, List, [], ◌∷◌, ◌++◌, length, take, Option, Some, None}
-use Rattle.std.specs.Io.KnownBytes.{Appends}
+use Rattle.nom_io.specs.Account.{Account}
+use Rattle.nom_io.specs.Written.{Wrote}
 use Rattle.nom_error.specs.declared.value.Error.{Error}
 use Rattle.nom_internal.specs.Prelude.{bytes_model, IsSuffixOf, Outcome, Accept, Grammar}
 use Rattle.nom_calls.specs.Iterated.{AreItems}
@@ -35,7 +36,7 @@ module _ {V : Type 0} (grammar : Grammar Bytes V Received (Error Bytes)) (comple
 module _ {R A V : Type 0} (grammar : Grammar Bytes V Received (Error Bytes)) where
   -- What was written, of data that is `whole`, and of which these are the trees of the items: the lines of the first of them, and the
   -- last line, which tells of the outcome after these. Where it tells that there is no further message, they are all.
-  pub record WroteWhole (s t : Stream R A) (held held' : Option (List ℕ)) (status : ℕ) (whole : Bytes) (trees : List V) : Type 0 where
+  pub record WroteWhole (s t : Stream R A) (old new : Account) (status : ℕ) (whole : Bytes) (trees : List V) : Type 0 where
     pub first : List V
     pub others : List V
     pub trees_are : trees ≡ first ++ others
@@ -43,7 +44,7 @@ module _ {R A V : Type 0} (grammar : Grammar Bytes V Received (Error Bytes)) whe
     pub lines : List ℕ
     pub lines_are : LinesOf grammar s.settings.complete first whole place lines
     pub why : Option Why.Stop
-    pub wrote : Appends held held' (lines ++ ending_text why t.offset)
+    pub wrote : Wrote old new (lines ++ ending_text why t.offset)
     pub status_is : status ≡ ending_status why
     -- where the last line stands in the data
     pub used : ℕ
@@ -58,7 +59,7 @@ module _ (A : Type 0) {R V : Type 0} (left : R → Option (List ℕ)) (grammar :
   -- What is written is that of the whole, for every way in which its bytes came.
   abbrev pub LinesOfWhole : Type 0
   LinesOfWhole =
-      (s t : Stream R A) (held held' : Option (List ℕ)) (status : ℕ) → WroteAll left grammar s t held held' status →
+      (s t : Stream R A) (old new : Account) (status : ℕ) → WroteAll left grammar s t old new status →
       (whole : Bytes) → bytes_model.IsKnown whole → HasLeft left s whole.now → s.offset ≤ 2 ^ 64 - 1 →
       (limit : ℕ) (trees : List V) → AreItems bytes_model (AtWhole grammar.meaning s.settings.complete) limit whole trees → length trees < limit →
-      WroteWhole grammar s t held held' status whole trees
+      WroteWhole grammar s t old new status whole trees

@@ -1,17 +1,16 @@
 //! The lines of messages that come one after another, from a reader of any length.
-ghost use Rattle.std.specs.Prelude.{◌≡◌, ◌++◌, ◌-◌, ◌^◌, ◌<◌, ◌≤◌, IfOk, IfErr, OnErr, OnOk, vec_capacity, vec_len};
-ghost use Rattle.std.specs.Io.KnownBytes.{Appends};
-ghost use Rattle.nom_run.specs.Pieces.{BeganText, HasRoom, WroteBut};
-ghost use Rattle.nom_run.specs.Stream.{MatchRunError, NoWriteFailed, WriteFailed};
-ghost use Rattle.nom_messages_run.specs.Pipe.{LacksRoom, WroteAll, WroteLines, WroteSome, ending_status, ending_text, received_text};
+ghost use Rattle.std.specs.Prelude.{◌≡◌, ◌++◌, ◌-◌, ◌<◌, ◌≤◌, ◌⊎◌, Err, IfOk, OnErr, OnOk, vec_capacity, vec_len};
+ghost use Rattle.nom_run.specs.Pieces.{HasRoom, Puts};
+ghost use Rattle.nom_run.specs.Runs.{Tells};
+ghost use Rattle.nom_messages_run.specs.Pipe.{TellsMessages, ending_status, ending_text, received_text};
 ghost use Rattle.nom_messages_run.specs.Messages.{message_of};
 
 use crate::messages::{Messages, Received};
 use crate::put::{put_ending, put_received};
 use nom::OutOfMemory;
+use nom_io::stream::Sink;
 use nom_run::error::RunError;
 use nom_run::pieces::flush;
-use nom_run::stream::Sink;
 use nom_stream::grammar::Grammar;
 use nom_stream::stream::{Stop, Stream};
 use std::alloc::Allocator;
@@ -58,13 +57,8 @@ fn list<A: Allocator, W: Sink>(
 ) -> Result<(), RunError>
     requires { vec_len room.old ≤ 65536 }
     ensures room { IfOk result (λ _. HasRoom room.new) }
-    ensures wrote { IfOk result (λ _. WroteBut (W.held sink.old) (W.held sink.new)
-        (room.old.items ++ received_text message bytes.now) room.new.items
-        × NoWriteFailed (W.failures sink.old) (W.failures sink.new) (W.stalls sink.old) (W.stalls sink.new)) }
-    ensures error { IfErr result (λ e. MatchRunError e ⊥
-        (BeganText (W.held sink.old) (W.held sink.new) (room.old.items ++ received_text message bytes.now)
-        × WriteFailed (W.failures sink.old) (W.failures sink.new) (W.stalls sink.old) (W.stalls sink.new))
-        ((sink.new ≡ sink.old) × (vec_capacity room.old < 65536)) ⊥) }
+    ensures puts { Puts (W.account sink.old) (W.account sink.new) room.old.items (received_text message bytes.now) room.new.items result
+        ⊎ ((result ≡ Err RunError.OutOfMemory) × (sink.new ≡ sink.old) × (vec_capacity room.old < 65536)) }
 {
     match take_room(room) {
         Ok(()) => {}
@@ -81,13 +75,8 @@ fn end<A: Allocator, W: Sink>(
     offset: u64,
 ) -> Result<u8, RunError>
     requires { vec_len room.old ≤ 65536 }
-    ensures status { IfOk result (λ status. (status ≡ ending_status why)
-        × Appends (W.held sink.old) (W.held sink.new) (room.old.items ++ ending_text why offset)
-        × NoWriteFailed (W.failures sink.old) (W.failures sink.new) (W.stalls sink.old) (W.stalls sink.new)) }
-    ensures error { IfErr result (λ e. MatchRunError e ⊥
-        (BeganText (W.held sink.old) (W.held sink.new) (room.old.items ++ ending_text why offset)
-        × WriteFailed (W.failures sink.old) (W.failures sink.new) (W.stalls sink.old) (W.stalls sink.new))
-        ((sink.new ≡ sink.old) × (vec_capacity room.old < 65536)) ⊥) }
+    ensures { Tells (λ text status. (text ≡ room.old.items ++ ending_text why offset) × (status ≡ ending_status why))
+        (W.account sink.old) (W.account sink.new) ((sink.new ≡ sink.old) × (vec_capacity room.old < 65536)) result }
 {
     match take_room(room) {
         Ok(()) => {}
@@ -117,17 +106,8 @@ pub fn tell_items<R: Read, A: Allocator + Copy, G: Grammar<Item = Received>, W: 
 ) -> Result<u8, RunError>
     requires runs { (G.grammar (G.state grammar.old)).meaning.Runs }
     ensures kept { G.state grammar.new ≡ G.state grammar.old }
-    ensures status { IfOk result (λ status. WroteAll R.remaining (G.grammar (G.state grammar.old))
-        stream.old stream.new (W.held sink.old) (W.held sink.new) status
-        × NoWriteFailed (W.failures sink.old) (W.failures sink.new) (W.stalls sink.old) (W.stalls sink.new)) }
-    ensures error { IfErr result (λ e. MatchRunError e
-        (WroteLines R.remaining (G.grammar (G.state grammar.old))
-        stream.old stream.new (W.held sink.old) (W.held sink.new) (2 ^ 64 - 1)
-        × NoWriteFailed (W.failures sink.old) (W.failures sink.new) (W.stalls sink.old) (W.stalls sink.new))
-        (WroteSome R.remaining (G.grammar (G.state grammar.old))
-        stream.old stream.new (W.held sink.old) (W.held sink.new)
-        × WriteFailed (W.failures sink.old) (W.failures sink.new) (W.stalls sink.old) (W.stalls sink.new))
-        ((sink.new ≡ sink.old) × LacksRoom R.remaining (G.grammar (G.state grammar.old)) stream.old stream.new) ⊥) }
+    ensures told { TellsMessages R.remaining (G.grammar (G.state grammar.old)) stream.old stream.new (W.account sink.old) (W.account sink.new)
+        (sink.new ≡ sink.old) result }
 {
     let mut room = Vec::new(alloc);
     for _turn in 0..u64::MAX {
@@ -154,15 +134,7 @@ pub fn tell_messages<R: Read, A: Allocator + Copy, W: Sink>(
     stream: &mut Stream<R, A>,
     sink: &mut W,
 ) -> Result<u8, RunError>
-    ensures status { IfOk result (λ status. WroteAll R.remaining message_of
-        stream.old stream.new (W.held sink.old) (W.held sink.new) status
-        × NoWriteFailed (W.failures sink.old) (W.failures sink.new) (W.stalls sink.old) (W.stalls sink.new)) }
-    ensures error { IfErr result (λ e. MatchRunError e
-        (WroteLines R.remaining message_of stream.old stream.new (W.held sink.old) (W.held sink.new) (2 ^ 64 - 1)
-        × NoWriteFailed (W.failures sink.old) (W.failures sink.new) (W.stalls sink.old) (W.stalls sink.new))
-        (WroteSome R.remaining message_of stream.old stream.new (W.held sink.old) (W.held sink.new)
-        × WriteFailed (W.failures sink.old) (W.failures sink.new) (W.stalls sink.old) (W.stalls sink.new))
-        ((sink.new ≡ sink.old) × LacksRoom R.remaining message_of stream.old stream.new) ⊥) }
+    ensures { TellsMessages R.remaining message_of stream.old stream.new (W.account sink.old) (W.account sink.new) (sink.new ≡ sink.old) result }
 {
     tell_items(alloc, stream, &mut Messages, sink)
 }

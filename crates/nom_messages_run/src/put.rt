@@ -1,48 +1,19 @@
 //! The lines of messages, which are added in pieces to bytes that aren't written yet.
 ghost use Rattle.std.specs.Prelude.{◌≡◌, ◌++◌, ◌/◌, ◌%◌, ◌<◌, [], ◌∷◌, Some, codes, length};
 ghost use Rattle.std.specs.Fmt.{decimal};
-ghost use Rattle.nom_error.specs.Kinds.{description_of};
 ghost use Rattle.nom_internal.specs.Prelude.{size_of};
 ghost use Rattle.nom_run.specs.Pieces.{HasRoom, Puts};
 ghost use Rattle.nom_run.specs.Texts.{bytes_text, digits_text, hex_digit, need_text};
-ghost use Rattle.nom_messages_run.specs.Pipe.{ending_text, place_text, received_text};
+ghost use Rattle.nom_messages_run.specs.Pipe.{ending_text, offset_text, received_text};
 
 use crate::messages::Received;
 use itoa::Buffer;
 use nom::Needed;
-use nom::error::ErrorKind;
+use nom_io::stream::Sink;
 use nom_run::error::RunError;
-use nom_run::pieces::{InPieces, put, put_each};
-use nom_run::stream::Sink;
+use nom_run::pieces::{InPieces, put, put_each, put_texts};
 use nom_stream::stream::Stop;
 use std::alloc::Allocator;
-
-// Adds a text.
-fn put_text<A: Allocator, W: Sink>(
-    sink: &mut W,
-    room: &mut Vec<u8, A>,
-    text: &str,
-) -> Result<(), RunError>
-    requires { HasRoom room.old }
-    ensures room { HasRoom room.new }
-    ensures puts { Puts W.held W.failures W.stalls sink.old sink.new room.old.items text.now room.new.items result }
-{
-    put(sink, room, text.as_bytes())
-}
-
-// Adds a number.
-fn put_number<A: Allocator, W: Sink>(
-    sink: &mut W,
-    room: &mut Vec<u8, A>,
-    number: u64,
-) -> Result<(), RunError>
-    requires { HasRoom room.old }
-    ensures room { HasRoom room.new }
-    ensures puts { Puts W.held W.failures W.stalls sink.old sink.new room.old.items (decimal number) room.new.items result }
-{
-    let mut digits = Buffer::new();
-    put_text(sink, room, digits.format(number))
-}
 
 // Adds a number between two texts.
 fn put_numbered<A: Allocator, W: Sink>(
@@ -54,55 +25,30 @@ fn put_numbered<A: Allocator, W: Sink>(
 ) -> Result<(), RunError>
     requires { HasRoom room.old }
     ensures room { HasRoom room.new }
-    ensures puts { Puts W.held W.failures W.stalls sink.old sink.new room.old.items (before.now ++ (decimal number ++ after.now)) room.new.items result }
+    ensures puts { Puts (W.account sink.old) (W.account sink.new) room.old.items (before.now ++ (decimal number ++ after.now)) room.new.items result }
 {
-    match put_text(sink, room, before) {
-        Ok(()) => {}
-        Err(error) => return Err(error),
-    }
-    match put_number(sink, room, number) {
-        Ok(()) => {}
-        Err(error) => return Err(error),
-    }
-    put_text(sink, room, after)
+    let mut digits = Buffer::new();
+    put_texts(sink, room, &[before, digits.format(number), after])
 }
 
-// Adds what is at an offset.
-fn put_place<A: Allocator, W: Sink>(
+// Adds what is at an offset, after a text.
+fn put_offset<A: Allocator, W: Sink>(
     sink: &mut W,
     room: &mut Vec<u8, A>,
+    before: &str,
     what: &str,
     offset: u64,
 ) -> Result<(), RunError>
     requires { HasRoom room.old }
     ensures room { HasRoom room.new }
-    ensures puts { Puts W.held W.failures W.stalls sink.old sink.new room.old.items (place_text what.now offset) room.new.items result }
+    ensures puts { Puts (W.account sink.old) (W.account sink.new) room.old.items (before.now ++ offset_text what.now offset) room.new.items result }
 {
-    match put_text(sink, room, what) {
-        Ok(()) => {}
-        Err(error) => return Err(error),
-    }
-    put_numbered(sink, room, " at ", offset, "\n")
-}
-
-// Adds the kind of a fault and its offset, after what it is.
-fn put_fault<A: Allocator, W: Sink>(
-    sink: &mut W,
-    room: &mut Vec<u8, A>,
-    what: &str,
-    kind: ErrorKind,
-    offset: u64,
-) -> Result<(), RunError>
-    requires { HasRoom room.old }
-    ensures room { HasRoom room.new }
-    ensures puts { Puts W.held W.failures W.stalls sink.old sink.new room.old.items (what.now ++ place_text (description_of kind) offset)
-        room.new.items result }
-{
-    match put_text(sink, room, what) {
-        Ok(()) => {}
-        Err(error) => return Err(error),
-    }
-    put_place(sink, room, kind.description(), offset)
+    let mut digits = Buffer::new();
+    put_texts(
+        sink,
+        room,
+        &[before, what, " at ", digits.format(offset), "\n"],
+    )
 }
 
 // Adds how much more is needed.
@@ -113,10 +59,10 @@ fn put_need<A: Allocator, W: Sink>(
 ) -> Result<(), RunError>
     requires { HasRoom room.old }
     ensures room { HasRoom room.new }
-    ensures puts { Puts W.held W.failures W.stalls sink.old sink.new room.old.items (need_text (size_of needed)) room.new.items result }
+    ensures puts { Puts (W.account sink.old) (W.account sink.new) room.old.items (need_text (size_of needed)) room.new.items result }
 {
     match needed {
-        Needed::Unknown => put_text(sink, room, "need more\n"),
+        Needed::Unknown => put(sink, room, b"need more\n"),
         Needed::Size(size) => put_numbered(sink, room, "need ", size.get() as u64, "\n"),
     }
 }
@@ -157,12 +103,12 @@ fn put_digits<A: Allocator, W: Sink>(
 ) -> Result<(), RunError>
     requires { HasRoom room.old }
     ensures room { HasRoom room.new }
-    ensures puts { Puts W.held W.failures W.stalls sink.old sink.new room.old.items (digits_text bytes.now) room.new.items result }
+    ensures puts { Puts (W.account sink.old) (W.account sink.new) room.old.items (digits_text bytes.now) room.new.items result }
 {
     if bytes.is_empty() {
         return Ok(());
     }
-    match put_text(sink, room, " ") {
+    match put(sink, room, b" ") {
         Ok(()) => {}
         Err(error) => return Err(error),
     }
@@ -177,13 +123,9 @@ fn put_bytes<A: Allocator, W: Sink>(
 ) -> Result<(), RunError>
     requires { HasRoom room.old }
     ensures room { HasRoom room.new }
-    ensures puts { Puts W.held W.failures W.stalls sink.old sink.new room.old.items (bytes_text (codes "text ") bytes.now) room.new.items result }
+    ensures puts { Puts (W.account sink.old) (W.account sink.new) room.old.items (bytes_text (codes "text ") bytes.now) room.new.items result }
 {
-    match put_text(sink, room, "text ") {
-        Ok(()) => {}
-        Err(error) => return Err(error),
-    }
-    match put_number(sink, room, bytes.len() as u64) {
+    match put_numbered(sink, room, "text ", bytes.len() as u64, "") {
         Ok(()) => {}
         Err(error) => return Err(error),
     }
@@ -191,7 +133,7 @@ fn put_bytes<A: Allocator, W: Sink>(
         Ok(()) => {}
         Err(error) => return Err(error),
     }
-    put_text(sink, room, "\n")
+    put(sink, room, b"\n")
 }
 
 // Adds the line of a message, of which these are the bytes.
@@ -203,7 +145,7 @@ pub(crate) fn put_received<A: Allocator, W: Sink>(
 ) -> Result<(), RunError>
     requires { HasRoom room.old }
     ensures room { HasRoom room.new }
-    ensures puts { Puts W.held W.failures W.stalls sink.old sink.new room.old.items (received_text message bytes.now) room.new.items result }
+    ensures puts { Puts (W.account sink.old) (W.account sink.new) room.old.items (received_text message bytes.now) room.new.items result }
 {
     match message {
         Received::Ping(number) => put_numbered(sink, room, "ping ", number as u64, "\n"),
@@ -211,7 +153,7 @@ pub(crate) fn put_received<A: Allocator, W: Sink>(
             let start = bytes.len().saturating_sub(len);
             put_bytes(sink, room, &bytes[start..])
         }
-        Received::Close => put_text(sink, room, "close\n"),
+        Received::Close => put(sink, room, b"close\n"),
     }
 }
 
@@ -224,16 +166,16 @@ fn put_stop<A: Allocator, W: Sink>(
 ) -> Result<(), RunError>
     requires { HasRoom room.old }
     ensures room { HasRoom room.new }
-    ensures puts { Puts W.held W.failures W.stalls sink.old sink.new room.old.items (ending_text (Some why) offset) room.new.items result }
+    ensures puts { Puts (W.account sink.old) (W.account sink.new) room.old.items (ending_text (Some why) offset) room.new.items result }
 {
     match why {
-        Stop::Refused(kind, _) => put_fault(sink, room, "error ", kind, offset),
-        Stop::Failed(kind, _) => put_fault(sink, room, "failure ", kind, offset),
-        Stop::Nothing => put_place(sink, room, "empty", offset),
+        Stop::Refused(kind, _) => put_offset(sink, room, "error ", kind.description(), offset),
+        Stop::Failed(kind, _) => put_offset(sink, room, "failure ", kind.description(), offset),
+        Stop::Nothing => put_offset(sink, room, "", "empty", offset),
         Stop::Incomplete(needed) => put_need(sink, room, needed),
-        Stop::TooLong => put_place(sink, room, "too long", offset),
-        Stop::Fault(_) => put_text(sink, room, "file fault\n"),
-        Stop::OutOfMemory => put_text(sink, room, "out of memory\n"),
+        Stop::TooLong => put_offset(sink, room, "", "too long", offset),
+        Stop::Fault(_) => put(sink, room, b"file fault\n"),
+        Stop::OutOfMemory => put(sink, room, b"out of memory\n"),
     }
 }
 
@@ -246,10 +188,10 @@ pub(crate) fn put_ending<A: Allocator, W: Sink>(
 ) -> Result<(), RunError>
     requires { HasRoom room.old }
     ensures room { HasRoom room.new }
-    ensures puts { Puts W.held W.failures W.stalls sink.old sink.new room.old.items (ending_text why offset) room.new.items result }
+    ensures puts { Puts (W.account sink.old) (W.account sink.new) room.old.items (ending_text why offset) room.new.items result }
 {
     match why {
-        None => put_place(sink, room, "end", offset),
+        None => put_offset(sink, room, "", "end", offset),
         Some(why) => put_stop(sink, room, why, offset),
     }
 }

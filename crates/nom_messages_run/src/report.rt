@@ -1,13 +1,13 @@
 //! The report on a file of messages.
 ghost use Rattle.std.specs.Prelude.{◌≡◌, ◌++◌, IfOk, length, string_bytes};
-ghost use Rattle.nom_run.specs.Stream.{NoneAbove};
+ghost use Rattle.nom_run.specs.Runs.{NoneAbove};
 ghost use Rattle.nom_messages_run.specs.Report.{IsReport, message_text, ping_text};
 
 use crate::protocol::{Message, messages};
 use nom::{Items, OutOfMemory};
+use nom_io::stream::Sink;
 use nom_run::error::RunError;
 use nom_run::report::{Lines, Report, beginning_len, tell, write_built};
-use nom_run::stream::Sink;
 use nom_run::text::{add_bytes, add_words};
 use std::alloc::Allocator;
 use std::fmt::Write;

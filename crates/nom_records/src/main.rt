@@ -2,8 +2,8 @@
 //! in bytes).
 #![tactic(auto)]
 
+use nom_io::counted::Counted;
 use nom_records_run::report::Records;
-use nom_run::counted::Counted;
 use nom_run::program::status_of;
 use std::io;
 use std::process::ExitCode;

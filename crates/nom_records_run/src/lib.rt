@@ -3,7 +3,7 @@
 
 pub mod report;
 
-pub use nom_run::counted::Counted;
+pub use nom_io::counted::Counted;
+pub use nom_io::stream::{Sink, Source};
 pub use nom_run::error::RunError;
-pub use nom_run::stream::{Sink, Source};
 pub use nom_run::words::read_cuts;

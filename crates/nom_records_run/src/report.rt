@@ -4,7 +4,7 @@ ghost use Rattle.nom_internal.specs.Prelude.{bytes_model};
 ghost use Rattle.nom_internal.specs.Promises.{HasNoFailure};
 ghost use Rattle.nom_calls.specs.Growing.{IsGrown};
 ghost use Rattle.nom_records_run.specs.Report.{IsReport, record_grammar, record_text, records_of};
-ghost use Rattle.nom_run.specs.Stream.{NoneAbove};
+ghost use Rattle.nom_run.specs.Runs.{NoneAbove};
 
 use nom::bytes::tag;
 use nom::error::Error;
@@ -13,9 +13,9 @@ use nom::number::be_u8;
 use nom::sequence::{preceded, terminated};
 use nom::{Grown, Items, parse_growing};
 use nom_error::answer::OutOfMemory;
+use nom_io::stream::Sink;
 use nom_run::error::RunError;
 use nom_run::report::{Lines, Report, beginning_len, tell, write_built};
-use nom_run::stream::Sink;
 use nom_run::text::add_bytes;
 use std::alloc::Allocator;
 

@@ -7,7 +7,7 @@ use Rattle.nom_choose.specs.Lists.{Each, branch_meaning, others_meaning}
 use Rattle.nom_report.specs.Reports.{report_errors}
 use Rattle.nom_report.specs.Furthest.{TellsOfBranches, TellsOfEach, branches_of, refuses_with}
 use Rattle.nom_report.specs.declared.value.Report.{Report}
-use Rattle.nom_report.proofs.Choices.{choice_tells, first_tells, labelled_tells, or_tells}
+use Rattle.nom_report.specs.laws.Branches.{choice_tells, first_tells, labelled_tells, or_tells}
 
 module _ {I A : Type 0} (w : Model I A) (place : I → ℕ) where
   module _ {S V : Type 0} (part : S → Meaning I V (Report I)) (lawful : (t : S) → (part t).IsSound → IsLawful w (part t)) (s : Bool) where

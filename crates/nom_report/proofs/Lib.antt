@@ -1,11 +1,9 @@
 mod Adding
 mod Again
 mod Among
-mod Choices
 mod Contexts
 mod Each
 mod Fronts
-mod Furthest
 mod Inner
 mod Items
 mod Lines

@@ -1,16 +1,11 @@
 -- The contexts that a report keeps.
-use Rattle.std.specs.Prelude.{◌≡◌, ◌↔◌, ◌<◌, ◌⊎◌, IsTrue, List, [], ◌∷◌, ◌++◌, Option, Some, None, length, map, take}
+use Rattle.std.specs.Prelude.{◌≡◌, ◌↔◌, ◌<◌, ◌⊎◌, IsTrue, List, [], ◌∷◌, ◌++◌, length, map, take}
 use Rattle.nom_report.specs.Named.{Context, named}
-use Rattle.nom_report.specs.declared.enclosing.Contexts.{Contexts}
 use Rattle.nom_report.specs.declared.around.Around.{Around}
-
-abbrev pub some_around : Option Contexts → List Context
-some_around None = []
-some_around (Some c) = map named (take c.len c.items)
 
 -- the contexts that are kept, the innermost first
 abbrev pub around : Around → List Context
-around a = some_around a.contexts
+around a = map named (take a.contexts.len a.contexts.items)
 
 -- the contexts of a, and one around them; that one is left out, and it is told, where there are four
 pub record IsEnclosed (a : Around) (it : Context) (e : Around) : Type 0 where

@@ -35,10 +35,13 @@ module _ {I : Type 0} (place : I → ℕ) where
     pub none_further : Each (λ x. place x.at ≤ place e.at) es
     pub tells_all : Each (λ x. place x.at ≡ place e.at → HasAll (kept x.expected) (kept e.expected)) es
 
-  -- Where a choice refuses, so does each branch, and the choice's report tells what theirs do.
+  -- Where a choice refuses, so does each branch, with one of some errors, and the choice's report tells what theirs do.
+  abbrev pub TellsOfErrors : {A V : Type 0} → Model I A → (I → List (Report I) → Type 0) → Meaning I V (Report I) → Bool → Type 0
+  TellsOfErrors w AllRefuse m s = (i : I) (e : Report I) → w.IsKnown i → m.answers s i Refuse → m.blames s i e →
+      (es : List (Report I)) × AllRefuse i es × TellsFurthest es e
+
   abbrev pub TellsOfBranches : {A V : Type 0} → Model I A → List (I → Report I → Type 0) → Meaning I V (Report I) → Bool → Type 0
-  TellsOfBranches w bs m s = (i : I) (e : Report I) → w.IsKnown i → m.answers s i Refuse → m.blames s i e →
-      (es : List (Report I)) × EachRefuses bs i es × TellsFurthest es e
+  TellsOfBranches w bs = TellsOfErrors w (EachRefuses bs)
 
 -- each of some branches, by its state
 abbrev pub branches_of : {S I V E : Type 0} → (S → Meaning I V E) → Bool → List S → List (I → E → Type 0)

@@ -2,22 +2,15 @@
 use Rattle.std.specs.Prelude.{◌≡◌, ◌<◌, Bool, true, false, ◌||◌, List, [], ◌∷◌, ◌++◌, length, map, take}
 use Rattle.std.specs.List.{IsAmong}
 use Rattle.nom_report.specs.Wanted.{Wanted, seen}
-use Rattle.nom_report.specs.declared.several.Several.{Several}
 use Rattle.nom_report.specs.declared.list.Expectations.{Expectations}
-use Rattle.nom_report.specs.declared.list.First.{First}
-use Rattle.nom_report.specs.declared.list.First.TheVariants.{One, Many}
 
 -- what is wanted at a place, in order, as far as there is room for it, and whether more is
 pub record Kept : Type 0 where
   pub wanted : List Wanted
   pub more : Bool
 
-abbrev pub first_wanted : First Several → List Wanted
-first_wanted (One it) = seen it ∷ []
-first_wanted (Many s) = map seen (take s.len s.items)
-
 abbrev pub kept : Expectations → Kept
-kept e = record { wanted = first_wanted e.first; more = e.more }
+kept e = record { wanted = map seen (take e.several.len e.several.items); more = e.more }
 
 -- one thing alone
 abbrev pub just : Wanted → Kept

@@ -1,1 +1,3 @@
+pub mod Branches
+pub mod Joined
 pub mod Places

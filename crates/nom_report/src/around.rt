@@ -8,7 +8,7 @@ use crate::enclosing::{Contexts, Enclosing, MOST_ENCLOSING};
 /// The contexts around a place, innermost first, as many as fit, and whether there were more.
 #[derive(Clone, Copy, Debug, PartialEq, Eq)]
 pub struct Around {
-    contexts: Option<Contexts>,
+    contexts: Contexts,
     more: bool,
 }
 
@@ -19,7 +19,7 @@ impl Around {
         ensures all { result.more ≡ false }
     {
         Around {
-            contexts: None,
+            contexts: Contexts::none(),
             more: false,
         }
     }
@@ -28,10 +28,7 @@ impl Around {
     pub fn as_slice(&self) -> &[Enclosing]
         ensures { map named result.now ≡ around self.now }
     {
-        match &self.contexts {
-            None => &[],
-            Some(contexts) => &contexts.items[..contexts.len],
-        }
+        &self.contexts.items[..self.contexts.len]
     }
 
     #[inline(always)]
@@ -45,15 +42,10 @@ impl Around {
     pub fn add(&mut self, it: Enclosing)
         ensures { IsEnclosed self.old (named it) self.new }
     {
-        match &mut self.contexts {
-            None => self.contexts = Some(Contexts::one(it)),
-            Some(contexts) => {
-                if contexts.len < MOST_ENCLOSING {
-                    contexts.push(it);
-                } else {
-                    self.more = true;
-                }
-            }
+        if self.contexts.len < MOST_ENCLOSING {
+            self.contexts.push(it);
+        } else {
+            self.more = true;
         }
     }
 }

@@ -16,8 +16,8 @@ pub struct Enclosing {
 /// The maximum number of contexts that a report keeps.
 pub const MOST_ENCLOSING: usize = 4;
 
-/// A list of the first `len` items. The other items are the first one, which makes equal lists equal as
-/// values.
+/// A list of the first `len` items. The other items have no name and the place 0, which makes equal lists
+/// equal as values.
 #[derive(PartialEq, Eq)]
 pub struct Contexts {
     pub items: [Enclosing; MOST_ENCLOSING],
@@ -45,12 +45,16 @@ impl Contexts {
     ghost use Rattle.nom_report.specs.Named.{named};
 
     #[inline(always)]
-    pub fn one(it: Enclosing) -> Contexts
-        ensures { map named (take result.len result.items) ≡ named it ∷ [] }
+    pub fn none() -> Contexts
+        ensures { map named (take result.len result.items) ≡ [] }
     {
+        let none = Enclosing {
+            label: "",
+            place: 0,
+        };
         Contexts {
-            items: [it; MOST_ENCLOSING],
-            len: 1,
+            items: [none, none, none, none],
+            len: 0,
         }
     }
 

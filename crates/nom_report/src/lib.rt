@@ -5,6 +5,7 @@
 #![tactic(auto)]
 
 mod around;
+mod branches;
 mod enclosing;
 mod expectation;
 mod list;
@@ -19,6 +20,7 @@ mod twice;
 mod value;
 mod words;
 
+pub use crate::branches::Branches;
 pub use crate::enclosing::{Enclosing, MOST_ENCLOSING};
 pub use crate::expectation::Expected;
 pub use crate::octets::render_bytes;

@@ -5,20 +5,12 @@ ghost use Rattle.nom_report.specs.Kept.{Adds, Joins, just, kept};
 
 use crate::expectation::{Expected, is_in};
 use crate::several::{MOST_EXPECTED, Several};
-use std::slice;
 
-/// The first of at least one expectation. A single one is stored as it is, which makes an error that is made
-/// and dropped cheap.
-#[derive(Clone, Copy, Debug, PartialEq, Eq)]
-pub enum First<M> {
-    One(Expected),
-    Many(M),
-}
-
-/// The expectations that fit, and whether there were more.
+/// The expectations that fit, and whether there were more. No enum stands around the list, so that a move of
+/// a report copies plain fields.
 #[derive(Clone, Copy, Debug, PartialEq, Eq)]
 pub struct Expectations {
-    first: First<Several>,
+    several: Several,
     more: bool,
 }
 
@@ -28,7 +20,7 @@ impl Expectations {
         ensures { kept result ≡ just (seen it) }
     {
         Expectations {
-            first: First::One(it),
+            several: Several::one(it),
             more: false,
         }
     }
@@ -37,10 +29,7 @@ impl Expectations {
     pub fn as_slice(&self) -> &[Expected]
         ensures { map seen result.now ≡ (kept self.now).wanted }
     {
-        match &self.first {
-            First::One(it) => slice::from_ref(it),
-            First::Many(several) => &several.items[..several.len],
-        }
+        &self.several.items[..self.several.len]
     }
 
     #[inline(always)]
@@ -58,18 +47,10 @@ impl Expectations {
         if is_in(self.as_slice(), &it) {
             return;
         }
-        match &mut self.first {
-            First::One(first) => {
-                let first = *first;
-                self.first = First::Many(Several::two(first, it));
-            }
-            First::Many(several) => {
-                if several.len < MOST_EXPECTED {
-                    several.push(it);
-                } else {
-                    self.more = true;
-                }
-            }
+        if self.several.len < MOST_EXPECTED {
+            self.several.push(it);
+        } else {
+            self.more = true;
         }
     }
 
@@ -81,8 +62,6 @@ impl Expectations {
         for it in other.as_slice() {
             self.add(*it);
         }
-        if other.more {
-            self.more = true;
-        }
+        self.more = self.more || other.more;
     }
 }

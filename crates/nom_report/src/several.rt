@@ -1,4 +1,4 @@
-//! Lists of two or more expectations.
+//! Lists of expectations.
 ghost use Rattle.std.specs.Prelude.{◌≡◌, ◌<◌, ◌≤◌, ◌++◌, ◌∷◌, [], length, map, take};
 ghost use Rattle.nom_report.specs.Wanted.{seen};
 ghost use Rattle.nom_report.specs.declared.several.TheConstants.{MOST_EXPECTED};
@@ -10,7 +10,7 @@ use std::fmt;
 /// The maximum number of expectations that a report keeps.
 pub const MOST_EXPECTED: usize = 8;
 
-/// A list of the first `len` items. The other items are the first one, which makes equal lists equal as
+/// A list of the first `len` items. The other items are the character 0, which makes equal lists equal as
 /// values.
 #[derive(PartialEq, Eq)]
 pub struct Several {
@@ -36,13 +36,16 @@ impl fmt::Debug for Several {
 }
 
 impl Several {
+    // Each item is written by itself, so that none is where nothing reads it.
     #[inline(always)]
-    pub fn two(first: Expected, second: Expected) -> Several
-        ensures { map seen (take result.len result.items) ≡ seen first ∷ seen second ∷ [] }
+    pub fn one(it: Expected) -> Several
+        ensures { map seen (take result.len result.items) ≡ seen it ∷ [] }
     {
-        let mut items = [first; MOST_EXPECTED];
-        items[1] = second;
-        Several { items, len: 2 }
+        let none = Expected::Char('\0');
+        Several {
+            items: [it, none, none, none, none, none, none, none],
+            len: 1,
+        }
     }
 
     #[inline(always)]

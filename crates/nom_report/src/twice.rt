@@ -7,13 +7,13 @@ use nom_error::mode::{Check, Complete, Emit, OutputM, Streaming};
 use nom_internal::parser::Parser;
 use nom_traits::input::Items;
 
-/// Answers like `parse_complete`, at less cost for accepted input.
+/// Answers like `parse_complete`, and builds no errors of refusals for accepted input.
 ///
 /// The input is first parsed without errors. If it is refused or memory runs out, it is parsed again to build
-/// the error. Accepted input costs less than with the smallest error type. Refused input costs twice as much.
+/// the error. Refused input costs twice as much. With a large error type accepted input may cost more than by
+/// `parse_complete`, since each answer has room for an error. Parsing first with a small error type costs less.
 ///
-/// This holds for parsers that are made of combinators. A function that is wrapped by `func` builds its
-/// errors whenever it refuses.
+/// A function that is wrapped by `func` builds its errors whenever it refuses.
 #[inline(always)]
 pub fn parse_complete_twice<I: Items, P: Parser<I>>(
     parser: &mut P,

@@ -1,7 +1,7 @@
 //! The error type.
 ghost use Rattle.std.specs.Prelude.{◌≡◌, map};
 ghost use Rattle.nom_report.specs.Around.{around};
-ghost use Rattle.nom_report.specs.Kept.{kept};
+ghost use Rattle.nom_report.specs.Kept.{Joins, kept};
 ghost use Rattle.nom_report.specs.Named.{named};
 ghost use Rattle.nom_report.specs.Reports.{Wants, report_contexts, report_errors, report_externals};
 ghost use Rattle.nom_report.specs.Wanted.{seen};
@@ -84,6 +84,19 @@ impl<I: Copy> Report<I> {
     }
 }
 
+// What two reports want at one place. The call takes copies, so that no loop here holds a report in memory that only moves on.
+#[cold]
+#[inline(never)]
+fn joined<I: Copy>(first: Report<I>, second: Report<I>) -> Report<I>
+    ensures at { result.at ≡ first.at }
+    ensures expected { Joins (kept first.expected) (kept second.expected) (kept result.expected) }
+    ensures inside { result.inside ≡ first.inside }
+{
+    let mut all = first;
+    all.expected.join(&second.expected);
+    all
+}
+
 impl<I: Placed> ParseError<I> for Report<I> {
     ghost errors = { report_errors I.place };
 
@@ -112,9 +125,9 @@ impl<I: Placed> ParseError<I> for Report<I> {
         if first < second {
             return Ok(other);
         }
-        let mut both = self;
-        both.expected.join(&other.expected);
-        Ok(both)
+        let one = self;
+        let two = other;
+        Ok(joined(one, two))
     }
 }
 

@@ -1,31 +1,31 @@
--- What is written of a text that was built whole, and by the engine.
-use Rattle.std.proofs.Common.{◌≡◌, ℕ, List, Option, Result, Ok, Err, IfOk, IfErr, refl, sym, subst}
+-- What is told of a text that was written, and of one that was built whole.
+use Rattle.std.proofs.Common.{◌≡◌, ℕ, List, [], Result, Ok, Err, IfOk, ap, refl, sym, subst}
 use Rattle.std.specs.Prelude.{String, string_bytes}
+use Rattle.nom_io.specs.Account.{Account}
+use Rattle.nom_io.proofs.Written.{wrote_all}
 use Rattle.nom_run.specs.declared.error.RunError.{RunError}
-use Rattle.nom_run.specs.declared.error.RunError.TheVariants.{Read, Write, OutOfMemory, Usage}
+use Rattle.nom_run.specs.Pieces.{Puts}
+use Rattle.nom_run.specs.Pieces.Puts.{Added, Broken}
 use Rattle.nom_run.specs.Report.{IsBuilt}
-use Rattle.nom_run.specs.Stream.{BeganSuch, MatchRunError, WroteFront, WroteSuch}
+use Rattle.nom_run.specs.Runs.{Tells}
+use Rattle.nom_run.specs.Runs.Tells.{Whole, Cut, NoMemory}
 
 -- such a text is one of another kind
-module _ (P Q : (text : List ℕ) → (status : ℕ) → Type 0) (f : (text : List ℕ) (status : ℕ) → P text status → Q text status) (held held' : Option (List ℕ)) where
-  wrote_other : (N : Type 0) (status : ℕ) → WroteSuch P held held' status × N → WroteSuch Q held held' status × N
-  wrote_other N status h = let w = h.0 in ((w.0, f w.0 status w.1, w.2), h.1)
+pub tells_other : {T : Type 0} {P Q : (text : List ℕ) → T → Type 0} {a b : Account} {Lacks : Type 0} {r : Result T RunError} →
+    ((text : List ℕ) (x : T) → P text x → Q text x) → Tells P a b Lacks r → Tells Q a b Lacks r
+tells_other f (Whole text x e p w) = Whole text x e (f text x p) w
+tells_other f (Cut text x e p w) = Cut text x e (f text x p) w
+tells_other f (NoMemory e l) = NoMemory e l
 
-  pub other_status : (N : Type 0) (r : Result ℕ RunError) → IfOk r (λ status. WroteSuch P held held' status × N) →
-      IfOk r (λ status. WroteSuch Q held held' status × N)
-  other_status N (Ok status) h = wrote_other N status h
-  other_status N (Err e) h = tt
+-- it was written, or a write failed
+module _ {T : Type 0} {IsText : (text : List ℕ) → T → Type 0} {a b : Account} {Lacks : Type 0} {text : List ℕ} (x : T) (is : IsText text x) where
+  pub told : {u : Unit {0}} → Puts a b [] text [] (Ok u) → Tells IsText a b Lacks (Ok x)
+  told (Added e w) = Whole text x refl is (wrote_all w)
+  told (Broken e w) = absurd (cc (e))
 
-  began_other : (F S : Type 0) (e : RunError) → MatchRunError e ⊥ (BeganSuch P held held' × F) S ⊥ → MatchRunError e ⊥ (BeganSuch Q held held' × F) S ⊥
-  began_other F S Read h = absurd h
-  began_other F S Write h = let w = h.0 in ((w.0, w.1, f w.0 w.1 w.2, w.3), h.1)
-  began_other F S OutOfMemory h = h
-  began_other F S Usage h = absurd h
-
-  pub other_error : (F S : Type 0) (r : Result ℕ RunError) → IfErr r (λ e. MatchRunError e ⊥ (BeganSuch P held held' × F) S ⊥) →
-      IfErr r (λ e. MatchRunError e ⊥ (BeganSuch Q held held' × F) S ⊥)
-  other_error F S (Ok status) h = tt
-  other_error F S (Err e) h = began_other F S e h
+  pub untold : {left : List ℕ} {e : RunError} → Puts a b [] text left (Err e) → Tells IsText a b Lacks (Err e)
+  untold (Added d w) = absurd (cc (d))
+  untold (Broken d w) = Cut text x (ap Err (cc (d))) is w
 
 -- a text that was built is such a text
 pub built_is : {A E : Type 0} (P : (text : List ℕ) → (status : ℕ) → Type 0) (built : Result (String A × ℕ) E) →
@@ -33,11 +33,5 @@ pub built_is : {A E : Type 0} (P : (text : List ℕ) → (status : ℕ) → Type
 built_is P (Ok r) h text status b = subst (λ t. P t status) (sym b.0) (subst (P (string_bytes r.0)) (sym b.1) h)
 built_is P (Err e) h text status b = absurd b
 
--- a write of a text that was built failed
-pub on_built : {A E : Type 0} (built : Result (String A × ℕ) E) (r : String A × ℕ) → built ≡ Ok r → (text : List ℕ) → text ≡ string_bytes r.0 →
-    (held held' : Option (List ℕ)) (F S : Type 0) (e : RunError) → MatchRunError e ⊥ (WroteFront held held' text × F) ⊥ ⊥ →
-    MatchRunError e ⊥ (BeganSuch (IsBuilt built) held held' × F) S ⊥
-on_built built r is text same held held' F S Read h = absurd h
-on_built built r is text same held held' F S Write h = ((text, r.1, subst (λ b. IsBuilt b text r.1) (sym is) (same, refl), h.0), h.1)
-on_built built r is text same held held' F S OutOfMemory h = absurd h
-on_built built r is text same held held' F S Usage h = absurd h
+pub is_built : {A E : Type 0} {built : Result (String A × ℕ) E} {r : String A × ℕ} → built ≡ Ok r → IsBuilt built (string_bytes r.0) r.1
+is_built {r = r} is = subst (λ b. IsBuilt b (string_bytes r.0) r.1) (sym is) (refl, refl)

@@ -1,7 +1,6 @@
 pub mod Built
 pub mod Ended
 pub mod Hex
-pub mod Known
 pub mod Numbers
 pub mod Piecewise
 pub mod Reported

@@ -1,7 +1,14 @@
 -- The words that were read as numbers, one below the other.
-use Rattle.std.proofs.Common.{◌≡◌, ℕ, ◌+◌, ◌-◌, ◌<◌, ◌≤◌, List, [], length, slice_index, slice_index_or, below_more, arith}
-use Rattle.nom_run.specs.Stream.{NeverFalls}
+use Rattle.std.proofs.Common.{◌≡◌, ℕ, zero, suc, ◌+◌, ◌-◌, ◌<◌, ◌≤◌, List, [], ◌∷◌, Bor, map, length, slice_index, slice_index_or, below_more, arith, refl}
+use Rattle.nom_run.specs.Runs.{NeverFalls}
 use Rattle.nom_run.specs.Words.{IsNumber, word_number, StartsWithNumbers}
+
+-- the word at a place
+pub word-is : (ws : List (Bor (List ℕ))) (k : ℕ) (d : Bor (List ℕ)) →
+    slice_index_or (map (λ (w : Bor (List ℕ)). w.now) ws) k (d.now) ≡ (slice_index_or ws k d).now
+word-is [] k d = refl
+word-is (w ∷ ws) zero d = refl
+word-is (w ∷ ws) (suc k) d = word-is ws k d
 
 -- those before a place, and the one there
 module _ (ws : List (List ℕ)) (cuts : List ℕ) (i floor cut : ℕ) (lengths : length cuts ≡ i)

@@ -1,7 +1,7 @@
 pub mod Asked
-pub mod Lines
 pub mod Pieces
 pub mod Report
-pub mod Stream
+pub mod Runs
 pub mod Texts
+pub mod Told
 pub mod Words

@@ -1,6 +1,6 @@
 -- What the words of a command line give as cuts.
 use Rattle.std.specs.Prelude.{◌≡◌, ℕ, ◌+◌, ◌-◌, ◌^◌, ◌<◌, ◌≤◌, ◌⊎◌, List, [], length, slice_index_or, slice_index}
-use Rattle.nom_run.specs.Stream.{NeverFalls}
+use Rattle.nom_run.specs.Runs.{NeverFalls}
 use Rattle.std.specs.Str.Parse.{IsNumeral, digits_value}
 
 -- one or more decimal digits that fit a `usize`

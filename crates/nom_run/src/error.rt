@@ -1,9 +1,5 @@
 //! The errors of a run.
 
-/// A read or a write that failed.
-#[derive(Clone, Copy, Debug, PartialEq, Eq)]
-pub struct Fault;
-
 /// The reason why there is no status.
 #[derive(Clone, Copy, Debug, PartialEq, Eq)]
 pub enum RunError {

@@ -1,10 +1,9 @@
 //! Files that are opened by their names.
-ghost use Rattle.std.specs.Prelude.{ℕ, List, IfOk};
-ghost use Rattle.nom_run.specs.Stream.{CountsErr};
+ghost use Rattle.std.specs.Prelude.{◌≡◌, ℕ, List, IfOk, MatchResult};
+ghost use Rattle.nom_io.specs.Account.{one_more};
 
-use crate::counted::Counted;
-use crate::error::Fault;
-use crate::stream::Source;
+use nom_io::counted::Counted;
+use nom_io::stream::{Fault, Source};
 use std::fs::File;
 use std::rt::Files;
 
@@ -22,7 +21,7 @@ pub trait Folder {
     /// Opens the file of a name.
     fn open(&mut self, name: &str) -> Result<Self::File, Fault>
         ensures file { IfOk result (is_file self.old name.now) }
-        ensures counts { CountsErr (missed self.old) (missed self.new) result };
+        ensures counts { MatchResult result (λ _. missed self.new ≡ missed self.old) (λ _. missed self.new ≡ one_more (missed self.old)) };
 }
 
 /// The files of a runtime.

@@ -4,14 +4,11 @@
 //! the report to a sink.
 #![tactic(auto)]
 
-pub mod called;
-pub mod counted;
 pub mod error;
 pub mod folder;
 pub mod pieces;
 pub mod program;
 pub mod report;
 pub mod run;
-pub mod stream;
 pub mod text;
 pub mod words;

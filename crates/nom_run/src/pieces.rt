@@ -1,14 +1,12 @@
 //! A text that is written in pieces, whatever its length.
-ghost use Rattle.std.specs.Prelude.{◌≡◌, ◌++◌, ◌+◌, ◌≤◌, ℕ, List, [], length, IfOk, IfErr, vec_len};
-ghost use Rattle.std.specs.Io.KnownBytes.{Appends};
-ghost use Rattle.nom_run.specs.Pieces.{BeganText, HasRoom, Puts};
-ghost use Rattle.nom_run.specs.Stream.{MatchRunError, NoWriteFailed, WriteFailed};
+ghost use Rattle.std.specs.Prelude.{◌≡◌, ◌++◌, ◌+◌, ◌≤◌, ℕ, List, [], length, IfOk, vec_len};
+ghost use Rattle.nom_run.specs.Pieces.{HasRoom, Puts};
 ghost use Rattle.nom_run.specs.Texts.{lines_text};
 
 use crate::error::RunError;
 use crate::run::write_all;
-use crate::stream::Sink;
 use nom_error::answer::OutOfMemory;
+use nom_io::stream::Sink;
 use std::alloc::Allocator;
 
 // So many bytes are written at once.
@@ -29,10 +27,7 @@ pub fn flush<A: Allocator, W: Sink>(sink: &mut W, room: &mut Vec<u8, A>) -> Resu
     requires { HasRoom room.old }
     ensures room { HasRoom room.new }
     ensures none { IfOk result (λ _. room.new.items ≡ []) }
-    ensures wrote { IfOk result (λ _. Appends (W.held sink.old) (W.held sink.new) room.old.items
-        × NoWriteFailed (W.failures sink.old) (W.failures sink.new) (W.stalls sink.old) (W.stalls sink.new)) }
-    ensures error { IfErr result (λ e. MatchRunError e ⊥ (BeganText (W.held sink.old) (W.held sink.new) room.old.items
-        × WriteFailed (W.failures sink.old) (W.failures sink.new) (W.stalls sink.old) (W.stalls sink.new)) ⊥ ⊥) }
+    ensures puts { Puts (W.account sink.old) (W.account sink.new) room.old.items [] [] result }
 {
     match write_all(sink, room) {
         Ok(()) => {}
@@ -50,7 +45,7 @@ pub fn put<A: Allocator, W: Sink>(
 ) -> Result<(), RunError>
     requires { HasRoom room.old }
     ensures room { HasRoom room.new }
-    ensures puts { Puts W.held W.failures W.stalls sink.old sink.new room.old.items bytes.now room.new.items result }
+    ensures puts { Puts (W.account sink.old) (W.account sink.new) room.old.items bytes.now room.new.items result }
 {
     if bytes.len() <= FULL - room.len() {
         keep(room, bytes);
@@ -96,7 +91,7 @@ pub trait InPieces<T> {
     ) -> Result<(), RunError>
         requires { HasRoom room.old }
         ensures room { HasRoom room.new }
-        ensures puts { Puts W.held W.failures W.stalls sink.old sink.new room.old.items (lines self.now item.now) room.new.items result };
+        ensures puts { Puts (W.account sink.old) (W.account sink.new) room.old.items (lines self.now item.now) room.new.items result };
 }
 
 /// Adds the lines of items, in their order.
@@ -108,7 +103,7 @@ pub fn put_each<A: Allocator, W: Sink, T, P: InPieces<T>>(
 ) -> Result<(), RunError>
     requires { HasRoom room.old }
     ensures room { HasRoom room.new }
-    ensures puts { Puts W.held W.failures W.stalls sink.old sink.new room.old.items (lines_text (P.lines each.now) items.now) room.new.items result }
+    ensures puts { Puts (W.account sink.old) (W.account sink.new) room.old.items (lines_text (P.lines each.now) items.now) room.new.items result }
 {
     for item in items {
         match each.put(sink, room, item) {
@@ -117,4 +112,33 @@ pub fn put_each<A: Allocator, W: Sink, T, P: InPieces<T>>(
         }
     }
     Ok(())
+}
+
+// Texts, each as its bytes.
+struct Unchanged;
+
+impl<'a> InPieces<&'a str> for Unchanged {
+    ghost lines = { λ _ text. text.now };
+
+    fn put<A: Allocator, W: Sink>(
+        &self,
+        sink: &mut W,
+        room: &mut Vec<u8, A>,
+        text: &&'a str,
+    ) -> Result<(), RunError> {
+        put(sink, room, text.as_bytes())
+    }
+}
+
+/// Adds texts, in their order.
+pub fn put_texts<A: Allocator, W: Sink>(
+    sink: &mut W,
+    room: &mut Vec<u8, A>,
+    texts: &[&str],
+) -> Result<(), RunError>
+    requires { HasRoom room.old }
+    ensures room { HasRoom room.new }
+    ensures puts { Puts (W.account sink.old) (W.account sink.new) room.old.items (lines_text (λ text. text.now) texts.now) room.new.items result }
+{
+    put_each(sink, room, &Unchanged, texts)
 }

@@ -4,16 +4,16 @@
 //! If there is no report, one line shows the reason, and the status is 3. After a failed write nothing more
 //! is written.
 ghost use Rattle.std.specs.Prelude.{◌≡◌, ◌<◌, ⊤, length, map, IfOk, IfErr, string_bytes};
-ghost use Rattle.nom_run.specs.Lines.{Told, WroteText, fault_text};
+ghost use Rattle.nom_run.specs.Told.{Told, WroteText, fault_text};
 ghost use Rattle.nom_run.specs.Asked.{Asks, BeginsAsked, IsWrong, ReportsAsked, ToldAsked, WhyMemory, WhyRead, WhyUsage};
-ghost use Rattle.nom_run.specs.Stream.{MatchRunError, WriteFailed};
+ghost use Rattle.nom_run.specs.Runs.{MatchRunError};
 
 use crate::error::RunError;
 use crate::folder::{Disk, Folder};
 use crate::report::Report;
 use crate::run::{run, write_all};
-use crate::stream::Sink;
 use crate::words::read_cuts;
+use nom_io::stream::Sink;
 use std::alloc::Global;
 use std::env;
 use std::io::ErrorKind;
@@ -83,15 +83,14 @@ fn answer<R: Report, F: Folder, W: Sink>(
     folder: &mut F,
     sink: &mut W,
 ) -> Result<u8, RunError>
-    ensures status { IfOk result (λ status. ReportsAsked F.is_file F.File.left F.File.failures (map string_bytes words.now) F.missed folder.old folder.new
-        R.is_report (W.held sink.old) (W.held sink.new) status × (W.failures sink.new ≡ W.failures sink.old)) }
+    ensures status { IfOk result (ReportsAsked F.is_file F.File.account (map string_bytes words.now) F.missed folder.old folder.new
+        R.is_report (W.account sink.old) (W.account sink.new)) }
     ensures error { IfErr result (λ e. MatchRunError e
-        ((sink.new ≡ sink.old) × WhyRead F.is_file F.File.left F.File.failures (map string_bytes words.now) F.missed folder.old folder.new)
-        (BeginsAsked F.is_file F.File.left F.File.failures (map string_bytes words.now) F.missed folder.old folder.new
-        R.is_report (W.held sink.old) (W.held sink.new)
-        × WriteFailed (W.failures sink.old) (W.failures sink.new) (W.stalls sink.old) (W.stalls sink.new))
-        ((sink.new ≡ sink.old) × WhyMemory F.is_file F.File.left F.File.failures (map string_bytes words.now) F.missed folder.old folder.new)
-        ((sink.new ≡ sink.old) × WhyUsage F.is_file F.File.left F.File.failures (map string_bytes words.now) F.missed folder.old folder.new)) }
+        ((sink.new ≡ sink.old) × WhyRead F.is_file F.File.account (map string_bytes words.now) F.missed folder.old folder.new)
+        (BeginsAsked F.is_file F.File.account (map string_bytes words.now) F.missed folder.old folder.new
+        R.is_report (W.account sink.old) (W.account sink.new))
+        ((sink.new ≡ sink.old) × WhyMemory F.is_file F.File.account (map string_bytes words.now) F.missed folder.old folder.new)
+        ((sink.new ≡ sink.old) × WhyUsage F.is_file F.File.account (map string_bytes words.now) F.missed folder.old folder.new)) }
 {
     let task = match read_task(alloc, words) {
         Ok(task) => task,
@@ -121,8 +120,7 @@ fn fault(error: RunError) -> &'static str
 /// nothing.
 pub fn tell_fault<W: Sink>(sink: &mut W, error: RunError) -> u8
     ensures status { result ≡ 3 }
-    ensures wrote { WroteText (W.held sink.old) (W.held sink.new) (W.failures sink.old) (W.failures sink.new)
-        (W.stalls sink.old) (W.stalls sink.new) (fault_text error) }
+    ensures wrote { WroteText (W.account sink.old) (W.account sink.new) (fault_text error) }
     ensures after_write { error ≡ RunError.Write → sink.new ≡ sink.old }
 {
     let _ = write_all(sink, fault(error).as_bytes());
@@ -139,8 +137,8 @@ pub fn status_for<R: Report, F: Folder, W: Sink>(
     folder: &mut F,
     sink: &mut W,
 ) -> u8
-    ensures { ToldAsked F.is_file F.File.left F.File.failures (map string_bytes words.now) F.missed folder.old folder.new R.is_report
-        (W.held sink.old) (W.held sink.new) (W.failures sink.old) (W.failures sink.new) (W.stalls sink.old) (W.stalls sink.new) result }
+    ensures { ToldAsked F.is_file F.File.account (map string_bytes words.now) F.missed folder.old folder.new R.is_report
+        (W.account sink.old) (W.account sink.new) result }
 {
     match answer(alloc, words, report, folder, sink) {
         Ok(status) => status,
@@ -157,8 +155,7 @@ pub fn status_of<R: Report, W: Sink>(
     report: &R,
     sink: &mut W,
 ) -> u8
-    ensures { Told R.is_report (W.held sink.old) (W.held sink.new) (W.failures sink.old) (W.failures sink.new)
-        (W.stalls sink.old) (W.stalls sink.new) result }
+    ensures { Told R.is_report (W.account sink.old) (W.account sink.new) result }
 {
     match read_words(rt) {
         Ok(words) => {

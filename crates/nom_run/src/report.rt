@@ -1,15 +1,15 @@
 //! Reports on bytes, and their common parts.
-ghost use Rattle.std.specs.Prelude.{◌≡◌, ◌++◌, ℕ, ◌<◌, ◌≤◌, List, IfOk, IfErr, length, slice_index, string_bytes};
+ghost use Rattle.std.specs.Prelude.{◌≡◌, ◌++◌, ℕ, ◌<◌, ◌≤◌, List, IfOk, length, slice_index, string_bytes};
 ghost use Rattle.nom_run.specs.Report.{IsBuilt, IsTold, IsToldStop};
-ghost use Rattle.nom_run.specs.Stream.{BeganSuch, MatchRunError, NoWriteFailed, NoneAbove, WriteFailed, WroteSuch};
+ghost use Rattle.nom_run.specs.Runs.{NoneAbove, Tells};
 ghost use Rattle.nom_run.specs.Texts.{decided_text, lines_text, rest_text};
 
 use crate::error::RunError;
 use crate::run::write_all;
-use crate::stream::Sink;
 use crate::text::{add_decided, add_error, add_failure, add_need, add_rest};
 use nom_error::answer::{Err, IResult, OutOfMemory};
 use nom_error::value::Error;
+use nom_io::stream::Sink;
 use std::alloc::Allocator;
 
 /// A report of a program on the bytes of a file.
@@ -29,11 +29,7 @@ pub trait Report {
         sink: &mut W,
     ) -> Result<u8, RunError>
         requires { NoneAbove cuts.now (length bytes.now) }
-        ensures status { IfOk result (λ status. WroteSuch (is_report bytes.now cuts.now) (W.held sink.old) (W.held sink.new) status
-            × NoWriteFailed (W.failures sink.old) (W.failures sink.new) (W.stalls sink.old) (W.stalls sink.new)) }
-        ensures error { IfErr result (λ e. MatchRunError e ⊥ (BeganSuch (is_report bytes.now cuts.now) (W.held sink.old) (W.held sink.new)
-            × WriteFailed (W.failures sink.old) (W.failures sink.new) (W.stalls sink.old) (W.stalls sink.new))
-            (sink.new ≡ sink.old) ⊥) };
+        ensures { Tells (is_report bytes.now cuts.now) (W.account sink.old) (W.account sink.new) (sink.new ≡ sink.old) result };
 }
 
 /// Writes a text that was built whole, and returns its status.
@@ -41,11 +37,7 @@ pub fn write_built<A: Allocator, W: Sink>(
     built: Result<(String<A>, u8), OutOfMemory>,
     sink: &mut W,
 ) -> Result<u8, RunError>
-    ensures status { IfOk result (λ status. WroteSuch (IsBuilt built) (W.held sink.old) (W.held sink.new) status
-        × NoWriteFailed (W.failures sink.old) (W.failures sink.new) (W.stalls sink.old) (W.stalls sink.new)) }
-    ensures error { IfErr result (λ e. MatchRunError e ⊥ (BeganSuch (IsBuilt built) (W.held sink.old) (W.held sink.new)
-        × WriteFailed (W.failures sink.old) (W.failures sink.new) (W.stalls sink.old) (W.stalls sink.new))
-        (sink.new ≡ sink.old) ⊥) }
+    ensures { Tells (IsBuilt built) (W.account sink.old) (W.account sink.new) (sink.new ≡ sink.old) result }
 {
     let answer = match built {
         Ok(answer) => answer,

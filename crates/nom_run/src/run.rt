@@ -1,13 +1,13 @@
 //! The whole run: read, report, write.
 ghost use Rattle.std.specs.Prelude.{◌≡◌, ◌++◌, ◌⊎◌, [], length, IfOk, IfErr, Err, MatchBool};
-ghost use Rattle.std.specs.Io.KnownBytes.{Appends};
-ghost use Rattle.nom_run.specs.Stream.{CanGrow, CutAbove, Falls, MatchRunError, NeverFalls, NoneAbove, SomeAbove, ReadSome, ReadWhole, Reported};
-ghost use Rattle.nom_run.specs.Stream.{Stopped, WriteFailed, WroteFront, one_more};
+ghost use Rattle.nom_io.specs.Account.{one_more};
+ghost use Rattle.nom_run.specs.Pieces.{Puts};
+ghost use Rattle.nom_run.specs.Runs.{CanGrow, CutAbove, Falls, MatchRunError, NeverFalls, NoneAbove, SomeAbove, ReadSome, ReadWhole, Reported, Stopped};
 
 use crate::error::RunError;
 use crate::report::Report;
-use crate::stream::{Sink, Source};
 use nom_error::answer::OutOfMemory;
+use nom_io::stream::{Sink, Source};
 use std::alloc::Allocator;
 
 // Whether no cut is below the one before.
@@ -40,12 +40,9 @@ fn keep<A: Allocator>(bytes: &mut Vec<u8, A>, more: &[u8]) -> Result<(), OutOfMe
 // Reads what is left, onto `bytes`.
 fn read_all<A: Allocator, S: Source>(source: &mut S, bytes: &mut Vec<u8, A>) -> Result<(), RunError>
     requires { bytes.old.items ≡ [] }
-    ensures whole { IfOk result (λ _. ReadWhole (S.left source.old) (S.left source.new) bytes.new.items × (S.failures source.new ≡ S.failures source.old)) }
-    ensures error { IfErr result (λ e. MatchRunError e
-        (S.failures source.new ≡ one_more (S.failures source.old))
-        ⊥
-        ((S.failures source.new ≡ S.failures source.old) × ReadSome (S.left source.old) (S.left source.new))
-        ⊥) }
+    ensures whole { IfOk result (λ _. ReadWhole (S.account source.old) (S.account source.new) bytes.new.items) }
+    ensures error { IfErr result (λ e. MatchRunError e ((S.account source.new).failures ≡ one_more (S.account source.old).failures) ⊥
+        (ReadSome (S.account source.old) (S.account source.new)) ⊥) }
 {
     let mut room = [0u8; 256];
     for _turn in 0..u64::MAX {
@@ -70,10 +67,7 @@ fn read_all<A: Allocator, S: Source>(source: &mut S, bytes: &mut Vec<u8, A>) -> 
 /// A failed call is not tried again, and a write that takes no byte is a failure. Both are `Write`.
 pub fn write_all<W: Sink>(sink: &mut W, text: &[u8]) -> Result<(), RunError>
     ensures none { text.now ≡ [] → sink.new ≡ sink.old }
-    ensures stalls { IfOk result (λ _. W.stalls sink.new ≡ W.stalls sink.old) }
-    ensures whole { IfOk result (λ _. Appends (W.held sink.old) (W.held sink.new) text.now × (W.failures sink.new ≡ W.failures sink.old)) }
-    ensures error { IfErr result (λ e. MatchRunError e ⊥ (WroteFront (W.held sink.old) (W.held sink.new) text.now ×
-        WriteFailed (W.failures sink.old) (W.failures sink.new) (W.stalls sink.old) (W.stalls sink.new)) ⊥ ⊥) }
+    ensures puts { Puts (W.account sink.old) (W.account sink.new) [] text.now [] result }
 {
     let mut at = 0;
     while at < text.len() {
@@ -107,17 +101,13 @@ pub fn run<A: Allocator + Copy, R: Report, S: Source, W: Sink>(
 ) -> Result<u8, RunError>
     ensures falls { Falls cuts.now → (result ≡ Err RunError.Usage) × (source.new ≡ source.old) × (sink.new ≡ sink.old) }
     ensures status { IfOk result (λ status.
-        Reported R.is_report (S.left source.old) (S.left source.new) (W.held sink.old) (W.held sink.new) cuts.now status
-        × (S.failures source.new ≡ S.failures source.old) × (W.failures sink.new ≡ W.failures sink.old)) }
+        Reported R.is_report (S.account source.old) (S.account source.new) (W.account sink.old) (W.account sink.new) cuts.now status) }
     ensures error { IfErr result (λ e. MatchRunError e
-        ((sink.new ≡ sink.old) × (S.failures source.new ≡ one_more (S.failures source.old)))
-        (Stopped R.is_report (S.left source.old) (S.left source.new) (W.held sink.old) (W.held sink.new) cuts.now
-        × (S.failures source.new ≡ S.failures source.old)
-        × WriteFailed (W.failures sink.old) (W.failures sink.new) (W.stalls sink.old) (W.stalls sink.new))
-        ((sink.new ≡ sink.old) × (S.failures source.new ≡ S.failures source.old)
-        × CanGrow (S.left source.old) (S.left source.new) cuts.now)
-        ((sink.new ≡ sink.old) × (S.failures source.new ≡ S.failures source.old)
-        × (((source.new ≡ source.old) × Falls cuts.now) ⊎ CutAbove (S.left source.old) (S.left source.new) cuts.now))) }
+        ((sink.new ≡ sink.old) × ((S.account source.new).failures ≡ one_more (S.account source.old).failures))
+        (Stopped R.is_report (S.account source.old) (S.account source.new) (W.account sink.old) (W.account sink.new) cuts.now)
+        ((sink.new ≡ sink.old) × CanGrow (S.account source.old) (S.account source.new) cuts.now)
+        ((sink.new ≡ sink.old)
+        × (((source.new ≡ source.old) × Falls cuts.now) ⊎ CutAbove (S.account source.old) (S.account source.new) cuts.now))) }
 {
     if !never_fall(cuts) {
         return Err(RunError::Usage);

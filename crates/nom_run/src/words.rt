@@ -1,6 +1,6 @@
 //! Cuts, as words define them.
 ghost use Rattle.std.specs.Prelude.{◌≡◌, ◌++◌, [], ◌∷◌, map, IfOk, IfErr, MatchOption};
-ghost use Rattle.nom_run.specs.Stream.{MatchRunError};
+ghost use Rattle.nom_run.specs.Runs.{MatchRunError};
 ghost use Rattle.nom_run.specs.Words.{IsNumber, word_number, Numbers, BadWord, StartsWithNumbers};
 
 use crate::error::RunError;

@@ -1,7 +1,7 @@
 //! `nom_settings FILE`: the settings of a file, each with its line and column, its section, its name and its value.
 #![tactic(auto)]
 
-use nom_run::counted::Counted;
+use nom_io::counted::Counted;
 use nom_run::error::RunError;
 use nom_run::program::{status_of, tell_fault};
 use nom_settings_run::report::Settings;

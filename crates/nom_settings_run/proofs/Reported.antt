@@ -1,7 +1,7 @@
 -- The report, from the answer on a text.
 use Rattle.std.specs.Str.{IsValidUpTo}
-use Rattle.std.proofs.Common.{inl, inr, ◌≡◌, ◌++◌, ℕ, false, List, append_assoc, take, Vec, Result, refl, sym, ◌∙◌, ap, subst}
-use Rattle.std.specs.Prelude.{codes, decimal, encode_utf8_all, IsUtf8, Option}
+use Rattle.std.proofs.Common.{inl, inr, ◌≡◌, ℕ, false, List, take, Vec, Result, refl, sym, ◌∙◌, ap, subst}
+use Rattle.std.specs.Prelude.{encode_utf8_all, IsUtf8, Option}
 use Rattle.nom_internal.specs.Prelude.{Needed, Slice, IsModelledBy, Outcome, Accept, Refuse, Stop, Fails, Needs, ParsesOutcome, ParseRanOut, Parsed}
 use Rattle.nom_error.specs.declared.answer.Err as Answer
 use Rattle.nom_error.specs.declared.value.Error.{Error}
@@ -10,7 +10,7 @@ use Rattle.nom_run.proofs.Told.{lines-same}
 use Rattle.nom.specs.grammars.Grammar.{Parses}
 use Rattle.nom_settings_run.specs.Settings.{SectionTree, SettingTree, section_of, setting_of, settings_of}
 use Rattle.nom_located.specs.Located.{place}
-use Rattle.nom_settings_run.specs.Report.{IsReport, IsTold, IsToldBytes, OfText, place_of, Says, Text, bytes_of, entry_text, line_text, place_text, seen_there}
+use Rattle.nom_settings_run.specs.Report.{IsReport, IsTold, IsToldBytes, OfText, place_of, Says, Text, bytes_of, line_text, seen_there}
 use Rattle.nom_settings_run.specs.Report.{section_text, section_tree_text, sections_text, setting_text, setting_tree_text, spelled, trees_text}
 
 same_bytes : (t : Slice seen_there) (o : Text) → IsModelledBy seen_there t o → spelled o ≡ bytes_of t
@@ -21,14 +21,6 @@ pub same_line : (line column line' column' : ℕ) (s n v s' n' v' : List ℕ) �
 same_line line column line' column' s n v s' n' v' a b c d e =
     ap (λ x. line_text x column s n v) a ∙ (ap (λ x. line_text line' x s n v) b ∙ (ap (λ x. line_text line' column' x n v) c
     ∙ (ap (λ x. line_text line' column' s' x v) d ∙ ap (λ x. line_text line' column' s' n' x) e)))
-
--- a line is made of its parts
-four_parts : (a b c d rest : List ℕ) → ((a ++ b) ++ (c ++ d)) ++ rest ≡ a ++ (b ++ (c ++ (d ++ rest)))
-four_parts a b c d rest = append_assoc (a ++ b) (c ++ d) rest ∙ append_assoc a b ((c ++ d) ++ rest) ∙ ap (λ z. a ++ (b ++ z)) (append_assoc c d rest)
-
-pub line_parts : (line column : ℕ) (s n v : List ℕ) → place_text line column ++ entry_text s n v ≡ line_text line column s n v
-line_parts line column s n v = four_parts (decimal line) (codes ":") (decimal column) (codes " [") (entry_text s n v) ∙
-    ap (λ z. decimal line ++ (codes ":" ++ (decimal column ++ (codes " [" ++ z)))) (four_parts s (codes "] ") n (codes "=") (v ++ codes "\n"))
 
 -- outputs have the lines of their trees
 setting_same : (u : Slice seen_there) (s : Text) → IsModelledBy seen_there u s → (t : SettingTree seen_there) (o : Text × Text) →

@@ -26,20 +26,13 @@ place_of x = place x.offset x.line x.column
 abbrev pub seen_there : Model Text ℕ
 seen_there = located_model (λ x. x.fragment) place_of (λ x. x.extra) encode_utf8 text_model
 
+-- the names of a setting's section and of the setting, and its value, as they end its line
+abbrev pub entry_text : (section name value : List ℕ) → List ℕ
+entry_text section name value = section ++ (codes "] " ++ (name ++ (codes "=" ++ (value ++ codes "\n"))))
+
 -- the line of a setting: where its name stands, the name of its section, and its name and value
 abbrev pub line_text : (line column : ℕ) (section name value : List ℕ) → List ℕ
-line_text line column section name value =
-    decimal line ++ (codes ":" ++ (decimal column ++ (codes " [" ++ (section ++ (codes "] " ++ (name ++ (codes "=" ++ (value ++ codes "\n"))))))))
-
--- the parts of that line, as they are written
-abbrev pub place_text : (line column : ℕ) → List ℕ
-place_text line column = (decimal line ++ codes ":") ++ (decimal column ++ codes " [")
-
-abbrev pub names_text : (section name : List ℕ) → List ℕ
-names_text section name = (section ++ codes "] ") ++ (name ++ codes "=")
-
-abbrev pub entry_text : (section name value : List ℕ) → List ℕ
-entry_text section name value = names_text section name ++ (value ++ codes "\n")
+line_text line column section name value = decimal line ++ (codes ":" ++ (decimal column ++ (codes " [" ++ entry_text section name value)))
 
 -- the line of a fault: where it stands, and its kind
 abbrev pub fault_text : (line column : ℕ) → ErrorKind → List ℕ

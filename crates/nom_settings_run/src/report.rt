@@ -1,9 +1,8 @@
 //! The report on a file of settings.
-ghost use Rattle.std.specs.Prelude.{◌≡◌, ◌++◌, ◌≤◌, IfOk, IfErr, decimal, length, string_bytes, take};
-ghost use Rattle.std.specs.Io.KnownBytes.{Appends};
-ghost use Rattle.nom_run.specs.Pieces.{BeganText, HasRoom, Puts};
-ghost use Rattle.nom_run.specs.Stream.{BeganSuch, MatchRunError, NoWriteFailed, WriteFailed, WroteSuch};
-ghost use Rattle.nom_settings_run.specs.Report.{IsReport, IsTold, IsToldBytes, IsToldStop, entry_text, fault_text, line_text, names_text, place_text};
+ghost use Rattle.std.specs.Prelude.{◌≡◌, ◌++◌, ◌≤◌, IfOk, decimal, length, string_bytes, take};
+ghost use Rattle.nom_run.specs.Pieces.{HasRoom, Puts};
+ghost use Rattle.nom_run.specs.Runs.{Tells};
+ghost use Rattle.nom_settings_run.specs.Report.{IsReport, IsTold, IsToldBytes, IsToldStop, entry_text, fault_text, line_text};
 ghost use Rattle.nom_settings_run.specs.Report.{section_text, sections_text, setting_text};
 
 use crate::settings::{Section, settings};
@@ -11,12 +10,12 @@ use itoa::Buffer;
 use nom_error::answer::{Err, IResult, OutOfMemory};
 use nom_error::kind::ErrorKind;
 use nom_error::value::Error;
+use nom_io::stream::Sink;
 use nom_located::Located;
 use nom_located::promises::stands_after;
 use nom_run::error::RunError;
-use nom_run::pieces::{InPieces, flush, make_room, put, put_each};
+use nom_run::pieces::{InPieces, flush, make_room, put_each, put_texts};
 use nom_run::report::{Report, write_built};
-use nom_run::stream::Sink;
 use nom_traits::input::{Input, Items};
 use std::alloc::Allocator;
 use std::fmt::Write;
@@ -24,37 +23,6 @@ use std::str;
 
 /// A text that knows its line and column.
 pub type Text<'a> = Located<&'a str>;
-
-// Adds a text.
-fn put_text<A: Allocator, W: Sink>(
-    sink: &mut W,
-    room: &mut Vec<u8, A>,
-    text: &str,
-) -> Result<(), RunError>
-    requires { HasRoom room.old }
-    ensures room { HasRoom room.new }
-    ensures puts { Puts W.held W.failures W.stalls sink.old sink.new room.old.items text.now room.new.items result }
-{
-    put(sink, room, text.as_bytes())
-}
-
-// Adds a text, and another one after it.
-fn put_pair<A: Allocator, W: Sink>(
-    sink: &mut W,
-    room: &mut Vec<u8, A>,
-    first: &str,
-    second: &str,
-) -> Result<(), RunError>
-    requires { HasRoom room.old }
-    ensures room { HasRoom room.new }
-    ensures puts { Puts W.held W.failures W.stalls sink.old sink.new room.old.items (first.now ++ second.now) room.new.items result }
-{
-    match put_text(sink, room, first) {
-        Ok(()) => {}
-        Err(error) => return Err(error),
-    }
-    put_text(sink, room, second)
-}
 
 // Adds a number, and a text after it.
 fn put_number<A: Allocator, W: Sink>(
@@ -65,49 +33,13 @@ fn put_number<A: Allocator, W: Sink>(
 ) -> Result<(), RunError>
     requires { HasRoom room.old }
     ensures room { HasRoom room.new }
-    ensures puts { Puts W.held W.failures W.stalls sink.old sink.new room.old.items (decimal number ++ after.now) room.new.items result }
+    ensures puts { Puts (W.account sink.old) (W.account sink.new) room.old.items (decimal number ++ after.now) room.new.items result }
 {
     let mut digits = Buffer::new();
-    put_pair(sink, room, digits.format(number), after)
+    put_texts(sink, room, &[digits.format(number), after])
 }
 
-// Adds the beginning of a line, up to the section's name.
-fn put_place<A: Allocator, W: Sink>(
-    sink: &mut W,
-    room: &mut Vec<u8, A>,
-    line: usize,
-    column: usize,
-) -> Result<(), RunError>
-    requires { HasRoom room.old }
-    ensures room { HasRoom room.new }
-    ensures puts { Puts W.held W.failures W.stalls sink.old sink.new room.old.items (place_text line column) room.new.items result }
-{
-    match put_number(sink, room, line, ":") {
-        Ok(()) => {}
-        Err(error) => return Err(error),
-    }
-    put_number(sink, room, column, " [")
-}
-
-// Adds the names of the section and of the setting.
-fn put_names<A: Allocator, W: Sink>(
-    sink: &mut W,
-    room: &mut Vec<u8, A>,
-    section: &str,
-    name: &str,
-) -> Result<(), RunError>
-    requires { HasRoom room.old }
-    ensures room { HasRoom room.new }
-    ensures puts { Puts W.held W.failures W.stalls sink.old sink.new room.old.items (names_text section.now name.now) room.new.items result }
-{
-    match put_pair(sink, room, section, "] ") {
-        Ok(()) => {}
-        Err(error) => return Err(error),
-    }
-    put_pair(sink, room, name, "=")
-}
-
-// Adds the names and the value.
+// Adds the names of the section and of the setting, and the value.
 fn put_entry<A: Allocator, W: Sink>(
     sink: &mut W,
     room: &mut Vec<u8, A>,
@@ -117,13 +49,9 @@ fn put_entry<A: Allocator, W: Sink>(
 ) -> Result<(), RunError>
     requires { HasRoom room.old }
     ensures room { HasRoom room.new }
-    ensures puts { Puts W.held W.failures W.stalls sink.old sink.new room.old.items (entry_text section.now name.now value.now) room.new.items result }
+    ensures puts { Puts (W.account sink.old) (W.account sink.new) room.old.items (entry_text section.now name.now value.now) room.new.items result }
 {
-    match put_names(sink, room, section, name) {
-        Ok(()) => {}
-        Err(error) => return Err(error),
-    }
-    put_pair(sink, room, value, "\n")
+    put_texts(sink, room, &[section, "] ", name, "=", value, "\n"])
 }
 
 // Adds a line, by the parts of it.
@@ -138,10 +66,14 @@ fn put_line<A: Allocator, W: Sink>(
 ) -> Result<(), RunError>
     requires { HasRoom room.old }
     ensures room { HasRoom room.new }
-    ensures puts { Puts W.held W.failures W.stalls sink.old sink.new room.old.items (line_text line column section.now name.now value.now)
+    ensures puts { Puts (W.account sink.old) (W.account sink.new) room.old.items (line_text line column section.now name.now value.now)
         room.new.items result }
 {
-    match put_place(sink, room, line, column) {
+    match put_number(sink, room, line, ":") {
+        Ok(()) => {}
+        Err(error) => return Err(error),
+    }
+    match put_number(sink, room, column, " [") {
         Ok(()) => {}
         Err(error) => return Err(error),
     }
@@ -157,7 +89,7 @@ fn put_setting<'a, A: Allocator, W: Sink>(
 ) -> Result<(), RunError>
     requires { HasRoom room.old }
     ensures room { HasRoom room.new }
-    ensures puts { Puts W.held W.failures W.stalls sink.old sink.new room.old.items (setting_text section.entry setting.entry) room.new.items result }
+    ensures puts { Puts (W.account sink.old) (W.account sink.new) room.old.items (setting_text section.entry setting.entry) room.new.items result }
 {
     let (name, value) = setting;
     let title = section.fragment();
@@ -203,12 +135,9 @@ fn write_sections<'a, A: Allocator + Copy, W: Sink>(
     alloc: A,
     found: &[Section<Text<'a>, A>],
     sink: &mut W,
-) -> Result<(), RunError>
-    ensures wrote { IfOk result (λ _. Appends (W.held sink.old) (W.held sink.new) (sections_text found.now)
-        × NoWriteFailed (W.failures sink.old) (W.failures sink.new) (W.stalls sink.old) (W.stalls sink.new)) }
-    ensures error { IfErr result (λ e. MatchRunError e ⊥ (BeganText (W.held sink.old) (W.held sink.new) (sections_text found.now)
-        × WriteFailed (W.failures sink.old) (W.failures sink.new) (W.stalls sink.old) (W.stalls sink.new))
-        (sink.new ≡ sink.old) ⊥) }
+) -> Result<u8, RunError>
+    ensures { Tells (λ text status. (text ≡ sections_text found.now) × (status ≡ 0)) (W.account sink.old) (W.account sink.new)
+        (sink.new ≡ sink.old) result }
 {
     let mut room = match make_room(alloc) {
         Ok(room) => room,
@@ -219,7 +148,7 @@ fn write_sections<'a, A: Allocator + Copy, W: Sink>(
         Err(error) => return Err(error),
     }
     match flush(sink, &mut room) {
-        Ok(()) => Ok(()),
+        Ok(()) => Ok(0),
         Err(error) => Err(error),
     }
 }
@@ -278,17 +207,10 @@ fn write_answer<'a, A: Allocator + Copy, W: Sink>(
     answer: IResult<Text<'a>, Vec<Section<Text<'a>, A>, A>, Error<Text<'a>>>,
     sink: &mut W,
 ) -> Result<u8, RunError>
-    ensures status { IfOk result (λ status. WroteSuch (IsTold answer.entry) (W.held sink.old) (W.held sink.new) status
-        × NoWriteFailed (W.failures sink.old) (W.failures sink.new) (W.stalls sink.old) (W.stalls sink.new)) }
-    ensures error { IfErr result (λ e. MatchRunError e ⊥ (BeganSuch (IsTold answer.entry) (W.held sink.old) (W.held sink.new)
-        × WriteFailed (W.failures sink.old) (W.failures sink.new) (W.stalls sink.old) (W.stalls sink.new))
-        (sink.new ≡ sink.old) ⊥) }
+    ensures { Tells (IsTold answer.entry) (W.account sink.old) (W.account sink.new) (sink.new ≡ sink.old) result }
 {
     match answer {
-        Ok((_rest, found)) => match write_sections(alloc, &found, sink) {
-            Ok(()) => Ok(0),
-            Err(error) => Err(error),
-        },
+        Ok((_rest, found)) => write_sections(alloc, &found, sink),
         Err(stop) => write_built(tell_stop(alloc, stop), sink),
     }
 }

@@ -1,8 +1,8 @@
 pub mod BitForms
 pub mod Choices
 pub mod Decimals
+pub mod FirstSets
 pub mod FlatMaps
-pub mod Leads
 pub mod Lengths
 pub mod Options
 pub mod Reads

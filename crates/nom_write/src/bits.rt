@@ -6,8 +6,8 @@ ghost use Rattle.nom_sink.specs.Written.{LacksRoom, Written};
 ghost use Rattle.nom_write.specs.BitForms.{AreBitsOf, FieldFails, GroupFails, InWholeBytes, InWholeBytesFails, IsPadded, of_group};
 ghost use Rattle.nom_write.specs.laws.BitReads.{bit_code, bits_are_low, bits_reads, bool_reads};
 ghost use Rattle.nom_write.specs.laws.BitReads.{tag_bits_reads, tag_bits_reads_some, tag_bits_starts, take_bits_reads};
-ghost use Rattle.nom_write.specs.Leads.{whole_lead};
-ghost use Rattle.nom_write.specs.laws.LeadLaws.{fixed_leads, no_lead};
+ghost use Rattle.nom_write.specs.FirstSets.{whole_first};
+ghost use Rattle.nom_write.specs.laws.FirstSetLaws.{fixed_begins, no_first};
 
 use crate::writer::{Constant, Writer};
 use nom_bits::{BitUint, Bits, Bool, ErrorConvert, Tag, Take};
@@ -69,7 +69,7 @@ impl<I: Input<Item = u8>, O: BitUint + Copy, E: ParseError<(I, usize)>> Writer<(
 
     ghost reads = { λ p k c. take_bits_reads I.model E.errors O.of_bits O.bits O.exact O.WIDTH p.count };
 
-    ghost leads = { λ p. no_lead };
+    ghost begins = { λ p. no_first };
 }
 
 /// Writes the expected number, if the value is that number. Any other value is a mismatch.
@@ -79,7 +79,7 @@ impl<I: Input<Item = u8>, O: BitUint + Copy, E: ParseError<(I, usize)>> Writer<(
 
     ghost Fails = { λ p v s e. ((O.bits v ≡ p.pattern → ⊥) × (e ≡ WriteError.Mismatch s.start)) ⊎ FieldFails O.WIDTH p.count p.pattern s e };
 
-    ghost Lead = { λ p. whole_lead bit_code (low_bits p.count p.pattern) };
+    ghost First = { λ p. whole_first bit_code (low_bits p.count p.pattern) };
 
     #[inline]
     fn write<S: Sink<bool>>(&self, value: &O, out: &mut S) -> Result<(), WriteError> {
@@ -92,7 +92,7 @@ impl<I: Input<Item = u8>, O: BitUint + Copy, E: ParseError<(I, usize)>> Writer<(
 
     ghost reads = { λ p k c. tag_bits_reads I.model E.errors O.of_bits O.bits O.exact O.WIDTH p.pattern p.count };
 
-    ghost leads = { λ p. fixed_leads bit_code (low_bits p.count p.pattern) (λ v bs f. bits_are_low p.pattern p.count bs f.1)
+    ghost begins = { λ p. fixed_begins bit_code (low_bits p.count p.pattern) (λ v bs f. bits_are_low p.pattern p.count bs f.1)
         (tag_bits_starts I.model E.errors O.WIDTH p.pattern p.count) };
 }
 
@@ -100,7 +100,7 @@ impl<I: Input<Item = u8>, O: BitUint + Copy, E: ParseError<(I, usize)>> Constant
     for Tag<I, O, E> {
     ghost items = { λ p. low_bits p.count p.pattern };
 
-    ghost Start = { λ p. whole_lead bit_code (low_bits p.count p.pattern) };
+    ghost Start = { λ p. whole_first bit_code (low_bits p.count p.pattern) };
 
     ghost Fits = { λ p. (p.count ≤ O.WIDTH) × (p.pattern < 2 ^ p.count) };
 
@@ -127,7 +127,7 @@ impl<I: Input<Item = u8>, E: ParseError<(I, usize)>> Writer<(I, usize)> for Bool
 
     ghost reads = { λ p k c. bool_reads I.model E.errors };
 
-    ghost leads = { λ p. no_lead };
+    ghost begins = { λ p. no_first };
 }
 
 /// Returns the byte of up to eight bits, with zeros after them.
@@ -189,7 +189,7 @@ where
 
     ghost Fails = { λ p v. InWholeBytesFails (P.Form p.parser v) (P.Fails p.parser v) };
 
-    ghost CanWrite = { λ p. P.CanWrite p.parser × ((rest : List Bool) → P.MayFollow p.parser rest) };
+    ghost CanWrite = { λ p. P.CanWrite p.parser × ((rest : List Bool) → P.Follow p.parser rest) };
 
     #[inline]
     fn write<S: Sink<u8>>(&self, value: &P::Output, out: &mut S) -> Result<(), WriteError> {
@@ -203,5 +203,5 @@ where
 
     ghost reads = { λ p k c. bits_reads I.model P.Error.converts c.1 (P.reads p.parser k c.0) };
 
-    ghost leads = { λ p. no_lead };
+    ghost begins = { λ p. no_first };
 }

@@ -1,8 +1,8 @@
 //! Tags, and fronts of a given length.
 ghost use Rattle.std.specs.Prelude.{◌≡◌, ◌⊎◌, length};
 ghost use Rattle.nom_internal.specs.Prelude.{bytes_model};
-ghost use Rattle.nom_write.specs.Leads.{lead_of};
-ghost use Rattle.nom_write.specs.laws.LeadLaws.{fixed_leads, no_lead, tag_starts};
+ghost use Rattle.nom_write.specs.FirstSets.{first_of};
+ghost use Rattle.nom_write.specs.laws.FirstSetLaws.{fixed_begins, no_first, tag_starts};
 ghost use Rattle.nom_write.specs.Reads.{Holds};
 ghost use Rattle.nom_sink.specs.Written.{LacksRoom};
 ghost use Rattle.nom_sink.specs.declared.error.WriteError.{WriteError};
@@ -23,7 +23,7 @@ impl<'a, 'b, E: ParseError<&'a [u8]>> Writer<&'a [u8]> for Tag<&'b [u8], &'a [u8
 
     ghost Fails = { λ p v s e. LacksRoom (length p.tag.now) s e ⊎ ((v.now ≡ p.tag.now → ⊥) × (e ≡ WriteError.Mismatch s.start)) };
 
-    ghost Lead = { λ p. lead_of (λ b. b) p.tag.now };
+    ghost First = { λ p. first_of (λ b. b) p.tag.now };
 
     #[inline(always)]
     fn write<S: Sink<u8>>(&self, value: &&'a [u8], out: &mut S) -> Result<(), WriteError> {
@@ -38,7 +38,7 @@ impl<'a, 'b, E: ParseError<&'a [u8]>> Writer<&'a [u8]> for Tag<&'b [u8], &'a [u8
 
     ghost reads = { λ p k c. tag_reads E.errors p.tag.now };
 
-    ghost leads = { λ p. fixed_leads (λ b. b) p.tag.now (λ v xs f. f.0) (tag_starts E.errors p.tag.now) };
+    ghost begins = { λ p. fixed_begins (λ b. b) p.tag.now (λ v xs f. f.0) (tag_starts E.errors p.tag.now) };
 }
 
 impl<'a, 'b, E: ParseError<&'a [u8]>> Constant<&'a [u8]> for Tag<&'b [u8], &'a [u8], E> {
@@ -46,7 +46,7 @@ impl<'a, 'b, E: ParseError<&'a [u8]>> Constant<&'a [u8]> for Tag<&'b [u8], &'a [
 
     ghost items = { λ p. p.tag.now };
 
-    ghost Start = { λ p. lead_of (λ b. b) p.tag.now };
+    ghost Start = { λ p. first_of (λ b. b) p.tag.now };
 
     #[inline(always)]
     fn write_constant<S: Sink<u8>>(&self, out: &mut S) -> Result<(), WriteError> {
@@ -78,5 +78,5 @@ impl<I: Unmarked, E: ParseError<I>> Writer<I> for Take<I, E> {
 
     ghost reads = { λ p k c. take_value_reads I.model E.errors I.lack p.count I.one_mark };
 
-    ghost leads = { λ p. no_lead };
+    ghost begins = { λ p. no_first };
 }

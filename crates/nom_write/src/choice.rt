@@ -3,8 +3,8 @@
 //! The branches before must refuse what a branch writes. Their words show it, if they and those of the branch are known. If not, callers
 //! prove it, by `either_apart` of `specs/laws/ChoiceReads.antt`.
 ghost use Rattle.nom_write.specs.Choices.{first_forms, or_forms};
-ghost use Rattle.nom_write.specs.Leads.{AreApart, either_lead, one_branch, or_branch};
-ghost use Rattle.nom_write.specs.laws.LeadLaws.{alt_leads, differ_apart, either_leads};
+ghost use Rattle.nom_write.specs.FirstSets.{AreDisjoint, either_first, one_branch, or_branch};
+ghost use Rattle.nom_write.specs.laws.FirstSetLaws.{alt_begins, differ_apart, either_begins};
 ghost use Rattle.nom_sink.specs.Choices.{Either, EitherFails};
 ghost use Rattle.nom_write.specs.laws.BranchReads.{first_branch, last_branch, next_branch};
 ghost use Rattle.nom_write.specs.laws.ChoiceReads.{alt_reads, either_reads};
@@ -31,12 +31,12 @@ impl<
 
     ghost Fails = { λ p v. EitherFails (F.Fails p.first v) (G.Fails p.second v) };
 
-    ghost MayFollow = { λ p rest. F.MayFollow p.first rest × G.MayFollow p.second rest };
+    ghost Follow = { λ p rest. F.Follow p.first rest × G.Follow p.second rest };
 
     ghost CanWrite = { λ p. F.CanWrite p.first × G.CanWrite p.second ×
-        AreApart I.model (F.grammar (F.state p.first)) (F.Lead p.first) (G.Form p.second) (G.Lead p.second) };
+        AreDisjoint I.model (F.grammar (F.state p.first)) (F.First p.first) (G.Form p.second) (G.First p.second) };
 
-    ghost Lead = { λ p. either_lead (F.Lead p.first) (G.Lead p.second) };
+    ghost First = { λ p. either_first (F.First p.first) (G.First p.second) };
 
     #[inline]
     fn write<X: Sink<I::Item>>(&self, value: &F::Output, out: &mut X) -> Result<(), WriteError> {
@@ -47,10 +47,10 @@ impl<
         .put(out)
     }
 
-    ghost reads = { λ p k c. either_reads F.Error.errors (differ_apart (F.leads p.first) (G.leads p.second) c.2) (F.reads p.first k.0 c.0) (G.reads
+    ghost reads = { λ p k c. either_reads F.Error.errors (differ_apart (F.begins p.first) (G.begins p.second) c.2) (F.reads p.first k.0 c.0) (G.reads
         p.second k.1 c.1) };
 
-    ghost leads = { λ p. either_leads F.Error.errors (F.leads p.first) (G.leads p.second) };
+    ghost begins = { λ p. either_begins F.Error.errors (F.begins p.first) (G.begins p.second) };
 }
 
 impl<I: Items, P: Writer<I>, Q: Writer<I, Error = P::Error, Output = P::Output>> Writer<I>
@@ -59,12 +59,12 @@ impl<I: Items, P: Writer<I>, Q: Writer<I, Error = P::Error, Output = P::Output>>
 
     ghost Fails = { λ p v. let b = p.parsers in EitherFails (P.Fails b.0 v) (Q.Fails b.1 v) };
 
-    ghost MayFollow = { λ p rest. let b = p.parsers in P.MayFollow b.0 rest × Q.MayFollow b.1 rest };
+    ghost Follow = { λ p rest. let b = p.parsers in P.Follow b.0 rest × Q.Follow b.1 rest };
 
     ghost CanWrite = { λ p. let b = p.parsers in let e = P.Error.errors in (P.CanWrite b.0 × Q.CanWrite b.1) × (or_branch I.model e (one_branch (P.grammar
-        (P.state b.0)) (P.Lead b.0)) (Q.grammar (Q.state b.1)) (Q.Form b.1) (Q.Lead b.1)).AreKeptApart };
+        (P.state b.0)) (P.First b.0)) (Q.grammar (Q.state b.1)) (Q.Form b.1) (Q.First b.1)).AreAllDisjoint };
 
-    ghost Lead = { λ p. let b = p.parsers in either_lead (P.Lead b.0) (Q.Lead b.1) };
+    ghost First = { λ p. let b = p.parsers in either_first (P.First b.0) (Q.First b.1) };
 
     #[inline]
     fn write<X: Sink<I::Item>>(&self, value: &P::Output, out: &mut X) -> Result<(), WriteError> {
@@ -72,10 +72,10 @@ impl<I: Items, P: Writer<I>, Q: Writer<I, Error = P::Error, Output = P::Output>>
         FirstFit(first, OneValue::<I, Q>(&self.parsers.1, value, PhantomData)).put(out)
     }
 
-    ghost reads = { λ p k c. let b = p.parsers in let e = P.Error.errors in alt_reads e (last_branch e (first_branch (P.reads b.0 k.0 c.0.0) (P.leads b.0))
-        (Q.reads b.1 k.1 c.0.1) (Q.leads b.1) c.1.1) };
+    ghost reads = { λ p k c. let b = p.parsers in let e = P.Error.errors in alt_reads e (last_branch e (first_branch (P.reads b.0 k.0 c.0.0) (P.begins b.0))
+        (Q.reads b.1 k.1 c.0.1) (Q.begins b.1) c.1.1) };
 
-    ghost leads = { λ p. let b = p.parsers in let e = P.Error.errors in alt_leads (either_leads e (P.leads b.0) (Q.leads b.1)) e };
+    ghost begins = { λ p. let b = p.parsers in let e = P.Error.errors in alt_begins (either_begins e (P.begins b.0) (Q.begins b.1)) e };
 }
 
 impl<
@@ -89,13 +89,13 @@ impl<
 
     ghost Fails = { λ p v. let b = p.parsers in EitherFails (EitherFails (P.Fails b.0 v) (Q.Fails b.1 v)) (R.Fails b.2 v) };
 
-    ghost MayFollow = { λ p rest. let b = p.parsers in (P.MayFollow b.0 rest × Q.MayFollow b.1 rest) × R.MayFollow b.2 rest };
+    ghost Follow = { λ p rest. let b = p.parsers in (P.Follow b.0 rest × Q.Follow b.1 rest) × R.Follow b.2 rest };
 
     ghost CanWrite = { λ p. let b = p.parsers in let e = P.Error.errors in (P.CanWrite b.0 × Q.CanWrite b.1 × R.CanWrite b.2) × (or_branch I.model e
-        (or_branch I.model e (one_branch (P.grammar (P.state b.0)) (P.Lead b.0)) (Q.grammar (Q.state b.1)) (Q.Form b.1) (Q.Lead b.1)) (R.grammar (R.state
-        b.2)) (R.Form b.2) (R.Lead b.2)).AreKeptApart };
+        (or_branch I.model e (one_branch (P.grammar (P.state b.0)) (P.First b.0)) (Q.grammar (Q.state b.1)) (Q.Form b.1) (Q.First b.1)) (R.grammar (R.state
+        b.2)) (R.Form b.2) (R.First b.2)).AreAllDisjoint };
 
-    ghost Lead = { λ p. let b = p.parsers in either_lead (either_lead (P.Lead b.0) (Q.Lead b.1)) (R.Lead b.2) };
+    ghost First = { λ p. let b = p.parsers in either_first (either_first (P.First b.0) (Q.First b.1)) (R.First b.2) };
 
     #[inline]
     fn write<X: Sink<I::Item>>(&self, value: &P::Output, out: &mut X) -> Result<(), WriteError> {
@@ -105,9 +105,10 @@ impl<
     }
 
     ghost reads = { λ p k c. let b = p.parsers in let e = P.Error.errors in alt_reads e (last_branch e (next_branch e (first_branch (P.reads b.0 k.0.0 c.0.0)
-        (P.leads b.0)) (Q.reads b.1 k.0.1 c.0.1) (Q.leads b.1) c.1.0.1) (R.reads b.2 k.1 c.0.2) (R.leads b.2) c.1.1) };
+        (P.begins b.0)) (Q.reads b.1 k.0.1 c.0.1) (Q.begins b.1) c.1.0.1) (R.reads b.2 k.1 c.0.2) (R.begins b.2) c.1.1) };
 
-    ghost leads = { λ p. let b = p.parsers in let e = P.Error.errors in alt_leads (either_leads e (either_leads e (P.leads b.0) (Q.leads b.1)) (R.leads b.2))
+    ghost begins = { λ p. let b = p.parsers in let e = P.Error.errors in alt_begins (either_begins e (either_begins e (P.begins b.0) (Q.begins b.1))
+        (R.begins b.2))
         e };
 }
 
@@ -123,13 +124,13 @@ impl<
 
     ghost Fails = { λ p v. let b = p.parsers in EitherFails (EitherFails (EitherFails (P.Fails b.0 v) (Q.Fails b.1 v)) (R.Fails b.2 v)) (S.Fails b.3 v) };
 
-    ghost MayFollow = { λ p rest. let b = p.parsers in ((P.MayFollow b.0 rest × Q.MayFollow b.1 rest) × R.MayFollow b.2 rest) × S.MayFollow b.3 rest };
+    ghost Follow = { λ p rest. let b = p.parsers in ((P.Follow b.0 rest × Q.Follow b.1 rest) × R.Follow b.2 rest) × S.Follow b.3 rest };
 
     ghost CanWrite = { λ p. let b = p.parsers in let e = P.Error.errors in (P.CanWrite b.0 × Q.CanWrite b.1 × R.CanWrite b.2 × S.CanWrite b.3) × (or_branch
-        I.model e (or_branch I.model e (or_branch I.model e (one_branch (P.grammar (P.state b.0)) (P.Lead b.0)) (Q.grammar (Q.state b.1)) (Q.Form b.1) (Q.Lead
-        b.1)) (R.grammar (R.state b.2)) (R.Form b.2) (R.Lead b.2)) (S.grammar (S.state b.3)) (S.Form b.3) (S.Lead b.3)).AreKeptApart };
+        I.model e (or_branch I.model e (or_branch I.model e (one_branch (P.grammar (P.state b.0)) (P.First b.0)) (Q.grammar (Q.state b.1)) (Q.Form b.1) (Q.First
+        b.1)) (R.grammar (R.state b.2)) (R.Form b.2) (R.First b.2)) (S.grammar (S.state b.3)) (S.Form b.3) (S.First b.3)).AreAllDisjoint };
 
-    ghost Lead = { λ p. let b = p.parsers in either_lead (either_lead (either_lead (P.Lead b.0) (Q.Lead b.1)) (R.Lead b.2)) (S.Lead b.3) };
+    ghost First = { λ p. let b = p.parsers in either_first (either_first (either_first (P.First b.0) (Q.First b.1)) (R.First b.2)) (S.First b.3) };
 
     #[inline]
     fn write<X: Sink<I::Item>>(&self, value: &P::Output, out: &mut X) -> Result<(), WriteError> {
@@ -140,11 +141,12 @@ impl<
     }
 
     ghost reads = { λ p k c. let b = p.parsers in let e = P.Error.errors in alt_reads e (last_branch e (next_branch e (next_branch e (first_branch (P.reads
-        b.0 k.0.0.0 c.0.0) (P.leads b.0)) (Q.reads b.1 k.0.0.1 c.0.1) (Q.leads b.1) c.1.0.0.1) (R.reads b.2 k.0.1 c.0.2) (R.leads b.2) c.1.0.1) (S.reads b.3
-        k.1 c.0.3) (S.leads b.3) c.1.1) };
+        b.0 k.0.0.0 c.0.0) (P.begins b.0)) (Q.reads b.1 k.0.0.1 c.0.1) (Q.begins b.1) c.1.0.0.1) (R.reads b.2 k.0.1 c.0.2) (R.begins b.2) c.1.0.1) (S.reads b.3
+        k.1 c.0.3) (S.begins b.3) c.1.1) };
 
-    ghost leads = { λ p. let b = p.parsers in let e = P.Error.errors in alt_leads (either_leads e (either_leads e (either_leads e (P.leads b.0) (Q.leads b.1))
-        (R.leads b.2)) (S.leads b.3)) e };
+    ghost begins = { λ p. let b = p.parsers in let e = P.Error.errors in alt_begins (either_begins e (either_begins e (either_begins e (P.begins b.0)
+        (Q.begins b.1))
+        (R.begins b.2)) (S.begins b.3)) e };
 }
 
 impl<
@@ -161,15 +163,16 @@ impl<
     ghost Fails = { λ p v. let b = p.parsers in EitherFails (EitherFails (EitherFails (EitherFails (P.Fails b.0 v) (Q.Fails b.1 v)) (R.Fails b.2 v)) (S.Fails
         b.3 v)) (T.Fails b.4 v) };
 
-    ghost MayFollow = { λ p rest. let b = p.parsers in (((P.MayFollow b.0 rest × Q.MayFollow b.1 rest) × R.MayFollow b.2 rest) × S.MayFollow b.3 rest) ×
-        T.MayFollow b.4 rest };
+    ghost Follow = { λ p rest. let b = p.parsers in (((P.Follow b.0 rest × Q.Follow b.1 rest) × R.Follow b.2 rest) × S.Follow b.3 rest) ×
+        T.Follow b.4 rest };
 
     ghost CanWrite = { λ p. let b = p.parsers in let e = P.Error.errors in (P.CanWrite b.0 × Q.CanWrite b.1 × R.CanWrite b.2 × S.CanWrite b.3 × T.CanWrite
-        b.4) × (or_branch I.model e (or_branch I.model e (or_branch I.model e (or_branch I.model e (one_branch (P.grammar (P.state b.0)) (P.Lead b.0))
-        (Q.grammar (Q.state b.1)) (Q.Form b.1) (Q.Lead b.1)) (R.grammar (R.state b.2)) (R.Form b.2) (R.Lead b.2)) (S.grammar (S.state b.3)) (S.Form b.3)
-        (S.Lead b.3)) (T.grammar (T.state b.4)) (T.Form b.4) (T.Lead b.4)).AreKeptApart };
+        b.4) × (or_branch I.model e (or_branch I.model e (or_branch I.model e (or_branch I.model e (one_branch (P.grammar (P.state b.0)) (P.First b.0))
+        (Q.grammar (Q.state b.1)) (Q.Form b.1) (Q.First b.1)) (R.grammar (R.state b.2)) (R.Form b.2) (R.First b.2)) (S.grammar (S.state b.3)) (S.Form b.3)
+        (S.First b.3)) (T.grammar (T.state b.4)) (T.Form b.4) (T.First b.4)).AreAllDisjoint };
 
-    ghost Lead = { λ p. let b = p.parsers in either_lead (either_lead (either_lead (either_lead (P.Lead b.0) (Q.Lead b.1)) (R.Lead b.2)) (S.Lead b.3)) (T.Lead
+    ghost First = { λ p. let b = p.parsers in either_first (either_first (either_first (either_first (P.First b.0) (Q.First b.1)) (R.First b.2))
+        (S.First b.3)) (T.First
         b.4) };
 
     #[inline]
@@ -182,11 +185,12 @@ impl<
     }
 
     ghost reads = { λ p k c. let b = p.parsers in let e = P.Error.errors in alt_reads e (last_branch e (next_branch e (next_branch e (next_branch e
-        (first_branch (P.reads b.0 k.0.0.0.0 c.0.0) (P.leads b.0)) (Q.reads b.1 k.0.0.0.1 c.0.1) (Q.leads b.1) c.1.0.0.0.1) (R.reads b.2 k.0.0.1 c.0.2)
-        (R.leads b.2) c.1.0.0.1) (S.reads b.3 k.0.1 c.0.3) (S.leads b.3) c.1.0.1) (T.reads b.4 k.1 c.0.4) (T.leads b.4) c.1.1) };
+        (first_branch (P.reads b.0 k.0.0.0.0 c.0.0) (P.begins b.0)) (Q.reads b.1 k.0.0.0.1 c.0.1) (Q.begins b.1) c.1.0.0.0.1) (R.reads b.2 k.0.0.1 c.0.2)
+        (R.begins b.2) c.1.0.0.1) (S.reads b.3 k.0.1 c.0.3) (S.begins b.3) c.1.0.1) (T.reads b.4 k.1 c.0.4) (T.begins b.4) c.1.1) };
 
-    ghost leads = { λ p. let b = p.parsers in let e = P.Error.errors in alt_leads (either_leads e (either_leads e (either_leads e (either_leads e (P.leads
-        b.0) (Q.leads b.1)) (R.leads b.2)) (S.leads b.3)) (T.leads b.4)) e };
+    ghost begins = { λ p. let b = p.parsers in let e = P.Error.errors in alt_begins (either_begins e (either_begins e (either_begins e (either_begins
+        e (P.begins
+        b.0) (Q.begins b.1)) (R.begins b.2)) (S.begins b.3)) (T.begins b.4)) e };
 }
 
 impl<
@@ -204,17 +208,18 @@ impl<
     ghost Fails = { λ p v. let b = p.parsers in EitherFails (EitherFails (EitherFails (EitherFails (EitherFails (P.Fails b.0 v) (Q.Fails b.1 v)) (R.Fails b.2
         v)) (S.Fails b.3 v)) (T.Fails b.4 v)) (U.Fails b.5 v) };
 
-    ghost MayFollow = { λ p rest. let b = p.parsers in ((((P.MayFollow b.0 rest × Q.MayFollow b.1 rest) × R.MayFollow b.2 rest) × S.MayFollow b.3 rest) ×
-        T.MayFollow b.4 rest) × U.MayFollow b.5 rest };
+    ghost Follow = { λ p rest. let b = p.parsers in ((((P.Follow b.0 rest × Q.Follow b.1 rest) × R.Follow b.2 rest) × S.Follow b.3 rest) ×
+        T.Follow b.4 rest) × U.Follow b.5 rest };
 
     ghost CanWrite = { λ p. let b = p.parsers in let e = P.Error.errors in (P.CanWrite b.0 × Q.CanWrite b.1 × R.CanWrite b.2 × S.CanWrite b.3 × T.CanWrite b.4
         × U.CanWrite b.5) × (or_branch I.model e (or_branch I.model e (or_branch I.model e (or_branch I.model e (or_branch I.model e (one_branch (P.grammar
-        (P.state b.0)) (P.Lead b.0)) (Q.grammar (Q.state b.1)) (Q.Form b.1) (Q.Lead b.1)) (R.grammar (R.state b.2)) (R.Form b.2) (R.Lead b.2)) (S.grammar
-        (S.state b.3)) (S.Form b.3) (S.Lead b.3)) (T.grammar (T.state b.4)) (T.Form b.4) (T.Lead b.4)) (U.grammar (U.state b.5)) (U.Form b.5) (U.Lead
-        b.5)).AreKeptApart };
+        (P.state b.0)) (P.First b.0)) (Q.grammar (Q.state b.1)) (Q.Form b.1) (Q.First b.1)) (R.grammar (R.state b.2)) (R.Form b.2) (R.First b.2)) (S.grammar
+        (S.state b.3)) (S.Form b.3) (S.First b.3)) (T.grammar (T.state b.4)) (T.Form b.4) (T.First b.4)) (U.grammar (U.state b.5)) (U.Form b.5) (U.First
+        b.5)).AreAllDisjoint };
 
-    ghost Lead = { λ p. let b = p.parsers in either_lead (either_lead (either_lead (either_lead (either_lead (P.Lead b.0) (Q.Lead b.1)) (R.Lead b.2)) (S.Lead
-        b.3)) (T.Lead b.4)) (U.Lead b.5) };
+    ghost First = { λ p. let b = p.parsers in either_first (either_first (either_first (either_first (either_first (P.First b.0) (Q.First b.1))
+        (R.First b.2)) (S.First
+        b.3)) (T.First b.4)) (U.First b.5) };
 
     #[inline]
     fn write<X: Sink<I::Item>>(&self, value: &P::Output, out: &mut X) -> Result<(), WriteError> {
@@ -227,12 +232,12 @@ impl<
     }
 
     ghost reads = { λ p k c. let b = p.parsers in let e = P.Error.errors in alt_reads e (last_branch e (next_branch e (next_branch e (next_branch e
-        (next_branch e (first_branch (P.reads b.0 k.0.0.0.0.0 c.0.0) (P.leads b.0)) (Q.reads b.1 k.0.0.0.0.1 c.0.1) (Q.leads b.1) c.1.0.0.0.0.1) (R.reads b.2
-        k.0.0.0.1 c.0.2) (R.leads b.2) c.1.0.0.0.1) (S.reads b.3 k.0.0.1 c.0.3) (S.leads b.3) c.1.0.0.1) (T.reads b.4 k.0.1 c.0.4) (T.leads b.4) c.1.0.1)
-        (U.reads b.5 k.1 c.0.5) (U.leads b.5) c.1.1) };
+        (next_branch e (first_branch (P.reads b.0 k.0.0.0.0.0 c.0.0) (P.begins b.0)) (Q.reads b.1 k.0.0.0.0.1 c.0.1) (Q.begins b.1) c.1.0.0.0.0.1) (R.reads b.2
+        k.0.0.0.1 c.0.2) (R.begins b.2) c.1.0.0.0.1) (S.reads b.3 k.0.0.1 c.0.3) (S.begins b.3) c.1.0.0.1) (T.reads b.4 k.0.1 c.0.4) (T.begins b.4) c.1.0.1)
+        (U.reads b.5 k.1 c.0.5) (U.begins b.5) c.1.1) };
 
-    ghost leads = { λ p. let b = p.parsers in let e = P.Error.errors in alt_leads (either_leads e (either_leads e (either_leads e (either_leads e
-        (either_leads e (P.leads b.0) (Q.leads b.1)) (R.leads b.2)) (S.leads b.3)) (T.leads b.4)) (U.leads b.5)) e };
+    ghost begins = { λ p. let b = p.parsers in let e = P.Error.errors in alt_begins (either_begins e (either_begins e (either_begins e (either_begins e
+        (either_begins e (P.begins b.0) (Q.begins b.1)) (R.begins b.2)) (S.begins b.3)) (T.begins b.4)) (U.begins b.5)) e };
 }
 
 impl<
@@ -252,17 +257,18 @@ impl<
     ghost Fails = { λ p v. let b = p.parsers in EitherFails (EitherFails (EitherFails (EitherFails (EitherFails (EitherFails (P.Fails b.0 v) (Q.Fails b.1 v))
         (R.Fails b.2 v)) (S.Fails b.3 v)) (T.Fails b.4 v)) (U.Fails b.5 v)) (V.Fails b.6 v) };
 
-    ghost MayFollow = { λ p rest. let b = p.parsers in (((((P.MayFollow b.0 rest × Q.MayFollow b.1 rest) × R.MayFollow b.2 rest) × S.MayFollow b.3 rest) ×
-        T.MayFollow b.4 rest) × U.MayFollow b.5 rest) × V.MayFollow b.6 rest };
+    ghost Follow = { λ p rest. let b = p.parsers in (((((P.Follow b.0 rest × Q.Follow b.1 rest) × R.Follow b.2 rest) × S.Follow b.3 rest) ×
+        T.Follow b.4 rest) × U.Follow b.5 rest) × V.Follow b.6 rest };
 
     ghost CanWrite = { λ p. let b = p.parsers in let e = P.Error.errors in (P.CanWrite b.0 × Q.CanWrite b.1 × R.CanWrite b.2 × S.CanWrite b.3 × T.CanWrite b.4
         × U.CanWrite b.5 × V.CanWrite b.6) × (or_branch I.model e (or_branch I.model e (or_branch I.model e (or_branch I.model e (or_branch I.model e
-        (or_branch I.model e (one_branch (P.grammar (P.state b.0)) (P.Lead b.0)) (Q.grammar (Q.state b.1)) (Q.Form b.1) (Q.Lead b.1)) (R.grammar (R.state
-        b.2)) (R.Form b.2) (R.Lead b.2)) (S.grammar (S.state b.3)) (S.Form b.3) (S.Lead b.3)) (T.grammar (T.state b.4)) (T.Form b.4) (T.Lead b.4)) (U.grammar
-        (U.state b.5)) (U.Form b.5) (U.Lead b.5)) (V.grammar (V.state b.6)) (V.Form b.6) (V.Lead b.6)).AreKeptApart };
+        (or_branch I.model e (one_branch (P.grammar (P.state b.0)) (P.First b.0)) (Q.grammar (Q.state b.1)) (Q.Form b.1) (Q.First b.1)) (R.grammar (R.state
+        b.2)) (R.Form b.2) (R.First b.2)) (S.grammar (S.state b.3)) (S.Form b.3) (S.First b.3)) (T.grammar (T.state b.4)) (T.Form b.4) (T.First b.4)) (U.grammar
+        (U.state b.5)) (U.Form b.5) (U.First b.5)) (V.grammar (V.state b.6)) (V.Form b.6) (V.First b.6)).AreAllDisjoint };
 
-    ghost Lead = { λ p. let b = p.parsers in either_lead (either_lead (either_lead (either_lead (either_lead (either_lead (P.Lead b.0) (Q.Lead b.1)) (R.Lead
-        b.2)) (S.Lead b.3)) (T.Lead b.4)) (U.Lead b.5)) (V.Lead b.6) };
+    ghost First = { λ p. let b = p.parsers in either_first (either_first (either_first (either_first (either_first (either_first (P.First b.0)
+        (Q.First b.1)) (R.First
+        b.2)) (S.First b.3)) (T.First b.4)) (U.First b.5)) (V.First b.6) };
 
     #[inline]
     fn write<X: Sink<I::Item>>(&self, value: &P::Output, out: &mut X) -> Result<(), WriteError> {
@@ -276,12 +282,12 @@ impl<
     }
 
     ghost reads = { λ p k c. let b = p.parsers in let e = P.Error.errors in alt_reads e (last_branch e (next_branch e (next_branch e (next_branch e
-        (next_branch e (next_branch e (first_branch (P.reads b.0 k.0.0.0.0.0.0 c.0.0) (P.leads b.0)) (Q.reads b.1 k.0.0.0.0.0.1 c.0.1) (Q.leads b.1)
-        c.1.0.0.0.0.0.1) (R.reads b.2 k.0.0.0.0.1 c.0.2) (R.leads b.2) c.1.0.0.0.0.1) (S.reads b.3 k.0.0.0.1 c.0.3) (S.leads b.3) c.1.0.0.0.1) (T.reads b.4
-        k.0.0.1 c.0.4) (T.leads b.4) c.1.0.0.1) (U.reads b.5 k.0.1 c.0.5) (U.leads b.5) c.1.0.1) (V.reads b.6 k.1 c.0.6) (V.leads b.6) c.1.1) };
+        (next_branch e (next_branch e (first_branch (P.reads b.0 k.0.0.0.0.0.0 c.0.0) (P.begins b.0)) (Q.reads b.1 k.0.0.0.0.0.1 c.0.1) (Q.begins b.1)
+        c.1.0.0.0.0.0.1) (R.reads b.2 k.0.0.0.0.1 c.0.2) (R.begins b.2) c.1.0.0.0.0.1) (S.reads b.3 k.0.0.0.1 c.0.3) (S.begins b.3) c.1.0.0.0.1) (T.reads b.4
+        k.0.0.1 c.0.4) (T.begins b.4) c.1.0.0.1) (U.reads b.5 k.0.1 c.0.5) (U.begins b.5) c.1.0.1) (V.reads b.6 k.1 c.0.6) (V.begins b.6) c.1.1) };
 
-    ghost leads = { λ p. let b = p.parsers in let e = P.Error.errors in alt_leads (either_leads e (either_leads e (either_leads e (either_leads e
-        (either_leads e (either_leads e (P.leads b.0) (Q.leads b.1)) (R.leads b.2)) (S.leads b.3)) (T.leads b.4)) (U.leads b.5)) (V.leads b.6)) e };
+    ghost begins = { λ p. let b = p.parsers in let e = P.Error.errors in alt_begins (either_begins e (either_begins e (either_begins e (either_begins e
+        (either_begins e (either_begins e (P.begins b.0) (Q.begins b.1)) (R.begins b.2)) (S.begins b.3)) (T.begins b.4)) (U.begins b.5)) (V.begins b.6)) e };
 }
 
 impl<
@@ -302,18 +308,19 @@ impl<
     ghost Fails = { λ p v. let b = p.parsers in EitherFails (EitherFails (EitherFails (EitherFails (EitherFails (EitherFails (EitherFails (P.Fails b.0 v)
         (Q.Fails b.1 v)) (R.Fails b.2 v)) (S.Fails b.3 v)) (T.Fails b.4 v)) (U.Fails b.5 v)) (V.Fails b.6 v)) (W.Fails b.7 v) };
 
-    ghost MayFollow = { λ p rest. let b = p.parsers in ((((((P.MayFollow b.0 rest × Q.MayFollow b.1 rest) × R.MayFollow b.2 rest) × S.MayFollow b.3 rest) ×
-        T.MayFollow b.4 rest) × U.MayFollow b.5 rest) × V.MayFollow b.6 rest) × W.MayFollow b.7 rest };
+    ghost Follow = { λ p rest. let b = p.parsers in ((((((P.Follow b.0 rest × Q.Follow b.1 rest) × R.Follow b.2 rest) × S.Follow b.3 rest) ×
+        T.Follow b.4 rest) × U.Follow b.5 rest) × V.Follow b.6 rest) × W.Follow b.7 rest };
 
     ghost CanWrite = { λ p. let b = p.parsers in let e = P.Error.errors in (P.CanWrite b.0 × Q.CanWrite b.1 × R.CanWrite b.2 × S.CanWrite b.3 × T.CanWrite b.4
         × U.CanWrite b.5 × V.CanWrite b.6 × W.CanWrite b.7) × (or_branch I.model e (or_branch I.model e (or_branch I.model e (or_branch I.model e (or_branch
-        I.model e (or_branch I.model e (or_branch I.model e (one_branch (P.grammar (P.state b.0)) (P.Lead b.0)) (Q.grammar (Q.state b.1)) (Q.Form b.1) (Q.Lead
-        b.1)) (R.grammar (R.state b.2)) (R.Form b.2) (R.Lead b.2)) (S.grammar (S.state b.3)) (S.Form b.3) (S.Lead b.3)) (T.grammar (T.state b.4)) (T.Form b.4)
-        (T.Lead b.4)) (U.grammar (U.state b.5)) (U.Form b.5) (U.Lead b.5)) (V.grammar (V.state b.6)) (V.Form b.6) (V.Lead b.6)) (W.grammar (W.state b.7))
-        (W.Form b.7) (W.Lead b.7)).AreKeptApart };
+        I.model e (or_branch I.model e (or_branch I.model e (one_branch (P.grammar (P.state b.0)) (P.First b.0)) (Q.grammar (Q.state b.1)) (Q.Form b.1) (Q.First
+        b.1)) (R.grammar (R.state b.2)) (R.Form b.2) (R.First b.2)) (S.grammar (S.state b.3)) (S.Form b.3) (S.First b.3)) (T.grammar (T.state b.4)) (T.Form b.4)
+        (T.First b.4)) (U.grammar (U.state b.5)) (U.Form b.5) (U.First b.5)) (V.grammar (V.state b.6)) (V.Form b.6) (V.First b.6)) (W.grammar (W.state b.7))
+        (W.Form b.7) (W.First b.7)).AreAllDisjoint };
 
-    ghost Lead = { λ p. let b = p.parsers in either_lead (either_lead (either_lead (either_lead (either_lead (either_lead (either_lead (P.Lead b.0) (Q.Lead
-        b.1)) (R.Lead b.2)) (S.Lead b.3)) (T.Lead b.4)) (U.Lead b.5)) (V.Lead b.6)) (W.Lead b.7) };
+    ghost First = { λ p. let b = p.parsers in either_first (either_first (either_first (either_first (either_first (either_first (either_first
+        (P.First b.0) (Q.First
+        b.1)) (R.First b.2)) (S.First b.3)) (T.First b.4)) (U.First b.5)) (V.First b.6)) (W.First b.7) };
 
     #[inline]
     fn write<X: Sink<I::Item>>(&self, value: &P::Output, out: &mut X) -> Result<(), WriteError> {
@@ -328,12 +335,13 @@ impl<
     }
 
     ghost reads = { λ p k c. let b = p.parsers in let e = P.Error.errors in alt_reads e (last_branch e (next_branch e (next_branch e (next_branch e
-        (next_branch e (next_branch e (next_branch e (first_branch (P.reads b.0 k.0.0.0.0.0.0.0 c.0.0) (P.leads b.0)) (Q.reads b.1 k.0.0.0.0.0.0.1 c.0.1)
-        (Q.leads b.1) c.1.0.0.0.0.0.0.1) (R.reads b.2 k.0.0.0.0.0.1 c.0.2) (R.leads b.2) c.1.0.0.0.0.0.1) (S.reads b.3 k.0.0.0.0.1 c.0.3) (S.leads b.3)
-        c.1.0.0.0.0.1) (T.reads b.4 k.0.0.0.1 c.0.4) (T.leads b.4) c.1.0.0.0.1) (U.reads b.5 k.0.0.1 c.0.5) (U.leads b.5) c.1.0.0.1) (V.reads b.6 k.0.1 c.0.6)
-        (V.leads b.6) c.1.0.1) (W.reads b.7 k.1 c.0.7) (W.leads b.7) c.1.1) };
+        (next_branch e (next_branch e (next_branch e (first_branch (P.reads b.0 k.0.0.0.0.0.0.0 c.0.0) (P.begins b.0)) (Q.reads b.1 k.0.0.0.0.0.0.1 c.0.1)
+        (Q.begins b.1) c.1.0.0.0.0.0.0.1) (R.reads b.2 k.0.0.0.0.0.1 c.0.2) (R.begins b.2) c.1.0.0.0.0.0.1) (S.reads b.3 k.0.0.0.0.1 c.0.3) (S.begins b.3)
+        c.1.0.0.0.0.1) (T.reads b.4 k.0.0.0.1 c.0.4) (T.begins b.4) c.1.0.0.0.1) (U.reads b.5 k.0.0.1 c.0.5) (U.begins b.5) c.1.0.0.1) (V.reads b.6 k.0.1 c.0.6)
+        (V.begins b.6) c.1.0.1) (W.reads b.7 k.1 c.0.7) (W.begins b.7) c.1.1) };
 
-    ghost leads = { λ p. let b = p.parsers in let e = P.Error.errors in alt_leads (either_leads e (either_leads e (either_leads e (either_leads e
-        (either_leads e (either_leads e (either_leads e (P.leads b.0) (Q.leads b.1)) (R.leads b.2)) (S.leads b.3)) (T.leads b.4)) (U.leads b.5)) (V.leads
-        b.6)) (W.leads b.7)) e };
+    ghost begins = { λ p. let b = p.parsers in let e = P.Error.errors in alt_begins (either_begins e (either_begins e (either_begins e (either_begins e
+        (either_begins e (either_begins e (either_begins e (P.begins b.0) (Q.begins b.1)) (R.begins b.2)) (S.begins b.3)) (T.begins b.4)) (U.begins
+        b.5)) (V.begins
+        b.6)) (W.begins b.7)) e };
 }

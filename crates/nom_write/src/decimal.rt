@@ -3,7 +3,7 @@ ghost use Rattle.nom_character_integer.specs.laws.IntegerLaws.{integer_lawful, r
 ghost use Rattle.nom_write.specs.Decimals.{DecimalFails, IsDecimal, IsDigit};
 ghost use Rattle.nom_write.specs.Runs.{BeginsOther};
 ghost use Rattle.nom_write.specs.laws.DecimalReads.{decimal_reads};
-ghost use Rattle.nom_write.specs.laws.LeadLaws.{no_lead};
+ghost use Rattle.nom_write.specs.laws.FirstSetLaws.{no_first};
 
 use crate::writer::Writer;
 use nom_character_integer::Integer;
@@ -30,7 +30,7 @@ where
 
     ghost Fails = { λ p. DecimalFails I.Item.of_code p.signed T.value };
 
-    ghost MayFollow = { λ p. BeginsOther (IsDigit I.Item.code) };
+    ghost Follow = { λ p. BeginsOther (IsDigit I.Item.code) };
 
     #[inline]
     fn write<S: Sink<I::Item>>(&self, value: &T, out: &mut S) -> Result<(), WriteError> {
@@ -44,5 +44,5 @@ where
     ghost reads = { λ p k c. decimal_reads I.Item.code I.Item.of_code I.Item.coded I.model p.signed T.value T.fits E.errors
         (integer_lawful I.model I.Item.code p.signed T.fits (range_of T.fits T.exact T.exact_law T.small_fits_law T.between_law) E.errors) };
 
-    ghost leads = { λ p. no_lead };
+    ghost begins = { λ p. no_first };
 }

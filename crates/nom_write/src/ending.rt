@@ -147,13 +147,13 @@ impl<I: Items, F: Constant<I> + Drop, G: Ending<I, Error = F::Error> + Drop> End
 }
 
 impl<I: Items, F: Writer<I> + Drop, G: Ending<I, Error = F::Error> + Drop> Ending<I> for And<F, G> {
-    ghost MayEnd = { λ p. G.MayEnd p.second × ((b : G.Output) (ys : List I.Item) → G.Form p.second b ys → F.MayFollow p.first ys) };
+    ghost MayEnd = { λ p. G.MayEnd p.second × ((b : G.Output) (ys : List I.Item) → G.Form p.second b ys → F.Follow p.first ys) };
 
     ghost ends = { λ p k c e. pair_ends I.lawful e.1 (F.reads p.first k.0 c.0) (G.ends p.second k.1 c.1 e.0) };
 }
 
 impl<I: Items, P: Writer<I>, Q: Ending<I, Error = P::Error>> Ending<I> for (P, Q) {
-    ghost MayEnd = { λ p. Q.MayEnd p.1 × ((b : Q.Output) (ys : List I.Item) → Q.Form p.1 b ys → P.MayFollow p.0 ys) };
+    ghost MayEnd = { λ p. Q.MayEnd p.1 × ((b : Q.Output) (ys : List I.Item) → Q.Form p.1 b ys → P.Follow p.0 ys) };
 
     ghost ends = { λ p k c e. tuple_ends (λ o. (o.0, o.1)) (first_end I.lawful (P.reads p.0 k.0 c.0.0) (last_end e.1 (Q.ends p.1 k.1 c.0.1 e.0))) };
 }
@@ -161,7 +161,7 @@ impl<I: Items, P: Writer<I>, Q: Ending<I, Error = P::Error>> Ending<I> for (P, Q
 impl<I: Items, P: Writer<I>, Q: Writer<I, Error = P::Error>, R: Ending<I, Error = P::Error>> Ending<
     I,
 > for (P, Q, R) {
-    ghost MayEnd = { λ p. R.MayEnd p.2 × ((b : R.Output) (ys : List I.Item) → R.Form p.2 b ys → Q.MayFollow p.1 ys) };
+    ghost MayEnd = { λ p. R.MayEnd p.2 × ((b : R.Output) (ys : List I.Item) → R.Form p.2 b ys → Q.Follow p.1 ys) };
 
     ghost ends = { λ p k c e. tuple_ends (λ o. (o.0, (o.1, o.2))) (first_end I.lawful (P.reads p.0 k.0 c.0.0) (next_end I.lawful c.1 (Q.reads p.1 k.1.0 c.0.1)
         (last_end e.1 (R.ends p.2 k.1.1 c.0.2 e.0)))) };
@@ -174,7 +174,7 @@ impl<
     R: Writer<I, Error = P::Error>,
     S: Ending<I, Error = P::Error>,
 > Ending<I> for (P, Q, R, S) {
-    ghost MayEnd = { λ p. S.MayEnd p.3 × ((b : S.Output) (ys : List I.Item) → S.Form p.3 b ys → R.MayFollow p.2 ys) };
+    ghost MayEnd = { λ p. S.MayEnd p.3 × ((b : S.Output) (ys : List I.Item) → S.Form p.3 b ys → R.Follow p.2 ys) };
 
     ghost ends = { λ p k c e. tuple_ends (λ o. (o.0, (o.1, (o.2, o.3)))) (first_end I.lawful (P.reads p.0 k.0 c.0.0) (next_end I.lawful c.1 (Q.reads p.1 k.1.0
         c.0.1) (next_end I.lawful c.2 (R.reads p.2 k.1.1.0 c.0.2) (last_end e.1 (S.ends p.3 k.1.1.1 c.0.3 e.0))))) };
@@ -188,7 +188,7 @@ impl<
     S: Writer<I, Error = P::Error>,
     T: Ending<I, Error = P::Error>,
 > Ending<I> for (P, Q, R, S, T) {
-    ghost MayEnd = { λ p. T.MayEnd p.4 × ((b : T.Output) (ys : List I.Item) → T.Form p.4 b ys → S.MayFollow p.3 ys) };
+    ghost MayEnd = { λ p. T.MayEnd p.4 × ((b : T.Output) (ys : List I.Item) → T.Form p.4 b ys → S.Follow p.3 ys) };
 
     ghost ends = { λ p k c e. tuple_ends (λ o. (o.0, (o.1, (o.2, (o.3, o.4))))) (first_end I.lawful (P.reads p.0 k.0 c.0.0) (next_end I.lawful c.1 (Q.reads
         p.1 k.1.0 c.0.1) (next_end I.lawful c.2 (R.reads p.2 k.1.1.0 c.0.2) (next_end I.lawful c.3 (S.reads p.3 k.1.1.1.0 c.0.3) (last_end e.1 (T.ends p.4
@@ -204,7 +204,7 @@ impl<
     T: Writer<I, Error = P::Error>,
     U: Ending<I, Error = P::Error>,
 > Ending<I> for (P, Q, R, S, T, U) {
-    ghost MayEnd = { λ p. U.MayEnd p.5 × ((b : U.Output) (ys : List I.Item) → U.Form p.5 b ys → T.MayFollow p.4 ys) };
+    ghost MayEnd = { λ p. U.MayEnd p.5 × ((b : U.Output) (ys : List I.Item) → U.Form p.5 b ys → T.Follow p.4 ys) };
 
     ghost ends = { λ p k c e. tuple_ends (λ o. (o.0, (o.1, (o.2, (o.3, (o.4, o.5)))))) (first_end I.lawful (P.reads p.0 k.0 c.0.0) (next_end I.lawful c.1
         (Q.reads p.1 k.1.0 c.0.1) (next_end I.lawful c.2 (R.reads p.2 k.1.1.0 c.0.2) (next_end I.lawful c.3 (S.reads p.3 k.1.1.1.0 c.0.3) (next_end I.lawful
@@ -221,7 +221,7 @@ impl<
     U: Writer<I, Error = P::Error>,
     V: Ending<I, Error = P::Error>,
 > Ending<I> for (P, Q, R, S, T, U, V) {
-    ghost MayEnd = { λ p. V.MayEnd p.6 × ((b : V.Output) (ys : List I.Item) → V.Form p.6 b ys → U.MayFollow p.5 ys) };
+    ghost MayEnd = { λ p. V.MayEnd p.6 × ((b : V.Output) (ys : List I.Item) → V.Form p.6 b ys → U.Follow p.5 ys) };
 
     ghost ends = { λ p k c e. tuple_ends (λ o. (o.0, (o.1, (o.2, (o.3, (o.4, (o.5, o.6))))))) (first_end I.lawful (P.reads p.0 k.0 c.0.0) (next_end I.lawful
         c.1 (Q.reads p.1 k.1.0 c.0.1) (next_end I.lawful c.2 (R.reads p.2 k.1.1.0 c.0.2) (next_end I.lawful c.3 (S.reads p.3 k.1.1.1.0 c.0.3) (next_end
@@ -240,7 +240,7 @@ impl<
     V: Writer<I, Error = P::Error>,
     W: Ending<I, Error = P::Error>,
 > Ending<I> for (P, Q, R, S, T, U, V, W) {
-    ghost MayEnd = { λ p. W.MayEnd p.7 × ((b : W.Output) (ys : List I.Item) → W.Form p.7 b ys → V.MayFollow p.6 ys) };
+    ghost MayEnd = { λ p. W.MayEnd p.7 × ((b : W.Output) (ys : List I.Item) → W.Form p.7 b ys → V.Follow p.6 ys) };
 
     ghost ends = { λ p k c e. tuple_ends (λ o. (o.0, (o.1, (o.2, (o.3, (o.4, (o.5, (o.6, o.7)))))))) (first_end I.lawful (P.reads p.0 k.0 c.0.0) (next_end
         I.lawful c.1 (Q.reads p.1 k.1.0 c.0.1) (next_end I.lawful c.2 (R.reads p.2 k.1.1.0 c.0.2) (next_end I.lawful c.3 (S.reads p.3 k.1.1.1.0 c.0.3)

@@ -108,21 +108,21 @@ impl<
     G: Fn(F::Output) -> H + Drop,
     K: Fn(&H::Output) -> Option<F::Output>,
 > Writer<I> for FlatMapBoth<F, G, K> {
-    ghost use Rattle.nom_write.specs.laws.FlatMapReads.{flat_map_leads, flat_map_reads};
+    ghost use Rattle.nom_write.specs.laws.FlatMapReads.{flat_map_begins, flat_map_reads};
 
     ghost Form = { λ p. FlatMapForm (FnReturnsAt K.Fn p.back) (G.post p.flat.make) (F.Form p.flat.first) H.Form };
 
     ghost Fails = { λ p. FlatMapFails (FnReturnsAt K.Fn p.back) (G.post p.flat.make) (F.Form p.flat.first) (F.Fails p.flat.first) H.Fails };
 
     // (for each value, and each parser that is given for it)
-    ghost MayFollow = { λ p rest. OfEachSecond (FnReturnsAt K.Fn p.back) (G.post p.flat.make) (λ _ h. H.MayFollow h rest) };
+    ghost Follow = { λ p rest. OfEachSecond (FnReturnsAt K.Fn p.back) (G.post p.flat.make) (λ _ h. H.Follow h rest) };
 
     ghost CanWrite = { λ p. F.CanWrite p.flat.first × ((v : H.Output) (r : Bor H.Output) → r.now ≡ v → K.pre p.back r) ×
         ((v : H.Output) (x : F.Output) → FnReturnsAt K.Fn p.back v (Some x) → G.pre p.flat.make x) ×
-        OfEachSecond (FnReturnsAt K.Fn p.back) (G.post p.flat.make) (λ v h. H.CanWrite h × Meets (F.MayFollow p.flat.first) (H.Form h v)
-        (λ rest. OfEachSecond (FnReturnsAt K.Fn p.back) (G.post p.flat.make) (λ _ q. H.MayFollow q rest))) };
+        OfEachSecond (FnReturnsAt K.Fn p.back) (G.post p.flat.make) (λ v h. H.CanWrite h × Meets (F.Follow p.flat.first) (H.Form h v)
+        (λ rest. OfEachSecond (FnReturnsAt K.Fn p.back) (G.post p.flat.make) (λ _ q. H.Follow q rest))) };
 
-    ghost Lead = { λ p. F.Lead p.flat.first };
+    ghost First = { λ p. F.First p.flat.first };
 
     #[inline]
     fn write<S: Sink<I::Item>>(&self, value: &H::Output, out: &mut S) -> Result<(), WriteError> {
@@ -148,8 +148,8 @@ impl<
     }
 
     ghost reads = { λ p k c. flat_map_reads (maker (G.pre p.flat.make) (G.post p.flat.make) H.state) H.grammar (FnReturnsAt K.Fn p.back) H.Form
-        I.lawful k.1 H.MayFollow H.CanWrite c.3 (F.reads p.flat.first k.0 c.0) H.reads };
+        I.lawful k.1 H.Follow H.CanWrite c.3 (F.reads p.flat.first k.0 c.0) H.reads };
 
-    ghost leads = { λ p. flat_map_leads (maker (G.pre p.flat.make) (G.post p.flat.make) H.state) H.grammar (FnReturnsAt K.Fn p.back) H.Form
-        I.Item.code (F.leads p.flat.first) };
+    ghost begins = { λ p. flat_map_begins (maker (G.pre p.flat.make) (G.post p.flat.make) H.state) H.grammar (FnReturnsAt K.Fn p.back) H.Form
+        I.Item.code (F.begins p.flat.first) };
 }

@@ -5,7 +5,7 @@ ghost use Rattle.nom_sink.specs.Numerals.{AreDigitsOf, LacksDigits};
 ghost use Rattle.nom_traits.specs.declared.character.AsciiClass.TheVariants as Class;
 ghost use Rattle.nom_write.specs.Runs.{BeginsOther};
 ghost use Rattle.nom_write.specs.laws.HexReads.{hex_reads};
-ghost use Rattle.nom_write.specs.laws.LeadLaws.{no_lead};
+ghost use Rattle.nom_write.specs.laws.FirstSetLaws.{no_first};
 
 use crate::writer::Writer;
 use nom_error::value::ParseError;
@@ -34,7 +34,7 @@ where
 
     ghost Fails = { λ p v. LacksDigits I.Item.of_code 16 v };
 
-    ghost MayFollow = { λ p. BeginsOther (IsOf I.Item.code Class.HexDigit) };
+    ghost Follow = { λ p. BeginsOther (IsOf I.Item.code Class.HexDigit) };
 
     #[inline]
     fn write<S: Sink<I::Item>>(&self, value: &u32, out: &mut S) -> Result<(), WriteError> {
@@ -43,5 +43,5 @@ where
 
     ghost reads = { λ p k c. hex_reads I.Item.code I.Item.of_code I.Item.coded I.model I.Item.IsValue I.values E.errors };
 
-    ghost leads = { λ p. no_lead };
+    ghost begins = { λ p. no_first };
 }

@@ -1,6 +1,6 @@
 //! Parts after their length.
 ghost use Rattle.std.specs.Prelude.{◌≡◌, ◌<◌, ℕ, false, List, [], MatchOption, length};
-ghost use Rattle.nom_write.specs.laws.LeadLaws.{no_lead};
+ghost use Rattle.nom_write.specs.laws.FirstSetLaws.{no_first};
 ghost use Rattle.nom_sink.specs.Lists.{Each, EachFail, ItemFails, ItemForm};
 ghost use Rattle.nom_sink.specs.Parts.{AfterLength, AfterLengthFails, Both, BothFail};
 ghost use Rattle.nom_write.specs.Reads.{Holds};
@@ -112,7 +112,7 @@ impl<I: Unmarked, F: Writer<I, Output: OfSize> + Drop> Writer<I> for LengthData<
     ghost Fails = { λ p v. BothFail (FormOfSize F.Output.size (F.Form p.parser) (length (I.model.elements v)))
         (SizeFails F.Output.size F.Output.Exceeds (F.Fails p.parser) (length (I.model.elements v))) (LacksRoom (length (I.model.elements v))) };
 
-    ghost CanWrite = { λ p. F.CanWrite p.parser × ((rest : List I.Item) → F.MayFollow p.parser rest) };
+    ghost CanWrite = { λ p. F.CanWrite p.parser × ((rest : List I.Item) → F.Follow p.parser rest) };
 
     #[inline(always)]
     fn write<S: Sink<I::Item>>(&self, value: &I, out: &mut S) -> Result<(), WriteError> {
@@ -126,7 +126,7 @@ impl<I: Unmarked, F: Writer<I, Output: OfSize> + Drop> Writer<I> for LengthData<
 
     ghost reads = { λ p k c. length_data_reads I.lawful F.Error.errors F.Output.size k.1.1 c.1 (F.reads p.parser k.0 c.0) I.lack I.one_mark };
 
-    ghost leads = { λ p. no_lead };
+    ghost begins = { λ p. no_first };
 }
 
 /// A number of a given size, by its writer.
@@ -163,8 +163,8 @@ impl<
     ghost Fails = { λ p v. AfterLengthFails (SizeFails F.Output.size F.Output.Exceeds (F.Fails p.length)) (G.Form p.parser v)
         (G.Fails p.parser v) };
 
-    ghost CanWrite = { λ p. (F.CanWrite p.length × G.CanWrite p.parser) × ((rest : List I.Item) → F.MayFollow p.length rest) ×
-        G.MayFollow p.parser [] };
+    ghost CanWrite = { λ p. (F.CanWrite p.length × G.CanWrite p.parser) × ((rest : List I.Item) → F.Follow p.length rest) ×
+        G.Follow p.parser [] };
 
     #[inline]
     fn write<S: Sink<I::Item>>(&self, value: &G::Output, out: &mut S) -> Result<(), WriteError> {
@@ -178,7 +178,7 @@ impl<
     ghost reads = { λ p k c. length_value_reads I.lawful F.Error.errors F.Output.size k.1.1 c.1 (F.reads p.length k.0 c.0.0) I.one_each c.2
         (G.reads p.parser k.1.0 c.0.1) };
 
-    ghost leads = { λ p. no_lead };
+    ghost begins = { λ p. no_first };
 }
 
 /// Writes the number of the values, and each of them. A number that its field can't hold is `TooLong`.
@@ -196,8 +196,8 @@ impl<
         (SizeFails F.Output.size F.Output.Exceeds (F.Fails p.length) (length v.items)) (EachFail (ItemForm false (G.Form p.parser))
         (ItemFails false (G.Form p.parser) (G.Fails p.parser)) v.items) };
 
-    ghost CanWrite = { λ p. (F.CanWrite p.length × G.CanWrite p.parser) × ((rest : List I.Item) → F.MayFollow p.length rest) ×
-        ((rest : List I.Item) → G.MayFollow p.parser rest) };
+    ghost CanWrite = { λ p. (F.CanWrite p.length × G.CanWrite p.parser) × ((rest : List I.Item) → F.Follow p.length rest) ×
+        ((rest : List I.Item) → G.Follow p.parser rest) };
 
     #[inline]
     fn write<S: Sink<I::Item>>(
@@ -216,5 +216,5 @@ impl<
     ghost reads = { λ p k c. length_count_reads I.lawful F.Error.errors F.Output.size k.1.1 c.1 (F.reads p.length k.0 c.0.0) c.2
         (G.reads p.parser k.1.0 c.0.1) };
 
-    ghost leads = { λ p. no_lead };
+    ghost begins = { λ p. no_first };
 }

@@ -1,8 +1,8 @@
 //! Lists without a separator.
 ghost use Rattle.std.specs.Prelude.{◌≡◌, ◌≤◌, ◌⊎◌, ℕ, true, false, List, length};
 ghost use Rattle.nom_sink.specs.Parts.{Both, BothFail};
-ghost use Rattle.nom_write.specs.Leads.{AreApart};
-ghost use Rattle.nom_write.specs.laws.LeadLaws.{no_lead};
+ghost use Rattle.nom_write.specs.FirstSets.{AreDisjoint};
+ghost use Rattle.nom_write.specs.laws.FirstSetLaws.{no_first};
 ghost use Rattle.nom_sink.specs.Lists.{Each, EachFail, ItemFails, ItemForm};
 ghost use Rattle.nom_write.specs.Reads.{NoItem};
 ghost use Rattle.nom_write.specs.Separated.{SomeFails, SomeForm};
@@ -28,9 +28,9 @@ impl<I: Input, M: Allocator + Copy, G: Writer<I> + Drop> Writer<I> for Many0<M, 
 
     ghost Fails = { λ p v. EachFail (ItemForm true (G.Form p.parser)) (ItemFails true (G.Form p.parser) (G.Fails p.parser)) v.items };
 
-    ghost MayFollow = { λ p. NoItem I.model (G.grammar (G.state p.parser)).meaning };
+    ghost Follow = { λ p. NoItem I.model (G.grammar (G.state p.parser)).meaning };
 
-    ghost CanWrite = { λ p. G.CanWrite p.parser × ((rest : List I.Item) → G.MayFollow p.parser rest) };
+    ghost CanWrite = { λ p. G.CanWrite p.parser × ((rest : List I.Item) → G.Follow p.parser rest) };
 
     #[inline]
     fn write<S: Sink<I::Item>>(
@@ -48,7 +48,7 @@ impl<I: Input, M: Allocator + Copy, G: Writer<I> + Drop> Writer<I> for Many0<M, 
 
     ghost reads = { λ p k c. many0_reads I.lawful G.Error.errors c.1 (G.reads p.parser k c.0) };
 
-    ghost leads = { λ p. no_lead };
+    ghost begins = { λ p. no_first };
 }
 
 /// Writes each value, at least one. No values are a mismatch. So is a value with an empty form after the first. No item may follow.
@@ -59,9 +59,9 @@ impl<I: Input, M: Allocator + Copy, G: Writer<I> + Drop> Writer<I> for Many1<M, 
 
     ghost Fails = { λ p v. SomeFails (G.Form p.parser) (G.Fails p.parser) (G.Form p.parser) (G.Fails p.parser) v.items };
 
-    ghost MayFollow = { λ p. NoItem I.model (G.grammar (G.state p.parser)).meaning };
+    ghost Follow = { λ p. NoItem I.model (G.grammar (G.state p.parser)).meaning };
 
-    ghost CanWrite = { λ p. G.CanWrite p.parser × ((rest : List I.Item) → G.MayFollow p.parser rest) };
+    ghost CanWrite = { λ p. G.CanWrite p.parser × ((rest : List I.Item) → G.Follow p.parser rest) };
 
     #[inline]
     fn write<S: Sink<I::Item>>(
@@ -81,7 +81,7 @@ impl<I: Input, M: Allocator + Copy, G: Writer<I> + Drop> Writer<I> for Many1<M, 
 
     ghost reads = { λ p k c. many1_reads I.lawful G.Error.errors c.1 (G.reads p.parser k.0 c.0) };
 
-    ghost leads = { λ p. no_lead };
+    ghost begins = { λ p. no_first };
 }
 
 /// Writes each value, if their number is the parser's count. Any other number is a mismatch.
@@ -93,7 +93,7 @@ impl<I: Items, M: Allocator + Copy, G: Writer<I> + Drop> Writer<I> for Count<M, 
     ghost Fails = { λ p v s e. ((length v.items ≡ p.count → ⊥) × (e ≡ WriteError.Mismatch s.start)) ⊎
         EachFail (ItemForm false (G.Form p.parser)) (ItemFails false (G.Form p.parser) (G.Fails p.parser)) v.items s e };
 
-    ghost CanWrite = { λ p. G.CanWrite p.parser × ((rest : List I.Item) → G.MayFollow p.parser rest) };
+    ghost CanWrite = { λ p. G.CanWrite p.parser × ((rest : List I.Item) → G.Follow p.parser rest) };
 
     #[inline]
     fn write<S: Sink<I::Item>>(
@@ -116,7 +116,7 @@ impl<I: Items, M: Allocator + Copy, G: Writer<I> + Drop> Writer<I> for Count<M, 
 
     ghost reads = { λ p k c. count_reads I.lawful G.Error.errors c.1 (G.reads p.parser k c.0) p.count };
 
-    ghost leads = { λ p. no_lead };
+    ghost begins = { λ p. no_first };
 }
 
 /// Writes each value, and then the end. A value with an empty form is a mismatch. The end must refuse what an item begins with.
@@ -133,10 +133,10 @@ impl<
     ghost Fails = { λ p v. BothFail (Each (ItemForm true (F.Form p.parser)) v.0.items) (EachFail (ItemForm true (F.Form p.parser))
         (ItemFails true (F.Form p.parser) (F.Fails p.parser)) v.0.items) (G.Fails p.end v.1) };
 
-    ghost MayFollow = { λ p. G.MayFollow p.end };
+    ghost Follow = { λ p. G.Follow p.end };
 
-    ghost CanWrite = { λ p. (F.CanWrite p.parser × G.CanWrite p.end) × ((rest : List I.Item) → F.MayFollow p.parser rest) ×
-        AreApart I.model (G.grammar (G.state p.end)) (G.Lead p.end) (F.Form p.parser) (F.Lead p.parser) };
+    ghost CanWrite = { λ p. (F.CanWrite p.parser × G.CanWrite p.end) × ((rest : List I.Item) → F.Follow p.parser rest) ×
+        AreDisjoint I.model (G.grammar (G.state p.end)) (G.First p.end) (F.Form p.parser) (F.First p.parser) };
 
     #[inline]
     fn write<S: Sink<I::Item>>(
@@ -155,8 +155,8 @@ impl<
         .put(out)
     }
 
-    ghost reads = { λ p k c. many_till_reads I.lawful F.Error.errors c.1 (end_apart (G.leads p.end) (F.leads p.parser) c.2)
+    ghost reads = { λ p k c. many_till_reads I.lawful F.Error.errors c.1 (end_apart (G.begins p.end) (F.begins p.parser) c.2)
         (F.reads p.parser k.1 c.0.0) (G.reads p.end k.0 c.0.1) };
 
-    ghost leads = { λ p. no_lead };
+    ghost begins = { λ p. no_first };
 }

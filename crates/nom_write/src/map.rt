@@ -1,6 +1,6 @@
 //! Maps with a way back.
 ghost use Rattle.std.specs.Prelude.{◌≡◌, ◌⊎◌, Some, None};
-ghost use Rattle.nom_write.specs.laws.LeadLaws.{map_leads};
+ghost use Rattle.nom_write.specs.laws.FirstSetLaws.{map_begins};
 ghost use Rattle.nom_sink.specs.declared.error.WriteError.{WriteError};
 ghost use Rattle.std.specs.Borrow.{Bor};
 ghost use Rattle.std.specs.Fn.{FnReturnsAt};
@@ -100,12 +100,12 @@ impl<
     ghost Fails = { λ p v s e. (FnReturnsAt H.Fn p.back v None × (e ≡ WriteError.Mismatch s.start)) ⊎
         ((x : F.Output) × FnReturnsAt H.Fn p.back v (Some x) × F.Fails p.map.parser x s e) };
 
-    ghost MayFollow = { λ p. F.MayFollow p.map.parser };
+    ghost Follow = { λ p. F.Follow p.map.parser };
 
     ghost CanWrite = { λ p. F.CanWrite p.map.parser × ((v : O) (r : Bor O) → r.now ≡ v → H.pre p.back r) ×
         ((v : O) (x : F.Output) → FnReturnsAt H.Fn p.back v (Some x) → G.post p.map.map x v) };
 
-    ghost Lead = { λ p. F.Lead p.map.parser };
+    ghost First = { λ p. F.First p.map.parser };
 
     #[inline]
     fn write<S: Sink<I::Item>>(&self, value: &O, out: &mut S) -> Result<(), WriteError> {
@@ -118,5 +118,5 @@ impl<
     ghost reads = { λ p k c. map_back_reads (G.pre p.map.map) (G.post p.map.map) (λ v x. FnReturnsAt H.Fn p.back v (Some x)) c.2 (F.reads
         p.map.parser k c.0) };
 
-    ghost leads = { λ p. map_leads (F.leads p.map.parser) };
+    ghost begins = { λ p. map_begins (F.begins p.map.parser) };
 }

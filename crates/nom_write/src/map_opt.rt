@@ -9,7 +9,7 @@ ghost use Rattle.nom_internal.specs.Results.{JudgedBesides};
 ghost use Rattle.nom_internal.specs.laws.JudgedLaws.{judged_lawful, judged_steady};
 ghost use Rattle.nom_internal.specs.laws.MappedLaws.{given_pinned};
 ghost use Rattle.nom_sink.specs.declared.error.WriteError.{WriteError};
-ghost use Rattle.nom_write.specs.laws.JudgedReads.{map_opt_back_leads, map_opt_back_reads};
+ghost use Rattle.nom_write.specs.laws.JudgedReads.{map_opt_back_begins, map_opt_back_reads};
 ghost use Rattle.nom_internal.specs.Words as Words;
 
 use crate::map::mapped_back;
@@ -99,12 +99,12 @@ impl<
     ghost Fails = { λ p v s e. (FnReturnsAt H.Fn p.back v None × (e ≡ WriteError.Mismatch s.start)) ⊎
         ((x : F.Output) × FnReturnsAt H.Fn p.back v (Some x) × F.Fails p.map.parser x s e) };
 
-    ghost MayFollow = { λ p. F.MayFollow p.map.parser };
+    ghost Follow = { λ p. F.Follow p.map.parser };
 
     ghost CanWrite = { λ p. F.CanWrite p.map.parser × ((v : O) (r : Bor O) → r.now ≡ v → H.pre p.back r) ×
         ((v : O) (x : F.Output) → FnReturnsAt H.Fn p.back v (Some x) → G.post p.map.map x (Some v)) };
 
-    ghost Lead = { λ p. F.Lead p.map.parser };
+    ghost First = { λ p. F.First p.map.parser };
 
     #[inline]
     fn write<S: Sink<I::Item>>(&self, value: &O, out: &mut S) -> Result<(), WriteError> {
@@ -117,6 +117,6 @@ impl<
     ghost reads = { λ p k c. map_opt_back_reads (G.pre p.map.map) F.Error.errors (G.post p.map.map) (λ v x. FnReturnsAt H.Fn p.back v (Some x))
         k.1 c.2 (F.reads p.map.parser k.0 c.0) };
 
-    ghost leads = { λ p. map_opt_back_leads (G.pre p.map.map) F.Error.errors (G.post p.map.map) (λ v x. FnReturnsAt H.Fn p.back v (Some x))
-        (F.leads p.map.parser) };
+    ghost begins = { λ p. map_opt_back_begins (G.pre p.map.map) F.Error.errors (G.post p.map.map) (λ v x. FnReturnsAt H.Fn p.back v (Some x))
+        (F.begins p.map.parser) };
 }

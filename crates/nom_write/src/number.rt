@@ -3,7 +3,7 @@ ghost use Rattle.std.specs.Prelude.{◌≡◌, ◌⊎◌, ◌∷◌, [], length}
 ghost use Rattle.nom_number.specs.Numbers.{binary_number};
 ghost use Rattle.nom_sink.specs.Digits.{AreBytesOf};
 ghost use Rattle.nom_sink.specs.Written.{LacksRoom};
-ghost use Rattle.nom_write.specs.laws.LeadLaws.{no_lead};
+ghost use Rattle.nom_write.specs.laws.FirstSetLaws.{no_first};
 ghost use Rattle.nom_write.specs.laws.LeafReads.{byte_reads, binary_reads};
 
 use crate::writer::Writer;
@@ -28,7 +28,7 @@ impl<I: Input<Item = u8>, E: ParseError<I>> Writer<I> for BeU8<I, E> {
 
     ghost reads = { λ p k c. byte_reads I.model E.errors };
 
-    ghost leads = { λ p. no_lead };
+    ghost begins = { λ p. no_first };
 }
 
 /// Writes the bytes of a number, in the parser's order. A number that needs more bytes is `TooLong`.
@@ -49,5 +49,5 @@ impl<F: ToBits, I: Input<Item = u8>, E: ParseError<I>> Writer<I> for Binary<F, I
 
     ghost reads = { λ p k c. binary_reads I.model E.errors F.of_bits p.endian F.BYTES };
 
-    ghost leads = { λ p. no_lead };
+    ghost begins = { λ p. no_first };
 }

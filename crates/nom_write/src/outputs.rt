@@ -4,7 +4,7 @@ ghost use Rattle.std.specs.Borrow.{Bor};
 ghost use Rattle.std.specs.Fn.{FnReturnsAt};
 ghost use Rattle.nom_sink.specs.Written.{LacksRoom};
 ghost use Rattle.nom_sink.specs.declared.error.WriteError.{WriteError};
-ghost use Rattle.nom_write.specs.laws.OutputReads.{value_leads, value_reads, verify_leads, verify_reads};
+ghost use Rattle.nom_write.specs.laws.OutputReads.{value_begins, value_reads, verify_begins, verify_reads};
 
 use crate::writer::{Constant, Writer};
 use nom_combinator::{Value, Verify};
@@ -21,7 +21,7 @@ impl<I: Items, O: Clone + PartialEq + Viewed, F: Constant<I> + Drop> Writer<I> f
 
     ghost CanWrite = { λ p. F.Fits p.parser × ((v : O) → O.eq p.value v ≡ true → O.is_clone p.value v) };
 
-    ghost Lead = { λ p. F.Start p.parser };
+    ghost First = { λ p. F.Start p.parser };
 
     #[inline]
     fn write<S: Sink<I::Item>>(&self, value: &O, out: &mut S) -> Result<(), WriteError> {
@@ -35,7 +35,7 @@ impl<I: Items, O: Clone + PartialEq + Viewed, F: Constant<I> + Drop> Writer<I> f
     ghost reads = { λ p k c. value_reads (F.grammar (F.state p.parser)) p.value (O.is_infallible p.value) (O.is_clone p.value)
         (F.items p.parser) (F.accepts p.parser k c.0) };
 
-    ghost leads = { λ p. value_leads (F.grammar (F.state p.parser)) p.value (O.is_infallible p.value) (O.is_clone p.value)
+    ghost begins = { λ p. value_begins (F.grammar (F.state p.parser)) p.value (O.is_infallible p.value) (O.is_clone p.value)
         (F.items p.parser) I.Item.code (F.others p.parser) };
 }
 
@@ -55,11 +55,11 @@ impl<I: Items, F: Writer<I> + Drop, G: Fn(&F::Output) -> bool> Writer<I> for Ver
     ghost Fails = { λ p v s e. (FnReturnsAt G.Fn p.test v false × (e ≡ WriteError.Mismatch s.start)) ⊎
         (FnReturnsAt G.Fn p.test v true × F.Fails p.parser v s e) };
 
-    ghost MayFollow = { λ p. F.MayFollow p.parser };
+    ghost Follow = { λ p. F.Follow p.parser };
 
     ghost CanWrite = { λ p. F.CanWrite p.parser × ((v : F.Output) (r : Bor F.Output) → r.now ≡ v → G.pre p.test r) };
 
-    ghost Lead = { λ p. F.Lead p.parser };
+    ghost First = { λ p. F.First p.parser };
 
     #[inline]
     fn write<S: Sink<I::Item>>(&self, value: &F::Output, out: &mut S) -> Result<(), WriteError> {
@@ -73,6 +73,6 @@ impl<I: Items, F: Writer<I> + Drop, G: Fn(&F::Output) -> bool> Writer<I> for Ver
     ghost reads = { λ p k c. verify_reads F.Error.errors (λ o. (r : Bor F.Output) → r.now ≡ o → G.pre p.test r) (FnReturnsAt G.Fn p.test) k.1
         (F.reads p.parser k.0 c.0) };
 
-    ghost leads = { λ p. verify_leads F.Error.errors (λ o. (r : Bor F.Output) → r.now ≡ o → G.pre p.test r) (FnReturnsAt G.Fn p.test)
-        (F.leads p.parser) };
+    ghost begins = { λ p. verify_begins F.Error.errors (λ o. (r : Bor F.Output) → r.now ≡ o → G.pre p.test r) (FnReturnsAt G.Fn p.test)
+        (F.begins p.parser) };
 }

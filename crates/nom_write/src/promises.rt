@@ -14,7 +14,7 @@ use nom_traits::input::Items;
 pub fn reads_back<I: Items, P: Writer<I>>(_parser: &P)
     requires sound { (P.grammar (P.state _parser.now)).meaning.IsSound }
     requires can { P.CanWrite _parser.now }
-    ensures { ReadsBack I.model P.Output.view (P.Pins _parser.now) (P.grammar (P.state _parser.now)) (P.Form _parser.now) (P.MayFollow _parser.now) }
+    ensures { ReadsBack I.model P.Output.view (P.Pins _parser.now) (P.grammar (P.state _parser.now)) (P.Form _parser.now) (P.Follow _parser.now) }
 {}
 
 /// Parses like `parse`. On an input that begins with a form of a value, it returns that value, and what follows.
@@ -27,7 +27,7 @@ pub fn parse_back<I: Items, P: Writer<I>>(
     requires can { P.CanWrite parser.old }
     ensures shown { Parses I.model (P.grammar (P.state parser.old)) true input result }
     ensures kept { P.state parser.new ≡ P.state parser.old }
-    ensures back { (v : P.Output) (xs rest : List I.Item) → P.Form parser.old v xs → I.model.elements input ≡ xs ++ rest → P.MayFollow parser.old rest →
+    ensures back { (v : P.Output) (xs rest : List I.Item) → P.Form parser.old v xs → I.model.elements input ≡ xs ++ rest → P.Follow parser.old rest →
         IsReadBack I.model P.Output.view (P.Pins parser.old) (P.grammar (P.state parser.old)) v xs rest input result }
 {
     input.prove_known();

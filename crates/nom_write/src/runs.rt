@@ -8,7 +8,7 @@ ghost use Rattle.nom_bytes.specs.laws.RunLaws.{run_lawful};
 ghost use Rattle.nom_character.specs.ClassRuns.{IsOf, class_lawful, least_of, wanted_error, wanted_grows};
 ghost use Rattle.nom_write.specs.Runs.{BeginsOther, IsNoRun, IsRunForm, RunFails};
 ghost use Rattle.nom_sink.specs.Written.{Written};
-ghost use Rattle.nom_write.specs.laws.LeadLaws.{no_lead};
+ghost use Rattle.nom_write.specs.laws.FirstSetLaws.{no_first};
 ghost use Rattle.nom_write.specs.laws.RunReads.{premised_reads, run_reads};
 ghost use Rattle.nom_traits.specs.declared.character.AsciiClass.{AsciiClass};
 
@@ -79,7 +79,7 @@ impl<I: Unmarked, P: Predicate<I::Item>, E: ParseError<I>> Writer<I> for SplitPo
 
     ghost Fails = { λ p. RunFails I.model (P.answers (P.state p.predicate)) 0 None };
 
-    ghost MayFollow = { λ p. BeginsOther (P.answers (P.state p.predicate)) };
+    ghost Follow = { λ p. BeginsOther (P.answers (P.state p.predicate)) };
 
     ghost CanWrite = { λ p. P.Runs (P.state p.predicate) };
 
@@ -93,7 +93,7 @@ impl<I: Unmarked, P: Predicate<I::Item>, E: ParseError<I>> Writer<I> for SplitPo
         (run_lawful I.model I.Item.IsValue I.values (P.answers (P.state p.predicate)) (P.fixed (P.state p.predicate) k) None 0
         (λ _ _. ⊥) ⊥) I.one_mark) };
 
-    ghost leads = { λ p. no_lead };
+    ghost begins = { λ p. no_first };
 }
 
 /// Writes items that all pass the test, at least one. Others are a mismatch.
@@ -102,7 +102,7 @@ impl<I: Unmarked, P: Predicate<I::Item>, E: ParseError<I>> Writer<I> for SplitPo
 
     ghost Fails = { λ p. RunFails I.model (P.answers (P.state p.predicate)) 1 None };
 
-    ghost MayFollow = { λ p. BeginsOther (P.answers (P.state p.predicate)) };
+    ghost Follow = { λ p. BeginsOther (P.answers (P.state p.predicate)) };
 
     ghost CanWrite = { λ p. P.Runs (P.state p.predicate) };
 
@@ -116,7 +116,7 @@ impl<I: Unmarked, P: Predicate<I::Item>, E: ParseError<I>> Writer<I> for SplitPo
         (run_lawful I.model I.Item.IsValue I.values (P.answers (P.state p.predicate)) (P.fixed (P.state p.predicate) k) None 1
         (λ i. E.errors.of_kind i p.kind) E.errors.grows) I.one_mark) };
 
-    ghost leads = { λ p. no_lead };
+    ghost begins = { λ p. no_first };
 }
 
 /// Writes items that all pass the test, if their number is within the bounds. Others are a mismatch.
@@ -125,7 +125,7 @@ impl<I: Unmarked, P: Predicate<I::Item>, E: ParseError<I>> Writer<I> for TakeWhi
 
     ghost Fails = { λ p. RunFails I.model (P.answers (P.state p.predicate)) p.m (Some p.n) };
 
-    ghost MayFollow = { λ p. BeginsOther (P.answers (P.state p.predicate)) };
+    ghost Follow = { λ p. BeginsOther (P.answers (P.state p.predicate)) };
 
     ghost CanWrite = { λ p. P.Runs (P.state p.predicate) };
 
@@ -139,7 +139,7 @@ impl<I: Unmarked, P: Predicate<I::Item>, E: ParseError<I>> Writer<I> for TakeWhi
         (run_lawful I.model I.Item.IsValue I.values (P.answers (P.state p.predicate)) (P.fixed (P.state p.predicate) k) (Some p.n) p.m
         (λ i. E.errors.of_kind i Kind.TakeWhileMN) E.errors.grows) I.one_mark) };
 
-    ghost leads = { λ p. no_lead };
+    ghost begins = { λ p. no_first };
 }
 
 /// A class of items, as a test.
@@ -185,7 +185,7 @@ where
 
     ghost Fails = { λ p. RunFails I.model (IsOf I.Item.code p.class) (least_of p.wanted) None };
 
-    ghost MayFollow = { λ p. BeginsOther (IsOf I.Item.code p.class) };
+    ghost Follow = { λ p. BeginsOther (IsOf I.Item.code p.class) };
 
     #[inline]
     fn write<S: Sink<I::Item>>(&self, value: &I, out: &mut S) -> Result<(), WriteError> {
@@ -199,7 +199,7 @@ where
     ghost reads = { λ p k c. run_reads I.model (IsOf I.Item.code p.class) (least_of p.wanted) None (wanted_error E.errors p.wanted)
         (wanted_grows E.errors p.wanted) (class_lawful I.model I.Item.IsValue I.values I.Item.code E.errors p.class p.wanted) I.one_mark };
 
-    ghost leads = { λ p. no_lead };
+    ghost begins = { λ p. no_first };
 }
 
 /// Writes decimal digits, at least one. Other items are a mismatch.
@@ -211,7 +211,7 @@ where
 
     ghost Fails = { λ p. RunFails I.model (IsOf I.Item.code Class.Digit) 1 None };
 
-    ghost MayFollow = { λ p. BeginsOther (IsOf I.Item.code Class.Digit) };
+    ghost Follow = { λ p. BeginsOther (IsOf I.Item.code Class.Digit) };
 
     #[inline]
     fn write<S: Sink<I::Item>>(&self, value: &I, out: &mut S) -> Result<(), WriteError> {
@@ -225,5 +225,5 @@ where
         (wanted_grows E.errors (Some Kind.Digit))
         (class_lawful I.model I.Item.IsValue I.values I.Item.code E.errors Class.Digit (Some Kind.Digit)) I.one_mark };
 
-    ghost leads = { λ p. no_lead };
+    ghost begins = { λ p. no_first };
 }

@@ -6,7 +6,7 @@ ghost use Rattle.nom_sink.specs.Parts.{BothFail};
 ghost use Rattle.nom_write.specs.Reads.{NoItem};
 ghost use Rattle.nom_write.specs.Separated.{AfterFails, AfterSeparator, AnyFails, AnyForm, SomeFails, SomeForm};
 ghost use Rattle.nom_sink.specs.Written.{Written};
-ghost use Rattle.nom_write.specs.laws.LeadLaws.{no_lead};
+ghost use Rattle.nom_write.specs.laws.FirstSetLaws.{no_first};
 ghost use Rattle.nom_write.specs.laws.SeparatedReads.{separated_list0_reads, separated_list1_reads};
 
 use crate::piece::{Fixed, OneValue};
@@ -57,11 +57,11 @@ impl<
     ghost Fails = { λ p v. SomeFails (G.Form p.next.second) (G.Fails p.next.second) (AfterSeparator (C.items p.next.first) (G.Form p.next.second))
         (AfterFails (C.items p.next.first) (G.Fails p.next.second)) v.items };
 
-    ghost MayFollow = { λ p rest. G.MayFollow p.next.second rest ×
+    ghost Follow = { λ p rest. G.Follow p.next.second rest ×
         NoItem I.model (preceded_of I.model (C.grammar (C.state p.next.first)) (G.grammar (G.state p.next.second))).meaning rest };
 
     ghost CanWrite = { λ p. (C.Fits p.next.first × G.CanWrite p.next.second) ×
-        ((rest : List I.Item) → G.MayFollow p.next.second (C.items p.next.first ++ rest)) };
+        ((rest : List I.Item) → G.Follow p.next.second (C.items p.next.first ++ rest)) };
 
     #[inline]
     fn write<S: Sink<I::Item>>(
@@ -86,7 +86,7 @@ impl<
     ghost reads = { λ p k c. separated_list1_reads I.lawful C.Error.errors (C.items p.next.first) c.1 (C.accepts p.next.first k.1.0 c.0.0)
         (G.reads p.next.second k.0 c.0.1) };
 
-    ghost leads = { λ p. no_lead };
+    ghost begins = { λ p. no_first };
 }
 
 /// Writes the values with the separator between them, or nothing. The separator must be a constant.
@@ -103,12 +103,12 @@ impl<
     ghost Fails = { λ p v. AnyFails (G.Form p.next.second) (G.Fails p.next.second) (AfterSeparator (C.items p.next.first) (G.Form p.next.second))
         (AfterFails (C.items p.next.first) (G.Fails p.next.second)) v.items };
 
-    ghost MayFollow = { λ p rest. G.MayFollow p.next.second rest ×
+    ghost Follow = { λ p rest. G.Follow p.next.second rest ×
         NoItem I.model (preceded_of I.model (C.grammar (C.state p.next.first)) (G.grammar (G.state p.next.second))).meaning rest ×
         NoItem I.model (G.grammar (G.state p.next.second)).meaning rest };
 
     ghost CanWrite = { λ p. (C.Fits p.next.first × G.CanWrite p.next.second) ×
-        ((rest : List I.Item) → G.MayFollow p.next.second (C.items p.next.first ++ rest)) };
+        ((rest : List I.Item) → G.Follow p.next.second (C.items p.next.first ++ rest)) };
 
     #[inline]
     fn write<S: Sink<I::Item>>(
@@ -133,5 +133,5 @@ impl<
     ghost reads = { λ p k c. separated_list0_reads I.lawful C.Error.errors (C.items p.next.first) c.1 (C.accepts p.next.first k.1.0 c.0.0)
         (G.reads p.next.second k.0 c.0.1) };
 
-    ghost leads = { λ p. no_lead };
+    ghost begins = { λ p. no_first };
 }

@@ -1,6 +1,6 @@
 //! Parts in sequence.
 ghost use Rattle.std.specs.Prelude.{◌≡◌, ℕ, List, ◌++◌, length};
-ghost use Rattle.nom_write.specs.laws.LeadLaws.{both_leads, pair_leads, preceded_leads, terminated_leads};
+ghost use Rattle.nom_write.specs.laws.FirstSetLaws.{both_begins, pair_begins, preceded_begins, terminated_begins};
 ghost use Rattle.nom_sink.specs.Written.{LacksRoom};
 ghost use Rattle.nom_sink.specs.Parts.{Both, BothFail, Meets};
 ghost use Rattle.nom_write.specs.laws.SequenceReads.{pair_reads, preceded_reads, terminated_reads};
@@ -21,12 +21,12 @@ impl<I: Items, F: Writer<I> + Drop, G: Writer<I, Error = F::Error> + Drop> Write
 
     ghost Fails = { λ p v. BothFail (F.Form p.first v.0) (F.Fails p.first v.0) (G.Fails p.second v.1) };
 
-    ghost MayFollow = { λ p. G.MayFollow p.second };
+    ghost Follow = { λ p. G.Follow p.second };
 
-    ghost CanWrite = { λ p. F.CanWrite p.first × G.CanWrite p.second × Meets (F.MayFollow p.first) (λ ys. (b : G.Output) × G.Form p.second b ys)
-        (G.MayFollow p.second) };
+    ghost CanWrite = { λ p. F.CanWrite p.first × G.CanWrite p.second × Meets (F.Follow p.first) (λ ys. (b : G.Output) × G.Form p.second b ys)
+        (G.Follow p.second) };
 
-    ghost Lead = { λ p. F.Lead p.first };
+    ghost First = { λ p. F.First p.first };
 
     #[inline(always)]
     fn write<S: Sink<I::Item>>(
@@ -43,7 +43,7 @@ impl<I: Items, F: Writer<I> + Drop, G: Writer<I, Error = F::Error> + Drop> Write
 
     ghost reads = { λ p k c. pair_reads I.lawful c.2 (F.reads p.first k.0 c.0) (G.reads p.second k.1 c.1) };
 
-    ghost leads = { λ p. both_leads (pair_leads (F.leads p.first) (G.grammar (G.state p.second))) };
+    ghost begins = { λ p. both_begins (pair_begins (F.begins p.first) (G.grammar (G.state p.second))) };
 }
 
 /// Writes the constant, and then the value.
@@ -53,11 +53,11 @@ impl<I: Items, F: Constant<I> + Drop, G: Writer<I, Error = F::Error> + Drop> Wri
 
     ghost Fails = { λ p v. BothFail (λ xs. xs ≡ F.items p.first) (LacksRoom (length (F.items p.first))) (G.Fails p.second v) };
 
-    ghost MayFollow = { λ p. G.MayFollow p.second };
+    ghost Follow = { λ p. G.Follow p.second };
 
     ghost CanWrite = { λ p. F.Fits p.first × G.CanWrite p.second };
 
-    ghost Lead = { λ p. F.Start p.first };
+    ghost First = { λ p. F.Start p.first };
 
     #[inline(always)]
     fn write<S: Sink<I::Item>>(&self, value: &G::Output, out: &mut S) -> Result<(), WriteError> {
@@ -70,7 +70,7 @@ impl<I: Items, F: Constant<I> + Drop, G: Writer<I, Error = F::Error> + Drop> Wri
 
     ghost reads = { λ p k c. preceded_reads I.lawful (F.accepts p.first k.0 c.0) (G.reads p.second k.1 c.1) };
 
-    ghost leads = { λ p. preceded_leads I.Item.code (F.grammar (F.state p.first)) (F.items p.first) (F.others p.first) };
+    ghost begins = { λ p. preceded_begins I.Item.code (F.grammar (F.state p.first)) (F.items p.first) (F.others p.first) };
 }
 
 /// Writes the value, and then the constant.
@@ -80,9 +80,9 @@ impl<I: Items, F: Writer<I> + Drop, G: Constant<I, Error = F::Error> + Drop> Wri
 
     ghost Fails = { λ p v. BothFail (F.Form p.first v) (F.Fails p.first v) (LacksRoom (length (G.items p.second))) };
 
-    ghost CanWrite = { λ p. (F.CanWrite p.first × G.Fits p.second) × ((rest : List I.Item) → F.MayFollow p.first (G.items p.second ++ rest)) };
+    ghost CanWrite = { λ p. (F.CanWrite p.first × G.Fits p.second) × ((rest : List I.Item) → F.Follow p.first (G.items p.second ++ rest)) };
 
-    ghost Lead = { λ p. F.Lead p.first };
+    ghost First = { λ p. F.First p.first };
 
     #[inline(always)]
     fn write<S: Sink<I::Item>>(&self, value: &F::Output, out: &mut S) -> Result<(), WriteError> {
@@ -95,5 +95,5 @@ impl<I: Items, F: Writer<I> + Drop, G: Constant<I, Error = F::Error> + Drop> Wri
 
     ghost reads = { λ p k c. terminated_reads I.lawful c.1 (F.reads p.first k.0 c.0.0) (G.accepts p.second k.1 c.0.1) };
 
-    ghost leads = { λ p. both_leads (terminated_leads (F.leads p.first) (G.grammar (G.state p.second))) };
+    ghost begins = { λ p. both_begins (terminated_begins (F.begins p.first) (G.grammar (G.state p.second))) };
 }

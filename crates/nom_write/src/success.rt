@@ -1,6 +1,6 @@
 //! A value that nothing stands for.
 ghost use Rattle.std.specs.Prelude.{◌≡◌, false, true, []};
-ghost use Rattle.nom_write.specs.laws.LeadLaws.{no_lead};
+ghost use Rattle.nom_write.specs.laws.FirstSetLaws.{no_first};
 ghost use Rattle.nom_write.specs.laws.SuccessReads.{clone_reads};
 ghost use Rattle.nom_sink.specs.declared.error.WriteError.{WriteError};
 
@@ -31,5 +31,5 @@ impl<I: Items, O: Clone + PartialEq + Viewed, E: ParseError<I>> Writer<I> for Su
 
     ghost reads = { λ p k c. clone_reads I.model p.value (O.is_infallible p.value) (O.is_clone p.value) };
 
-    ghost leads = { λ p. no_lead };
+    ghost begins = { λ p. no_first };
 }

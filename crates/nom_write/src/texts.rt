@@ -1,9 +1,9 @@
 //! Tags over texts.
 ghost use Rattle.std.specs.Prelude.{◌≡◌, ◌≤◌, ◌⊎◌, length};
 ghost use Rattle.nom_internal.specs.Prelude.{text_model};
-ghost use Rattle.nom_write.specs.Leads.{lead_of};
+ghost use Rattle.nom_write.specs.FirstSets.{first_of};
 ghost use Rattle.nom_write.specs.Texts.{text_items};
-ghost use Rattle.nom_write.specs.laws.LeadLaws.{fixed_leads};
+ghost use Rattle.nom_write.specs.laws.FirstSetLaws.{fixed_begins};
 ghost use Rattle.nom_write.specs.laws.TextReads.{text_tag_starts};
 ghost use Rattle.nom_write.specs.Reads.{Holds};
 ghost use Rattle.nom_sink.specs.Written.{LacksRoom, Written};
@@ -35,7 +35,7 @@ impl<'a, 'b, E: ParseError<&'a str>> Writer<&'a str> for Tag<&'b str, &'a str, E
 
     ghost Fails = { λ p v s e. LacksRoom (length (text_items p.tag.now)) s e ⊎ ((v.now ≡ p.tag.now → ⊥) × (e ≡ WriteError.Mismatch s.start)) };
 
-    ghost Lead = { λ p. lead_of (λ c. c) (text_items p.tag.now) };
+    ghost First = { λ p. first_of (λ c. c) (text_items p.tag.now) };
 
     #[inline]
     fn write<S: Sink<char>>(&self, value: &&'a str, out: &mut S) -> Result<(), WriteError> {
@@ -50,7 +50,7 @@ impl<'a, 'b, E: ParseError<&'a str>> Writer<&'a str> for Tag<&'b str, &'a str, E
 
     ghost reads = { λ p k c. text_tag_reads E.errors p.tag.now };
 
-    ghost leads = { λ p. fixed_leads (λ c. c) (text_items p.tag.now) (λ v xs f. f.0) (text_tag_starts E.errors p.tag.now) };
+    ghost begins = { λ p. fixed_begins (λ c. c) (text_items p.tag.now) (λ v xs f. f.0) (text_tag_starts E.errors p.tag.now) };
 }
 
 impl<'a, 'b, E: ParseError<&'a str>> Constant<&'a str> for Tag<&'b str, &'a str, E> {
@@ -58,7 +58,7 @@ impl<'a, 'b, E: ParseError<&'a str>> Constant<&'a str> for Tag<&'b str, &'a str,
 
     ghost items = { λ p. text_items p.tag.now };
 
-    ghost Start = { λ p. lead_of (λ c. c) (text_items p.tag.now) };
+    ghost Start = { λ p. first_of (λ c. c) (text_items p.tag.now) };
 
     #[inline(always)]
     fn write_constant<S: Sink<char>>(&self, out: &mut S) -> Result<(), WriteError> {

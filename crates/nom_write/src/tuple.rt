@@ -1,5 +1,5 @@
 //! Tuples of two to eight members. A form is one of the first member, followed by one of the others.
-ghost use Rattle.nom_write.specs.laws.LeadLaws.{first_leads, then_first};
+ghost use Rattle.nom_write.specs.laws.FirstSetLaws.{first_begins, then_first};
 ghost use Rattle.nom_sink.specs.Parts.{Both, BothFail, Meets};
 ghost use Rattle.nom_write.specs.laws.SequenceReads.{first_member, last_member, next_member, tuple_reads};
 
@@ -16,12 +16,12 @@ impl<I: Items, P: Writer<I>, Q: Writer<I, Error = P::Error>> Writer<I> for (P, Q
 
     ghost Fails = { λ p v. BothFail (P.Form p.0 v.0) (P.Fails p.0 v.0) (Q.Fails p.1 v.1) };
 
-    ghost MayFollow = { λ p. Q.MayFollow p.1 };
+    ghost Follow = { λ p. Q.Follow p.1 };
 
     ghost CanWrite = { λ p. (P.CanWrite p.0 × Q.CanWrite p.1) ×
-        Meets (P.MayFollow p.0) (λ ys. (b : Q.Output) × Q.Form p.1 b ys) (Q.MayFollow p.1) };
+        Meets (P.Follow p.0) (λ ys. (b : Q.Output) × Q.Form p.1 b ys) (Q.Follow p.1) };
 
-    ghost Lead = { λ p. P.Lead p.0 };
+    ghost First = { λ p. P.First p.0 };
 
     #[inline(always)]
     fn write<X: Sink<I::Item>>(&self, value: &Self::Output, out: &mut X) -> Result<(), WriteError> {
@@ -31,7 +31,7 @@ impl<I: Items, P: Writer<I>, Q: Writer<I, Error = P::Error>> Writer<I> for (P, Q
 
     ghost reads = { λ p k c. tuple_reads (λ o. (o.0, o.1)) (first_member I.lawful (P.reads p.0 k.0 c.0.0) (last_member c.1 (Q.reads p.1 k.1 c.0.1))) };
 
-    ghost leads = { λ p. first_leads (P.leads p.0) (λ v. v.0) (λ s i o a. then_first a) };
+    ghost begins = { λ p. first_begins (P.begins p.0) (λ v. v.0) (λ s i o a. then_first a) };
 }
 
 impl<I: Items, P: Writer<I>, Q: Writer<I, Error = P::Error>, R: Writer<I, Error = P::Error>> Writer<
@@ -41,13 +41,13 @@ impl<I: Items, P: Writer<I>, Q: Writer<I, Error = P::Error>, R: Writer<I, Error 
 
     ghost Fails = { λ p v. BothFail (P.Form p.0 v.0) (P.Fails p.0 v.0) (BothFail (Q.Form p.1 v.1) (Q.Fails p.1 v.1) (R.Fails p.2 v.2)) };
 
-    ghost MayFollow = { λ p. R.MayFollow p.2 };
+    ghost Follow = { λ p. R.Follow p.2 };
 
     ghost CanWrite = { λ p. (P.CanWrite p.0 × Q.CanWrite p.1 × R.CanWrite p.2) ×
-        Meets (P.MayFollow p.0) (λ ys. (b : Q.Output) × Q.Form p.1 b ys) (Q.MayFollow p.1) ×
-        Meets (Q.MayFollow p.1) (λ ys. (b : R.Output) × R.Form p.2 b ys) (R.MayFollow p.2) };
+        Meets (P.Follow p.0) (λ ys. (b : Q.Output) × Q.Form p.1 b ys) (Q.Follow p.1) ×
+        Meets (Q.Follow p.1) (λ ys. (b : R.Output) × R.Form p.2 b ys) (R.Follow p.2) };
 
-    ghost Lead = { λ p. P.Lead p.0 };
+    ghost First = { λ p. P.First p.0 };
 
     #[inline(always)]
     fn write<X: Sink<I::Item>>(&self, value: &Self::Output, out: &mut X) -> Result<(), WriteError> {
@@ -59,7 +59,7 @@ impl<I: Items, P: Writer<I>, Q: Writer<I, Error = P::Error>, R: Writer<I, Error 
     ghost reads = { λ p k c. tuple_reads (λ o. (o.0, (o.1, o.2))) (first_member I.lawful (P.reads p.0 k.0 c.0.0) (next_member I.lawful c.1 (Q.reads p.1 k.1.0
         c.0.1) (last_member c.2 (R.reads p.2 k.1.1 c.0.2)))) };
 
-    ghost leads = { λ p. first_leads (P.leads p.0) (λ v. v.0) (λ s i o a. then_first a) };
+    ghost begins = { λ p. first_begins (P.begins p.0) (λ v. v.0) (λ s i o a. then_first a) };
 }
 
 impl<
@@ -74,14 +74,14 @@ impl<
     ghost Fails = { λ p v. BothFail (P.Form p.0 v.0) (P.Fails p.0 v.0) (BothFail (Q.Form p.1 v.1) (Q.Fails p.1 v.1) (BothFail (R.Form p.2 v.2) (R.Fails p.2
         v.2) (S.Fails p.3 v.3))) };
 
-    ghost MayFollow = { λ p. S.MayFollow p.3 };
+    ghost Follow = { λ p. S.Follow p.3 };
 
     ghost CanWrite = { λ p. (P.CanWrite p.0 × Q.CanWrite p.1 × R.CanWrite p.2 × S.CanWrite p.3) ×
-        Meets (P.MayFollow p.0) (λ ys. (b : Q.Output) × Q.Form p.1 b ys) (Q.MayFollow p.1) ×
-        Meets (Q.MayFollow p.1) (λ ys. (b : R.Output) × R.Form p.2 b ys) (R.MayFollow p.2) ×
-        Meets (R.MayFollow p.2) (λ ys. (b : S.Output) × S.Form p.3 b ys) (S.MayFollow p.3) };
+        Meets (P.Follow p.0) (λ ys. (b : Q.Output) × Q.Form p.1 b ys) (Q.Follow p.1) ×
+        Meets (Q.Follow p.1) (λ ys. (b : R.Output) × R.Form p.2 b ys) (R.Follow p.2) ×
+        Meets (R.Follow p.2) (λ ys. (b : S.Output) × S.Form p.3 b ys) (S.Follow p.3) };
 
-    ghost Lead = { λ p. P.Lead p.0 };
+    ghost First = { λ p. P.First p.0 };
 
     #[inline(always)]
     fn write<X: Sink<I::Item>>(&self, value: &Self::Output, out: &mut X) -> Result<(), WriteError> {
@@ -94,7 +94,7 @@ impl<
     ghost reads = { λ p k c. tuple_reads (λ o. (o.0, (o.1, (o.2, o.3)))) (first_member I.lawful (P.reads p.0 k.0 c.0.0) (next_member I.lawful c.1 (Q.reads p.1
         k.1.0 c.0.1) (next_member I.lawful c.2 (R.reads p.2 k.1.1.0 c.0.2) (last_member c.3 (S.reads p.3 k.1.1.1 c.0.3))))) };
 
-    ghost leads = { λ p. first_leads (P.leads p.0) (λ v. v.0) (λ s i o a. then_first a) };
+    ghost begins = { λ p. first_begins (P.begins p.0) (λ v. v.0) (λ s i o a. then_first a) };
 }
 
 impl<
@@ -110,15 +110,15 @@ impl<
     ghost Fails = { λ p v. BothFail (P.Form p.0 v.0) (P.Fails p.0 v.0) (BothFail (Q.Form p.1 v.1) (Q.Fails p.1 v.1) (BothFail (R.Form p.2 v.2) (R.Fails p.2
         v.2) (BothFail (S.Form p.3 v.3) (S.Fails p.3 v.3) (T.Fails p.4 v.4)))) };
 
-    ghost MayFollow = { λ p. T.MayFollow p.4 };
+    ghost Follow = { λ p. T.Follow p.4 };
 
     ghost CanWrite = { λ p. (P.CanWrite p.0 × Q.CanWrite p.1 × R.CanWrite p.2 × S.CanWrite p.3 × T.CanWrite p.4) ×
-        Meets (P.MayFollow p.0) (λ ys. (b : Q.Output) × Q.Form p.1 b ys) (Q.MayFollow p.1) ×
-        Meets (Q.MayFollow p.1) (λ ys. (b : R.Output) × R.Form p.2 b ys) (R.MayFollow p.2) ×
-        Meets (R.MayFollow p.2) (λ ys. (b : S.Output) × S.Form p.3 b ys) (S.MayFollow p.3) ×
-        Meets (S.MayFollow p.3) (λ ys. (b : T.Output) × T.Form p.4 b ys) (T.MayFollow p.4) };
+        Meets (P.Follow p.0) (λ ys. (b : Q.Output) × Q.Form p.1 b ys) (Q.Follow p.1) ×
+        Meets (Q.Follow p.1) (λ ys. (b : R.Output) × R.Form p.2 b ys) (R.Follow p.2) ×
+        Meets (R.Follow p.2) (λ ys. (b : S.Output) × S.Form p.3 b ys) (S.Follow p.3) ×
+        Meets (S.Follow p.3) (λ ys. (b : T.Output) × T.Form p.4 b ys) (T.Follow p.4) };
 
-    ghost Lead = { λ p. P.Lead p.0 };
+    ghost First = { λ p. P.First p.0 };
 
     #[inline(always)]
     fn write<X: Sink<I::Item>>(&self, value: &Self::Output, out: &mut X) -> Result<(), WriteError> {
@@ -133,7 +133,7 @@ impl<
         (Q.reads p.1 k.1.0 c.0.1) (next_member I.lawful c.2 (R.reads p.2 k.1.1.0 c.0.2) (next_member I.lawful c.3 (S.reads p.3 k.1.1.1.0 c.0.3) (last_member
         c.4 (T.reads p.4 k.1.1.1.1 c.0.4)))))) };
 
-    ghost leads = { λ p. first_leads (P.leads p.0) (λ v. v.0) (λ s i o a. then_first a) };
+    ghost begins = { λ p. first_begins (P.begins p.0) (λ v. v.0) (λ s i o a. then_first a) };
 }
 
 impl<
@@ -151,16 +151,16 @@ impl<
     ghost Fails = { λ p v. BothFail (P.Form p.0 v.0) (P.Fails p.0 v.0) (BothFail (Q.Form p.1 v.1) (Q.Fails p.1 v.1) (BothFail (R.Form p.2 v.2) (R.Fails p.2
         v.2) (BothFail (S.Form p.3 v.3) (S.Fails p.3 v.3) (BothFail (T.Form p.4 v.4) (T.Fails p.4 v.4) (U.Fails p.5 v.5))))) };
 
-    ghost MayFollow = { λ p. U.MayFollow p.5 };
+    ghost Follow = { λ p. U.Follow p.5 };
 
     ghost CanWrite = { λ p. (P.CanWrite p.0 × Q.CanWrite p.1 × R.CanWrite p.2 × S.CanWrite p.3 × T.CanWrite p.4 × U.CanWrite p.5) ×
-        Meets (P.MayFollow p.0) (λ ys. (b : Q.Output) × Q.Form p.1 b ys) (Q.MayFollow p.1) ×
-        Meets (Q.MayFollow p.1) (λ ys. (b : R.Output) × R.Form p.2 b ys) (R.MayFollow p.2) ×
-        Meets (R.MayFollow p.2) (λ ys. (b : S.Output) × S.Form p.3 b ys) (S.MayFollow p.3) ×
-        Meets (S.MayFollow p.3) (λ ys. (b : T.Output) × T.Form p.4 b ys) (T.MayFollow p.4) ×
-        Meets (T.MayFollow p.4) (λ ys. (b : U.Output) × U.Form p.5 b ys) (U.MayFollow p.5) };
+        Meets (P.Follow p.0) (λ ys. (b : Q.Output) × Q.Form p.1 b ys) (Q.Follow p.1) ×
+        Meets (Q.Follow p.1) (λ ys. (b : R.Output) × R.Form p.2 b ys) (R.Follow p.2) ×
+        Meets (R.Follow p.2) (λ ys. (b : S.Output) × S.Form p.3 b ys) (S.Follow p.3) ×
+        Meets (S.Follow p.3) (λ ys. (b : T.Output) × T.Form p.4 b ys) (T.Follow p.4) ×
+        Meets (T.Follow p.4) (λ ys. (b : U.Output) × U.Form p.5 b ys) (U.Follow p.5) };
 
-    ghost Lead = { λ p. P.Lead p.0 };
+    ghost First = { λ p. P.First p.0 };
 
     #[inline(always)]
     fn write<X: Sink<I::Item>>(&self, value: &Self::Output, out: &mut X) -> Result<(), WriteError> {
@@ -176,7 +176,7 @@ impl<
         c.1 (Q.reads p.1 k.1.0 c.0.1) (next_member I.lawful c.2 (R.reads p.2 k.1.1.0 c.0.2) (next_member I.lawful c.3 (S.reads p.3 k.1.1.1.0 c.0.3)
         (next_member I.lawful c.4 (T.reads p.4 k.1.1.1.1.0 c.0.4) (last_member c.5 (U.reads p.5 k.1.1.1.1.1 c.0.5))))))) };
 
-    ghost leads = { λ p. first_leads (P.leads p.0) (λ v. v.0) (λ s i o a. then_first a) };
+    ghost begins = { λ p. first_begins (P.begins p.0) (λ v. v.0) (λ s i o a. then_first a) };
 }
 
 impl<
@@ -196,17 +196,17 @@ impl<
         v.2) (BothFail (S.Form p.3 v.3) (S.Fails p.3 v.3) (BothFail (T.Form p.4 v.4) (T.Fails p.4 v.4) (BothFail (U.Form p.5 v.5) (U.Fails p.5 v.5) (V.Fails
         p.6 v.6)))))) };
 
-    ghost MayFollow = { λ p. V.MayFollow p.6 };
+    ghost Follow = { λ p. V.Follow p.6 };
 
     ghost CanWrite = { λ p. (P.CanWrite p.0 × Q.CanWrite p.1 × R.CanWrite p.2 × S.CanWrite p.3 × T.CanWrite p.4 × U.CanWrite p.5 × V.CanWrite p.6) ×
-        Meets (P.MayFollow p.0) (λ ys. (b : Q.Output) × Q.Form p.1 b ys) (Q.MayFollow p.1) ×
-        Meets (Q.MayFollow p.1) (λ ys. (b : R.Output) × R.Form p.2 b ys) (R.MayFollow p.2) ×
-        Meets (R.MayFollow p.2) (λ ys. (b : S.Output) × S.Form p.3 b ys) (S.MayFollow p.3) ×
-        Meets (S.MayFollow p.3) (λ ys. (b : T.Output) × T.Form p.4 b ys) (T.MayFollow p.4) ×
-        Meets (T.MayFollow p.4) (λ ys. (b : U.Output) × U.Form p.5 b ys) (U.MayFollow p.5) ×
-        Meets (U.MayFollow p.5) (λ ys. (b : V.Output) × V.Form p.6 b ys) (V.MayFollow p.6) };
+        Meets (P.Follow p.0) (λ ys. (b : Q.Output) × Q.Form p.1 b ys) (Q.Follow p.1) ×
+        Meets (Q.Follow p.1) (λ ys. (b : R.Output) × R.Form p.2 b ys) (R.Follow p.2) ×
+        Meets (R.Follow p.2) (λ ys. (b : S.Output) × S.Form p.3 b ys) (S.Follow p.3) ×
+        Meets (S.Follow p.3) (λ ys. (b : T.Output) × T.Form p.4 b ys) (T.Follow p.4) ×
+        Meets (T.Follow p.4) (λ ys. (b : U.Output) × U.Form p.5 b ys) (U.Follow p.5) ×
+        Meets (U.Follow p.5) (λ ys. (b : V.Output) × V.Form p.6 b ys) (V.Follow p.6) };
 
-    ghost Lead = { λ p. P.Lead p.0 };
+    ghost First = { λ p. P.First p.0 };
 
     #[inline(always)]
     fn write<X: Sink<I::Item>>(&self, value: &Self::Output, out: &mut X) -> Result<(), WriteError> {
@@ -224,7 +224,7 @@ impl<
         (next_member I.lawful c.4 (T.reads p.4 k.1.1.1.1.0 c.0.4) (next_member I.lawful c.5 (U.reads p.5 k.1.1.1.1.1.0 c.0.5) (last_member c.6 (V.reads p.6
         k.1.1.1.1.1.1 c.0.6)))))))) };
 
-    ghost leads = { λ p. first_leads (P.leads p.0) (λ v. v.0) (λ s i o a. then_first a) };
+    ghost begins = { λ p. first_begins (P.begins p.0) (λ v. v.0) (λ s i o a. then_first a) };
 }
 
 impl<
@@ -245,19 +245,19 @@ impl<
         v.2) (BothFail (S.Form p.3 v.3) (S.Fails p.3 v.3) (BothFail (T.Form p.4 v.4) (T.Fails p.4 v.4) (BothFail (U.Form p.5 v.5) (U.Fails p.5 v.5) (BothFail
         (V.Form p.6 v.6) (V.Fails p.6 v.6) (W.Fails p.7 v.7))))))) };
 
-    ghost MayFollow = { λ p. W.MayFollow p.7 };
+    ghost Follow = { λ p. W.Follow p.7 };
 
     ghost CanWrite = { λ p. (P.CanWrite p.0 × Q.CanWrite p.1 × R.CanWrite p.2 × S.CanWrite p.3 × T.CanWrite p.4 × U.CanWrite p.5 × V.CanWrite p.6 × W.CanWrite
         p.7) ×
-        Meets (P.MayFollow p.0) (λ ys. (b : Q.Output) × Q.Form p.1 b ys) (Q.MayFollow p.1) ×
-        Meets (Q.MayFollow p.1) (λ ys. (b : R.Output) × R.Form p.2 b ys) (R.MayFollow p.2) ×
-        Meets (R.MayFollow p.2) (λ ys. (b : S.Output) × S.Form p.3 b ys) (S.MayFollow p.3) ×
-        Meets (S.MayFollow p.3) (λ ys. (b : T.Output) × T.Form p.4 b ys) (T.MayFollow p.4) ×
-        Meets (T.MayFollow p.4) (λ ys. (b : U.Output) × U.Form p.5 b ys) (U.MayFollow p.5) ×
-        Meets (U.MayFollow p.5) (λ ys. (b : V.Output) × V.Form p.6 b ys) (V.MayFollow p.6) ×
-        Meets (V.MayFollow p.6) (λ ys. (b : W.Output) × W.Form p.7 b ys) (W.MayFollow p.7) };
+        Meets (P.Follow p.0) (λ ys. (b : Q.Output) × Q.Form p.1 b ys) (Q.Follow p.1) ×
+        Meets (Q.Follow p.1) (λ ys. (b : R.Output) × R.Form p.2 b ys) (R.Follow p.2) ×
+        Meets (R.Follow p.2) (λ ys. (b : S.Output) × S.Form p.3 b ys) (S.Follow p.3) ×
+        Meets (S.Follow p.3) (λ ys. (b : T.Output) × T.Form p.4 b ys) (T.Follow p.4) ×
+        Meets (T.Follow p.4) (λ ys. (b : U.Output) × U.Form p.5 b ys) (U.Follow p.5) ×
+        Meets (U.Follow p.5) (λ ys. (b : V.Output) × V.Form p.6 b ys) (V.Follow p.6) ×
+        Meets (V.Follow p.6) (λ ys. (b : W.Output) × W.Form p.7 b ys) (W.Follow p.7) };
 
-    ghost Lead = { λ p. P.Lead p.0 };
+    ghost First = { λ p. P.First p.0 };
 
     #[inline(always)]
     fn write<X: Sink<I::Item>>(&self, value: &Self::Output, out: &mut X) -> Result<(), WriteError> {
@@ -276,5 +276,5 @@ impl<
         k.1.1.1.0 c.0.3) (next_member I.lawful c.4 (T.reads p.4 k.1.1.1.1.0 c.0.4) (next_member I.lawful c.5 (U.reads p.5 k.1.1.1.1.1.0 c.0.5) (next_member
         I.lawful c.6 (V.reads p.6 k.1.1.1.1.1.1.0 c.0.6) (last_member c.7 (W.reads p.7 k.1.1.1.1.1.1.1 c.0.7))))))))) };
 
-    ghost leads = { λ p. first_leads (P.leads p.0) (λ v. v.0) (λ s i o a. then_first a) };
+    ghost begins = { λ p. first_begins (P.begins p.0) (λ v. v.0) (λ s i o a. then_first a) };
 }

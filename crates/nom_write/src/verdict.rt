@@ -1,5 +1,5 @@
 //! Options, conditions, final refusals and errors with a name.
-ghost use Rattle.nom_write.specs.laws.LeadLaws.{context_leads, no_lead};
+ghost use Rattle.nom_write.specs.laws.FirstSetLaws.{context_begins, no_first};
 ghost use Rattle.nom_write.specs.Options.{CondFails, CondForm, OptFails, OptForm, WhereRun};
 ghost use Rattle.nom_write.specs.Reads.{NoItem};
 ghost use Rattle.nom_write.specs.laws.ChoiceReads.{cond_reads, context_reads, cut_reads, opt_reads};
@@ -17,7 +17,7 @@ impl<I: Items, F: Writer<I> + Drop> Writer<I> for Cut<F> {
 
     ghost Fails = { λ p. F.Fails p.parser };
 
-    ghost MayFollow = { λ p. F.MayFollow p.parser };
+    ghost Follow = { λ p. F.Follow p.parser };
 
     ghost CanWrite = { λ p. F.CanWrite p.parser };
 
@@ -28,7 +28,7 @@ impl<I: Items, F: Writer<I> + Drop> Writer<I> for Cut<F> {
 
     ghost reads = { λ p k c. cut_reads (F.reads p.parser k c) };
 
-    ghost leads = { λ p. no_lead };
+    ghost begins = { λ p. no_first };
 }
 
 /// Writes the value of `Some`, and nothing for `None`. No item may follow.
@@ -37,7 +37,7 @@ impl<I: Items, F: Writer<I> + Drop> Writer<I> for Opt<F> {
 
     ghost Fails = { λ p. OptFails (F.Fails p.parser) };
 
-    ghost MayFollow = { λ p rest. F.MayFollow p.parser rest × NoItem I.model (F.grammar (F.state p.parser)).meaning rest };
+    ghost Follow = { λ p rest. F.Follow p.parser rest × NoItem I.model (F.grammar (F.state p.parser)).meaning rest };
 
     ghost CanWrite = { λ p. F.CanWrite p.parser };
 
@@ -55,7 +55,7 @@ impl<I: Items, F: Writer<I> + Drop> Writer<I> for Opt<F> {
 
     ghost reads = { λ p k c. opt_reads (F.reads p.parser k c) };
 
-    ghost leads = { λ p. no_lead };
+    ghost begins = { λ p. no_first };
 }
 
 /// If the parser runs, writes the value of `Some`; `None` is a mismatch. If it doesn't run, it is the other way round: `None` is
@@ -65,7 +65,7 @@ impl<I: Items, F: Writer<I> + Drop> Writer<I> for Cond<F> {
 
     ghost Fails = { λ p. CondFails p.condition (F.Fails p.parser) };
 
-    ghost MayFollow = { λ p rest. WhereRun p.condition (F.MayFollow p.parser rest) };
+    ghost Follow = { λ p rest. WhereRun p.condition (F.Follow p.parser rest) };
 
     ghost CanWrite = { λ p. WhereRun p.condition (F.CanWrite p.parser) };
 
@@ -88,10 +88,10 @@ impl<I: Items, F: Writer<I> + Drop> Writer<I> for Cond<F> {
         }
     }
 
-    ghost reads = { λ p k c. cond_reads I.model (F.grammar (F.state p.parser)) (F.Form p.parser) (F.MayFollow p.parser) (F.CanWrite p.parser)
+    ghost reads = { λ p k c. cond_reads I.model (F.grammar (F.state p.parser)) (F.Form p.parser) (F.Follow p.parser) (F.CanWrite p.parser)
         (F.reads p.parser) p.condition k c };
 
-    ghost leads = { λ p. no_lead };
+    ghost begins = { λ p. no_first };
 }
 
 /// Writes as the part does.
@@ -103,11 +103,11 @@ where
 
     ghost Fails = { λ p. F.Fails p.parser };
 
-    ghost MayFollow = { λ p. F.MayFollow p.parser };
+    ghost Follow = { λ p. F.Follow p.parser };
 
     ghost CanWrite = { λ p. F.CanWrite p.parser };
 
-    ghost Lead = { λ p. F.Lead p.parser };
+    ghost First = { λ p. F.First p.parser };
 
     #[inline(always)]
     fn write<S: Sink<I::Item>>(&self, value: &F::Output, out: &mut S) -> Result<(), WriteError> {
@@ -116,5 +116,5 @@ where
 
     ghost reads = { λ p k c. context_reads F.Error.contexts p.context.now (F.reads p.parser k c) };
 
-    ghost leads = { λ p. context_leads (F.leads p.parser) F.Error.contexts p.context.now };
+    ghost begins = { λ p. context_begins (F.begins p.parser) F.Error.contexts p.context.now };
 }

@@ -23,7 +23,7 @@ pub fn parse_whole_back<I: Input, P: Writer<I> + Drop>(
     requires can { P.CanWrite parser.old.parser }
     ensures shown { Parses I.model (all_consuming_of I.model P.Error.errors (P.grammar (P.state parser.old.parser))) false input result }
     ensures kept { P.state parser.new.parser ≡ P.state parser.old.parser }
-    ensures back { (v : P.Output) (xs : List I.Item) → P.Form parser.old.parser v xs → I.model.elements input ≡ xs → P.MayFollow parser.old.parser [] →
+    ensures back { (v : P.Output) (xs : List I.Item) → P.Form parser.old.parser v xs → I.model.elements input ≡ xs → P.Follow parser.old.parser [] →
         IsReadBack I.model P.Output.view (P.Pins parser.old.parser) (all_consuming_of I.model P.Error.errors
         (P.grammar (P.state parser.old.parser))) v xs [] input result }
 {

@@ -1,6 +1,6 @@
 //! The traits of parsers that also write.
 ghost use Rattle.std.specs.Prelude.{Option, None, ◌≡◌, ◌≤◌, List, length};
-ghost use Rattle.nom_write.specs.Leads.{Leads, StartsWith, Words};
+ghost use Rattle.nom_write.specs.FirstSets.{HasFirst, StartsWith, Words};
 ghost use Rattle.nom_write.specs.Reads.{Reads, ReadsSome};
 ghost use Rattle.nom_sink.specs.Written.{LacksRoom, Space, Written};
 
@@ -20,7 +20,7 @@ pub trait Writer<I: Items>: StreamParser<I> {
     ghost Fails: { Self → Self.Output → Space → WriteError → Type 0 };
 
     /// What may follow a form: the follow set.
-    ghost MayFollow: { Self → List I.Item → Type 0 } = { λ _ _. Unit {0} };
+    ghost Follow: { Self → List I.Item → Type 0 } = { λ _ _. Unit {0} };
 
     /// What a caller of `write` must prove: that the form of each part may follow the part before it.
     ghost CanWrite: { Self → Type 0 } = { λ _. Unit {0} };
@@ -30,7 +30,7 @@ pub trait Writer<I: Items>: StreamParser<I> {
     ///
     /// Branches are kept apart if their words differ. The code of a byte is the byte, that of a character its code point, and that of a
     /// bit 1 or 0.
-    ghost Lead: { Self → Option Words } = { λ _. None };
+    ghost First: { Self → Option Words } = { λ _. None };
 
     /// Adds a form of a value to `out`. On an error, `out` is as it was.
     fn write<S: Sink<I::Item>>(&self, value: &Self::Output, out: &mut S) -> Result<(), WriteError>
@@ -41,10 +41,10 @@ pub trait Writer<I: Items>: StreamParser<I> {
 
     /// Each form of a value is read back as that value.
     ghost reads: { (p : Self) → (Self.grammar (Self.state p)).meaning.IsSound → CanWrite p → Reads I.model (Self.grammar (Self.state p))
-        (Form p) (MayFollow p) };
+        (Form p) (Follow p) };
 
-    /// Each form begins with a word of `Lead`, and other items are refused.
-    ghost leads: { (p : Self) → Leads I.model I.Item.code (Self.grammar (Self.state p)) (Form p) (Lead p) };
+    /// Each form begins with a word of `First`, and other items are refused.
+    ghost begins: { (p : Self) → HasFirst I.model I.Item.code (Self.grammar (Self.state p)) (Form p) (First p) };
 }
 
 /// A parser that also writes without a value, as a tag does. Parts whose output is dropped must be constants.
@@ -52,7 +52,7 @@ pub trait Constant<I: Items>: StreamParser<I> {
     /// The items.
     ghost items: { Self → List I.Item };
 
-    /// What the items begin with, if it tells them apart: as for `Lead` of a `Writer`.
+    /// What the items begin with, if it tells them apart: as for `First` of a `Writer`.
     ghost Start: { Self → Option Words } = { λ _. None };
 
     /// What a caller of `write_constant` must prove: that the parser accepts the items.

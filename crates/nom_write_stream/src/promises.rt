@@ -20,7 +20,7 @@ fn laws_of<I: Items<Item = u8>, P: Writer<I>>(_writer: &P)
     ensures lawful { IsLawful I.model (P.grammar (P.state _writer.now)).meaning }
     ensures steady { IsSteady I.model (P.grammar (P.state _writer.now)).meaning }
     ensures pinned { P.Pins _writer.now → IsPinned P.Output.view (P.grammar (P.state _writer.now)).IsOutput }
-    ensures reads { Reads I.model (P.grammar (P.state _writer.now)) (P.Form _writer.now) (P.MayFollow _writer.now) }
+    ensures reads { Reads I.model (P.grammar (P.state _writer.now)) (P.Form _writer.now) (P.Follow _writer.now) }
 {}
 
 /// A stream that reads the bytes of written items returns these items, in order, and then the end.
@@ -38,7 +38,7 @@ pub fn items_of_forms<
 >(_stream: &Stream<R, A>, _writer: &P)
     requires sound { (P.grammar (P.state _writer.now)).meaning.IsSound }
     requires can { P.CanWrite _writer.now }
-    requires follows { (rest : List ℕ) → P.MayFollow _writer.now rest }
+    requires follows { (rest : List ℕ) → P.Follow _writer.now rest }
     requires large { NeverTooLarge (P.grammar (P.state _writer.now)).meaning }
     requires outcomes { HasOutcomes (P.grammar (P.state _writer.now)) }
     ensures { ItemsOfForms A R.remaining P.Output.view (P.Pins _writer.now) (P.grammar (P.state _writer.now)) (P.Form _writer.now) }
@@ -63,7 +63,7 @@ pub fn items_of_pipe<
 >(_stream: &Stream<R, A>, _outgoing: &Outgoing<W, B>, _writer: &P)
     requires sound { (P.grammar (P.state _writer.now)).meaning.IsSound }
     requires can { P.CanWrite _writer.now }
-    requires follows { (rest : List ℕ) → P.MayFollow _writer.now rest }
+    requires follows { (rest : List ℕ) → P.Follow _writer.now rest }
     requires large { NeverTooLarge (P.grammar (P.state _writer.now)).meaning }
     requires outcomes { HasOutcomes (P.grammar (P.state _writer.now)) }
     ensures { ItemsOfPipe A B R.remaining W.contents P.Output.view (P.Pins _writer.now) (P.grammar (P.state _writer.now)) (P.Form _writer.now) }

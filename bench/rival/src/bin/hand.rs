@@ -1,12 +1,17 @@
-//! `hand FILE [ROUNDS]`: the lists that nom_bench writes, by a loop by hand for each. It prints the same lines. A length that
-//! doesn't fit is found, as nom_bench finds it.
+//! `hand FILE [ROUNDS]`: some of the lists that nom_bench parses, and those that it writes, by a loop by hand for each. It prints
+//! the same lines. A length that doesn't fit is found, as nom_bench finds it.
 
+#[path = "../cases.rs"]
+mod cases;
+#[path = "../loops.rs"]
+mod loops;
 #[path = "../writes.rs"]
 mod writes;
 
+use crate::cases::Contents;
 use crate::writes::{Fragment, Writers};
 use std::process::ExitCode;
-use std::{env, fs};
+use std::{env, fs, str};
 
 #[inline(never)]
 fn by_write_records(list: &[&[u8]], out: &mut Vec<u8>) -> bool {
@@ -59,6 +64,13 @@ fn main() -> ExitCode {
         println!("file fault");
         return ExitCode::from(3);
     };
+    let contents = Contents {
+        bytes: &bytes,
+        text: str::from_utf8(&bytes).unwrap_or(""),
+    };
+    for case in &loops::CASES {
+        cases::bench(case, contents, rounds);
+    }
     writes::bench(&WRITERS, &bytes, rounds);
     ExitCode::SUCCESS
 }

@@ -235,6 +235,10 @@ decimal_of = Leaves.decimal_of bytes_model plain_errors
 abbrev pub signed_decimal_of : Width → BytesGrammar ℤ ℤ
 signed_decimal_of = Leaves.signed_decimal_of bytes_model plain_errors
 
+-- a number in m to n digits of a base: `digits_of 8 16 2 2` is `digits_u8(16, 2)`, and `digits_of 16 16 1 4` is `digits_u16_m_n(16, 1, 4)`
+abbrev pub digits_of : (bits base m n : ℕ) → BytesGrammar ℕ ℕ
+digits_of = Leaves.digits_of bytes_model plain_errors
+
 abbrev pub hex_u32_of : BytesGrammar ℕ ℕ
 hex_u32_of = Leaves.hex_u32_of bytes_model plain_errors
 

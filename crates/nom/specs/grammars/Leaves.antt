@@ -1,5 +1,5 @@
 -- The leaves of grammars over inputs whose items are bytes or characters, as code points.
-use Rattle.std.specs.Prelude.{◌≡◌, ℕ, ℤ, pos, Bool, true, false, not, ◌↔◌, IsTrue, List, Option, Some, None, length, Contains}
+use Rattle.std.specs.Prelude.{◌≡◌, ◌-◌, ◌^◌, ℕ, ℤ, pos, Bool, true, false, not, ◌↔◌, IsTrue, List, Option, Some, None, length, Contains}
 use Rattle.std.specs.Int.{Width}
 use Rattle.nom_error.specs.declared.kind.ErrorKind.TheVariants as Kind
 use Rattle.nom_internal.specs.Prelude.{Errors, ErrorKind, CompareResult, Model, Slice}
@@ -12,6 +12,7 @@ use Rattle.nom_bytes.specs.Untils.{until_meaning}
 use Rattle.nom_character_first.specs.FirstItem.{anychar_meaning, char_meaning, satisfy_meaning}
 use Rattle.nom_character.specs.ClassRuns.{class_meaning}
 use Rattle.nom_character.specs.LineMatches.{crlf_meaning, line_ending_meaning, line_meaning}
+use Rattle.nom_character_digits.specs.CountedDigits.{digits_meaning}
 use Rattle.nom_character_integer.specs.Integers as Integers
 use Rattle.nom_combinator.specs.Ends.{eof_meaning, fail_meaning, rest_len_meaning, rest_meaning}
 use Rattle.nom_number.specs.declared.order.Endianness.{Endianness}
@@ -141,6 +142,10 @@ module _ {I E : Type 0} (w : Model I ℕ) (errs : Errors I E) where
 
   abbrev pub signed_decimal_of : Width → Grammar I ℤ ℤ E
   signed_decimal_of width = valued (Integers.signed_meaning w (λ x. x) width errs)
+
+  -- a number below 2^bits in m to n digits of a base
+  abbrev pub digits_of : (bits base m n : ℕ) → Grammar I ℕ ℕ E
+  digits_of bits base m n = valued (digits_meaning w (λ x. x) base m n (2 ^ bits - 1) errs)
 
   -- hexadecimal digits, eight at most, as a number; the shape of a decimal fraction
   abbrev pub hex_u32_of : Grammar I ℕ ℕ E

@@ -15,9 +15,9 @@ use Rattle.nom_bits.specs.Bridges.{BitsBecome, bits_of, rounded_up}
 use Rattle.nom_bits.specs.Fields.{bool_meaning, tag_meaning, take_meaning}
 use Rattle.nom_bits.specs.laws.FieldLaws.{tag_lawful, take_lawful}
 use Rattle.nom_write.specs.BitForms.{AreBitsOf, InWholeBytes, IsPadded}
-use Rattle.nom_write.specs.Leads.{StartsWith, is_as_long, is_unlike, whole_lead}
+use Rattle.nom_write.specs.FirstSets.{StartsWith, is_as_long, is_unlike, whole_first}
 use Rattle.nom_write.specs.Reads.{Anything, NoItem, Reads, ReadsBefore, ReadsSome}
-use Rattle.nom_write.specs.laws.LeadLaws.{whole_starts}
+use Rattle.nom_write.specs.laws.FirstSetLaws.{whole_starts}
 use Rattle.nom_write.specs.laws.LeafReads.{labelled_reads, lawful_reads, no_errors}
 
 length-low_bits : (k n : ℕ) → length (low_bits k n) ≡ k
@@ -160,7 +160,7 @@ module _ {I E : Type 0} (w : Model I ℕ) (errs : Errors (I × ℕ) E) (width pa
   ))
 
   pub tag_bits_starts : StartsWith (bits_model w) bit_code (tag_meaning w errs width pattern count) (low_bits count pattern)
-      (whole_lead bit_code (low_bits count pattern))
+      (whole_first bit_code (low_bits count pattern))
   tag_bits_starts = whole_starts bit_code (tag_meaning w errs width pattern count) (low_bits count pattern) tag_bits_refuse
 
 -- whole bytes, as many as bits with zeros after them fill

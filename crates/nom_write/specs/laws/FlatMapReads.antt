@@ -6,10 +6,10 @@ use Rattle.nom_internal.specs.Prelude.{Model, InputLaws, Grammar, labelled}
 use Rattle.nom_internal.specs.FlatMap.{GivesState, IsGiven, Maker, MakesOne, flat_map_by, given_family, states_family}
 use Rattle.nom_sink.specs.Parts.{Meets}
 use Rattle.nom_write.specs.FlatMaps.{FlatMapForm, OfEachSecond}
-use Rattle.nom_write.specs.Leads.{Leads, Words}
+use Rattle.nom_write.specs.FirstSets.{HasFirst, Words}
 use Rattle.nom_write.specs.Reads.{Reads, ReadsBefore}
 use Rattle.nom_write.specs.laws.ChoiceReads.{become_reads}
-use Rattle.nom_write.specs.laws.LeadLaws.{begins_as, begins_before, then_refuses}
+use Rattle.nom_write.specs.laws.FirstSetLaws.{begins_as, begins_before, then_refuses}
 use Rattle.nom_write.specs.laws.LengthReads.{of_value_reads}
 use Rattle.nom_write.specs.laws.SequenceReads.{as_whole, then_reads}
 
@@ -55,11 +55,11 @@ module _ {I A P O H S Q R E : Type 0} {w : Model I A} (give : Maker O H S) {g : 
             }) ((q parser (k.sound u x parser is given) owed.0).reads v parts.back parts.second.2 s))))
 
   -- it begins as the first value does
-  pub flat_map_leads : (code : A → ℕ) {lead : Option Words} → Leads w code g FirstForm lead →
-      Leads w code (flat_map_by w give g h) (FlatMapForm Back give.Gives FirstForm SecondForm) lead
-  flat_map_leads code {lead} p = record {
+  pub flat_map_begins : (code : A → ℕ) {words : Option Words} → HasFirst w code g FirstForm words →
+      HasFirst w code (flat_map_by w give g h) (FlatMapForm Back give.Gives FirstForm SecondForm) words
+  flat_map_begins code {words} p = record {
     begins = λ bs e v xs f.
         let parts = f.2 in
         begins_as code bs xs (parts.front ++ parts.back) parts.whole (begins_before code bs parts.front parts.back (p.begins bs e f.0 parts.front parts.first));
-    others = then_refuses w code (λ u t. t) (with_outputs true) (λ o. o) g.meaning (given_family g.IsOutput give (λ z. (h z).meaning)) lead p.others;
+    others = then_refuses w code (λ u t. t) (with_outputs true) (λ o. o) g.meaning (given_family g.IsOutput give (λ z. (h z).meaning)) words p.others;
   }

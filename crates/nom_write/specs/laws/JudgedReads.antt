@@ -4,9 +4,9 @@ use Rattle.std.proofs.Common.{sym, ◌∙◌, ap, subst}
 use Rattle.nom_error.specs.Errors.{Externals}
 use Rattle.nom_internal.specs.Judged.{map_opt_by, map_res_by}
 use Rattle.nom_internal.specs.Prelude.{Accept, Errors, GivesFor, Grammar, IsJudge, Judged, Model, Passes, items_len, judged_meaning, kept_if}
-use Rattle.nom_write.specs.Leads.{Leads, Words}
+use Rattle.nom_write.specs.FirstSets.{HasFirst, Words}
 use Rattle.nom_write.specs.Reads.{Reads}
-use Rattle.nom_write.specs.laws.LeadLaws.{case_refuses}
+use Rattle.nom_write.specs.laws.FirstSetLaws.{case_refuses}
 
 -- a grammar whose outputs a closure judges, and where what it gives fits, it is the one for a value of the whole
 abbrev pub judged_by : {I V O R P E : Type 0} → (O → Type 0) → (O → R → Type 0) → (R → Bool) → (I → R → E → Type 0) → Type 0 → (P → R) →
@@ -37,11 +37,11 @@ module _ {I A V O R P E : Type 0} {w : Model I A} {g : Grammar I V O E} {Form : 
   }
 
   -- and it begins as the part does
-  judged_back_leads : {code : A → ℕ} {lead : Option Words} → Leads w code g Form lead →
-      Leads w code (judged_by Takes Gives fits Makes Grows fit g) (λ v xs. (x : O) × Back v x × Form x xs) lead
-  judged_back_leads {code} {lead} p = record {
+  judged_back_begins : {code : A → ℕ} {words : Option Words} → HasFirst w code g Form words →
+      HasFirst w code (judged_by Takes Gives fits Makes Grows fit g) (λ v xs. (x : O) × Back v x × Form x xs) words
+  judged_back_begins {code} {words} p = record {
     begins = λ bs e v xs f. p.begins bs e f.0 xs f.2;
-    others = case_refuses w code g.meaning _ lead (λ s i o a. (
+    others = case_refuses w code g.meaning _ words (λ s i o a. (
       a.outcome,
       subst (λ z. g.meaning.answers s z a.outcome) (sym a.at_is) a.answered,
       λ e. subst (λ z. Passes (Judged (GivesFor g.IsOutput Gives) fits) z o) e a.fact,
@@ -54,15 +54,15 @@ module _ {I A V O P E : Type 0} {w : Model I A} {g : Grammar I V O E} {Form : O 
         Reads w g Form Follow → Reads w (map_opt_by errs Takes Gives g) (λ v xs. (x : O) × Back v x × Form x xs) Follow
     map_opt_back_reads judge again p = judged_back_reads Takes Gives is_some _ errs.grows Some Back (λ v. refl) judge again p
 
-    pub map_opt_back_leads : {code : A → ℕ} {lead : Option Words} → Leads w code g Form lead →
-        Leads w code (map_opt_by errs Takes Gives g) (λ v xs. (x : O) × Back v x × Form x xs) lead
-    map_opt_back_leads p = judged_back_leads Takes Gives is_some _ errs.grows Some Back p
+    pub map_opt_back_begins : {code : A → ℕ} {words : Option Words} → HasFirst w code g Form words →
+        HasFirst w code (map_opt_by errs Takes Gives g) (λ v xs. (x : O) × Back v x × Form x xs) words
+    map_opt_back_begins p = judged_back_begins Takes Gives is_some _ errs.grows Some Back p
 
   module _ {X : Type 0} (externals : Externals I X E) (Gives : O → Result P X → Type 0) (Back : P → O → Type 0) where
     pub map_res_back_reads : IsJudge g.IsOutput Gives is_ok → ((v : P) (x : O) → Back v x → Gives x (Ok v)) → {Follow : List A → Type 0} →
         Reads w g Form Follow → Reads w (map_res_by externals Takes Gives g) (λ v xs. (x : O) × Back v x × Form x xs) Follow
     map_res_back_reads judge again p = judged_back_reads Takes Gives is_ok _ externals.grows Ok Back (λ v. refl) judge again p
 
-    pub map_res_back_leads : {code : A → ℕ} {lead : Option Words} → Leads w code g Form lead →
-        Leads w code (map_res_by externals Takes Gives g) (λ v xs. (x : O) × Back v x × Form x xs) lead
-    map_res_back_leads p = judged_back_leads Takes Gives is_ok _ externals.grows Ok Back p
+    pub map_res_back_begins : {code : A → ℕ} {words : Option Words} → HasFirst w code g Form words →
+        HasFirst w code (map_res_by externals Takes Gives g) (λ v xs. (x : O) × Back v x × Form x xs) words
+    map_res_back_begins p = judged_back_begins Takes Gives is_ok _ externals.grows Ok Back p

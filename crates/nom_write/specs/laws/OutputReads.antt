@@ -3,9 +3,9 @@ use Rattle.std.specs.Prelude.{◌≡◌, ℕ, Bool, true, List, ◌++◌, Option
 use Rattle.std.proofs.Common.{sym, ◌∙◌, ap, subst}
 use Rattle.nom_internal.specs.Prelude.{Accept, Errors, GivesFor, Grammar, IsJudge, Model, Passes, items_len, Judged, kept_if}
 use Rattle.nom_combinator.specs.Outputs.{GivesValue, value_by, verify_by}
-use Rattle.nom_write.specs.Leads.{Leads, StartsWith, Words}
+use Rattle.nom_write.specs.FirstSets.{HasFirst, StartsWith, Words}
 use Rattle.nom_write.specs.Reads.{Anything, Reads, ReadsSome}
-use Rattle.nom_write.specs.laws.LeadLaws.{case_refuses, fixed_leads}
+use Rattle.nom_write.specs.laws.FirstSetLaws.{case_refuses, fixed_begins}
 
 module _ {I A V O R E : Type 0} {w : Model I A} (g : Grammar I V O E) (value : R) (IsSure : Type 0) (IsClone : R → Type 0)
     (items : List A) where
@@ -23,11 +23,11 @@ module _ {I A V O R E : Type 0} {w : Model I A} (g : Grammar I V O E) (value : R
     };
   }
 
-  pub value_leads : (code : A → ℕ) {lead : Option Words} → StartsWith w code g.meaning items lead →
-      Leads w code (value_by value IsSure IsClone g) (λ v xs. IsClone v × (xs ≡ items)) lead
-  value_leads code {lead} p = fixed_leads code items (λ v xs f. f.1) (record {
+  pub value_begins : (code : A → ℕ) {words : Option Words} → StartsWith w code g.meaning items words →
+      HasFirst w code (value_by value IsSure IsClone g) (λ v xs. IsClone v × (xs ≡ items)) words
+  value_begins code {words} p = fixed_begins code items (λ v xs f. f.1) (record {
     begins = p.begins;
-    others = case_refuses w code g.meaning _ lead (λ s i o a. (
+    others = case_refuses w code g.meaning _ words (λ s i o a. (
       a.outcome,
       subst (λ z. g.meaning.answers s z a.outcome) (sym a.at_is) a.answered,
       λ e. subst (λ z. Passes (GivesValue value) z o) e a.fact,
@@ -49,11 +49,11 @@ module _ {I A V O E : Type 0} {w : Model I A} (errs : Errors I E) {g : Grammar I
     };
   }
 
-  pub verify_leads : {code : A → ℕ} {lead : Option Words} → Leads w code g Form lead →
-      Leads w code (verify_by errs Takes Says g) (λ v xs. Says v true × Form v xs) lead
-  verify_leads {code} {lead} p = record {
+  pub verify_begins : {code : A → ℕ} {words : Option Words} → HasFirst w code g Form words →
+      HasFirst w code (verify_by errs Takes Says g) (λ v xs. Says v true × Form v xs) words
+  verify_begins {code} {words} p = record {
     begins = λ bs e v xs f. p.begins bs e v xs f.1;
-    others = case_refuses w code g.meaning _ lead (λ s i o a. (
+    others = case_refuses w code g.meaning _ words (λ s i o a. (
       a.outcome,
       subst (λ z. g.meaning.answers s z a.outcome) (sym a.at_is) a.answered,
       λ e. subst (λ z. Passes (Judged (GivesFor g.IsOutput Says) (λ b. b)) z o) e a.fact,

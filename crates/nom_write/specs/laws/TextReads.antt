@@ -13,10 +13,10 @@ use Rattle.nom_internal.specs.Prelude.{ComparesText, sliced, text_comparing}
 use Rattle.nom_traits.specs.Text.{both, items_len-text, text_lawful, text_model, text_values}
 use Rattle.nom_bytes.specs.Tags.{tag_meaning}
 use Rattle.nom_bytes.specs.laws.TagLaws.{tag_lawful}
-use Rattle.nom_write.specs.Leads.{StartsWith, lead_of}
+use Rattle.nom_write.specs.FirstSets.{StartsWith, first_of}
 use Rattle.nom_write.specs.Reads.{Anything, Holds, NoItem, Reads, ReadsBefore, ReadsSome}
 use Rattle.nom_write.specs.Texts.{text_items}
-use Rattle.nom_write.specs.laws.LeadLaws.{first_starts, other_item}
+use Rattle.nom_write.specs.laws.FirstSetLaws.{first_starts, other_item}
 use Rattle.nom_write.specs.laws.LeafReads.{lawful_reads, no_errors}
 use Rattle.nom_write.specs.laws.SequenceReads.{as_whole}
 
@@ -128,5 +128,5 @@ module _ {E : Type 0} (errs : Errors (Bor (List ℕ)) E) (tag : List ℕ) where
       absurd (other_item (λ z. z) a c other (other_lead tag (rest ++ chars ys) a c more is head))
 
   pub text_tag_starts : StartsWith text_model (λ x. x) (tag_meaning text_model errs length ComparesText tag) (text_items tag)
-      (lead_of (λ x. x) (text_items tag))
+      (first_of (λ x. x) (text_items tag))
   text_tag_starts = first_starts (λ x. x) (tag_meaning text_model errs length ComparesText tag) (text_items tag) refuses

@@ -10,17 +10,17 @@ use Rattle.nom_repeat.specs.Repeat.Turn.{Takes, Ends}
 use Rattle.nom_sink.specs.Lists.{Each, ItemForm}
 use Rattle.nom_sink.specs.Parts.{Both}
 use Rattle.nom_write.specs.Choices.{Refuses}
-use Rattle.nom_write.specs.Leads.{AreApart, Leads, Words}
+use Rattle.nom_write.specs.FirstSets.{AreDisjoint, HasFirst, Words}
 use Rattle.nom_write.specs.Reads.{IsTaken, Reads}
 use Rattle.nom_write.specs.laws.ChoiceReads.{become_reads, become_refused}
-use Rattle.nom_write.specs.laws.LeadLaws.{differ_apart}
+use Rattle.nom_write.specs.laws.FirstSetLaws.{differ_apart}
 use Rattle.nom_write.specs.laws.ListReads.{some_len}
 use Rattle.nom_write.specs.laws.SequenceReads.{follows}
 
 -- the end refuses what begins with an item: of the end no form matters
 pub end_apart : {I A T V P O E : Type 0} {w : Model I A} {end : Grammar I T P E} {g : Grammar I V O E} {EndForm : P → List A → Type 0}
-    {Form : O → List A → Type 0} {code : A → ℕ} {lead other : Option Words} →
-    Leads w code end EndForm lead → Leads w code g Form other → AreApart w end lead Form other →
+    {Form : O → List A → Type 0} {code : A → ℕ} {words other : Option Words} →
+    HasFirst w code end EndForm words → HasFirst w code g Form other → AreDisjoint w end words Form other →
     Refuses w end Form
 end_apart {T = T} {O = O} {end = end} p q d = differ_apart {g = record { meaning = end.meaning; IsOutput = λ (t : T) (v : O). ⊥ }} {First = λ v xs. ⊥}
     (record { begins = λ bs e v xs f. absurd f; others = p.others }) q d

@@ -1,6 +1,5 @@
 use Rattle.std.proofs.Common.{◌≡◌, ◌<◌, ◌≤◌}
 use Rattle.std.specs.Prelude.{vec_capacity, vec_len}
-use Rattle.nom_run.specs.Stream.{NoWriteFailed}
 use Rattle.nom_messages_run.proofs.Piped.{Going}
 use Rattle.nom_messages_run.proofs.pipe.tell_items.Given as goal
 
@@ -8,8 +7,7 @@ abbrev pub invariant-loop-turn : goal.invariant-loop-turn
 invariant-loop-turn g l = record {
   few : vec_len l.room ≤ 65536;
   fresh : vec_capacity l.room < 65536 → (l._turn ≡ 0) × (l.sink ≡ l.fn.sink);
-  writes : NoWriteFailed (g.W.Sink.failures l.fn.sink) (g.W.Sink.failures l.sink) (g.W.Sink.stalls l.fn.sink) (g.W.Sink.stalls l.sink);
   kept : g.G.Grammar.state l.grammar ≡ g.G.Grammar.state l.fn.grammar;
-  going : Going g.R.Read.remaining (g.G.Grammar.grammar (g.G.Grammar.state l.fn.grammar)) l.fn.stream l.stream (g.W.Sink.held l.fn.sink) (g.W.Sink.held l.sink)
-      l.room.items l._turn;
+  going : Going g.R.Read.remaining (g.G.Grammar.grammar (g.G.Grammar.state l.fn.grammar)) l.fn.stream l.stream (g.W.Sink.account l.fn.sink)
+      (g.W.Sink.account l.sink) l.room.items l._turn;
 }

@@ -1,13 +1,13 @@
-use Rattle.std.proofs.Common.{◌≡◌, ◌==◌, true, false, length, sym}
+use Rattle.std.proofs.Common.{◌≡◌, ◌==◌, true, false, append-nil, length, sym}
 use Rattle.nom_run.specs.Texts.{hex_of}
-use Rattle.nom_run.proofs.Piecewise.{puts_both, puts_first, puts_none, puts_same}
+use Rattle.nom_run.proofs.Piecewise.{puts_both, puts_first, puts_held, puts_same}
 use Rattle.nom_messages_run.proofs.Putting.{hex_lines, no_digits, some_digits}
 use Rattle.nom_messages_run.proofs.put.put_digits.Goals as goal
 
 pub returns-then-is_empty-clause-puts : goal.returns-then-is_empty-clause-puts
 returns-then-is_empty-clause-puts g c =
     let none : (length c.args.bytes.now == 0) ≡ true = cc in
-    puts_same (sym (no_digits c.args.bytes.now none)) puts_none
+    puts_same (sym (no_digits c.args.bytes.now none)) (puts_held (sym (append-nil _)))
 
 pub returns-in-Err-clause-puts : goal.returns-in-Err-clause-puts
 returns-in-Err-clause-puts g c =

@@ -1,10 +1,10 @@
-use Rattle.std.proofs.Common.{◌+◌, drop, refl}
+use Rattle.std.proofs.Common.{◌+◌, append-nil, drop, refl, sym}
 use Rattle.nom_run.specs.Texts.{lines_text}
-use Rattle.nom_run.proofs.Piecewise.{lines_rest, lines_then, puts_both, puts_first, puts_none}
+use Rattle.nom_run.proofs.Piecewise.{lines_rest, lines_then, puts_both, puts_first, puts_held}
 use Rattle.nom_run.proofs.pieces.put_each.Goals as goal
 
 pub loop-item-init : goal.loop-item-init
-loop-item-init g c = record { room = c.requires; puts = puts_none }
+loop-item-init g c = record { room = c.requires; puts = puts_held (sym (append-nil _)) }
 
 pub returns-in-Err-clause-puts : goal.returns-in-Err-clause-puts
 returns-in-Err-clause-puts g c =

@@ -1,6 +1,9 @@
-use Rattle.nom_run.proofs.Built.{on_built}
+use Rattle.nom_run.proofs.Built.{is_built, told, untold}
+use Rattle.nom_run.proofs.Piecewise.{puts_same}
 use Rattle.nom_run.proofs.report.write_built.Goals as goal
 
-pub returns-clause-error : goal.returns-clause-error
-returns-clause-error g c = on_built c.args.built c.in-Ok.answer c.in-Ok.is c.as_bytes.result.now c.as_bytes.ensures.value _ _ _ _
-    c.in-Err-write_all.error c.in-Err-write_all.ensures.error
+pub returns-in-Ok-write_all : goal.returns-in-Ok-write_all
+returns-in-Ok-write_all g c = told _ (is_built c.in-Ok.is) (puts_same c.as_bytes.ensures.value c.in-Ok-write_all.ensures.puts)
+
+pub returns : goal.returns
+returns g c = untold _ (is_built c.in-Ok.is) (puts_same c.as_bytes.ensures.value c.in-Err-write_all.ensures.puts)

@@ -1,10 +1,11 @@
-use Rattle.std.proofs.Common.{◌≡◌, ◌≤◌, length}
+use Rattle.std.proofs.Common.{◌≤◌, length}
 use Rattle.std.specs.Io.KnownBytes.{Consumes}
+use Rattle.nom_io.specs.Account.{NoneFailed}
 use Rattle.nom_run.proofs.run.read_all.Given as goal
 
 abbrev pub invariant-loop-turn : goal.invariant-loop-turn
 invariant-loop-turn g l = record {
-  read : Consumes (g.S.Source.left l.fn.source) (g.S.Source.left l.source) l.bytes.items;
-  failures : g.S.Source.failures l.source ≡ g.S.Source.failures l.fn.source;
+  read : Consumes (g.S.Source.account l.fn.source).bytes (g.S.Source.account l.source).bytes l.bytes.items;
+  none : NoneFailed (g.S.Source.account l.fn.source) (g.S.Source.account l.source);
   turns : l._turn ≤ length l.bytes.items;
 }

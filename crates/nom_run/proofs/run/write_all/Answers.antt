@@ -1,6 +1,7 @@
-use Rattle.std.proofs.Common.{arith, ap, ◌≤◌, ◌<◌, ◌-◌, ◌∙◌, length}
+use Rattle.std.proofs.Common.{arith, ap, ◌≤◌, ◌<◌, ◌-◌, length}
 use Rattle.std.proofs.lemmas.List.{places}
-use Rattle.nom_run.proofs.Known.{appends-more, take-on}
+use Rattle.nom_io.proofs.Known.{take_on}
+use Rattle.nom_io.proofs.Written.{wrote_then}
 use Rattle.nom_run.proofs.run.write_all.Goals as goal
 
 pub loop-at-preserved : goal.loop-at-preserved
@@ -12,9 +13,6 @@ loop-at-preserved g c =
     record {
       none = λ e. absurd (omega (arith, ap length e));
       within = omega arith;
-      wrote = rw (take-on c.args.text.now c.loop-at.at c.in-Ok.count low high)
-          (appends-more (g.W.Sink.held c.args.sink.now) (g.W.Sink.held c.loop-at.sink)
-          (g.W.Sink.held c.write.new.self) _ _ c.loop-at.invariant.wrote c.in-Ok.ensures.bytes);
-      failures = c.in-Ok.ensures.counts ∙ c.loop-at.invariant.failures;
-      stalls = c.in-Ok.ensures.stalled.0 some ∙ c.loop-at.invariant.stalls;
+      wrote = rw (take_on c.args.text.now c.loop-at.at c.in-Ok.count low high)
+          (wrote_then c.loop-at.invariant.wrote (record { appends = c.in-Ok.ensures.bytes; none = (c.in-Ok.ensures.counts.1, c.in-Ok.ensures.stalls.0 some) }));
     }

@@ -1,8 +1,7 @@
 use Rattle.std.proofs.Common.{◌≡◌, inl, [], map, Bor, List, ℕ, slice_index_or}
 use Rattle.std.proofs.lemmas.Grind.{common_steps}
 use Rattle.nom_run.specs.Words.{IsNumber, word_number}
-use Rattle.nom_run.proofs.Known.{word-is}
-use Rattle.nom_run.proofs.Numbers.{starts_with_numbers}
+use Rattle.nom_run.proofs.Numbers.{starts_with_numbers, word-is}
 use Rattle.nom_run.proofs.words.read_cuts.Goals as goal
 
 pub returns-in-None-clause-error : goal.returns-in-None-clause-error

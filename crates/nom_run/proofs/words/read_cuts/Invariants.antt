@@ -1,5 +1,5 @@
 use Rattle.std.proofs.Common.{◌≡◌, ℕ, ◌<◌, ◌-◌, [], map, length, slice_index, slice_index_or}
-use Rattle.nom_run.specs.Stream.{NeverFalls}
+use Rattle.nom_run.specs.Runs.{NeverFalls}
 use Rattle.nom_run.specs.Words.{IsNumber, word_number}
 use Rattle.nom_run.proofs.words.read_cuts.Given as goal
 

@@ -1,12 +1,15 @@
-use Rattle.nom_run.proofs.Piecewise.{flushed, not_flushed, puts_err, puts_from}
+use Rattle.std.proofs.Common.{append-nil, refl}
+use Rattle.nom_run.proofs.Built.{told, untold}
+use Rattle.nom_run.proofs.Piecewise.{puts_both, puts_from}
 use Rattle.nom_settings_run.proofs.report.write_sections.Goals as goal
 
-pub returns-in-Err-put_each-clause-error : goal.returns-in-Err-put_each-clause-error
-returns-in-Err-put_each-clause-error g c = puts_err _ (puts_from c.in-Ok.ensures.1 c.in-Err-put_each.ensures.puts)
+pub returns-in-Err-put_each : goal.returns-in-Err-put_each
+returns-in-Err-put_each g c = untold 0 (refl, refl) (puts_from c.in-Ok.ensures.1 c.in-Err-put_each.ensures.puts)
 
-pub returns-in-Ok-flush-clause-wrote : goal.returns-in-Ok-flush-clause-wrote
-returns-in-Ok-flush-clause-wrote g c = flushed c.flush.new.sink (puts_from c.in-Ok.ensures.1 c.in-Ok-put_each.ensures.puts) c.in-Ok-flush.ensures.wrote
+pub returns-in-Ok-flush : goal.returns-in-Ok-flush
+returns-in-Ok-flush g c =
+    told 0 (refl, refl) (puts_both (append-nil _) (puts_from c.in-Ok.ensures.1 c.in-Ok-put_each.ensures.puts) c.in-Ok-flush.ensures.puts)
 
-pub returns-clause-error : goal.returns-clause-error
-returns-clause-error g c =
-    not_flushed c.flush.new.sink _ (puts_from c.in-Ok.ensures.1 c.in-Ok-put_each.ensures.puts) c.in-Err-flush.error c.in-Err-flush.ensures.error
+pub returns : goal.returns
+returns g c =
+    untold 0 (refl, refl) (puts_both (append-nil _) (puts_from c.in-Ok.ensures.1 c.in-Ok-put_each.ensures.puts) c.in-Err-flush.ensures.puts)

@@ -6,4 +6,4 @@ returns g c =
     let writer = c.args._writer.now in
     let laws = c.laws_of.ensures in
     items_of_pipe g.P.Output.Viewed.view (g.P.StreamParser.Pins writer) (g.P.Parser.grammar (g.P.Parser.state writer)) laws.lawful laws.steady
-    laws.pinned c.requires.large c.requires.outcomes (g.P.Writer.Form writer) (g.P.Writer.MayFollow writer) c.requires.follows laws.reads _ _ _ _
+    laws.pinned c.requires.large c.requires.outcomes (g.P.Writer.Form writer) (g.P.Writer.Follow writer) c.requires.follows laws.reads _ _ _ _

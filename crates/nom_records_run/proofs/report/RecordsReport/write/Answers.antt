@@ -1,13 +1,5 @@
-use Rattle.nom_run.proofs.Built.{built_is, other_error, other_status}
-use Rattle.nom_records_run.specs.Report.{IsReport}
+use Rattle.nom_run.proofs.Built.{built_is, tells_other}
 use Rattle.nom_records_run.proofs.report.RecordsReport.write.Goals as goal
 
-pub returns-clause-status : goal.returns-clause-status
-returns-clause-status g c =
-    other_status _ (IsReport c.args.bytes.now c.args.cuts.now) (built_is _ c.text_of.result c.text_of.ensures) _ _ _ c.write_built.result
-    c.write_built.ensures.status
-
-pub returns-clause-error : goal.returns-clause-error
-returns-clause-error g c =
-    other_error _ (IsReport c.args.bytes.now c.args.cuts.now) (built_is _ c.text_of.result c.text_of.ensures) _ _ _ _ c.write_built.result
-    c.write_built.ensures.error
+pub returns : goal.returns
+returns g c = tells_other (built_is _ c.text_of.result c.text_of.ensures) c.write_built.ensures

@@ -1,0 +1,4 @@
+pub mod CountedDigits
+pub mod CountedRead
+pub mod Words
+pub mod laws

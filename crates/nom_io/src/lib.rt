@@ -1,0 +1,5 @@
+//! Readers and writers of std, whose calls are counted.
+#![tactic(auto)]
+
+pub mod counted;
+pub mod stream;
