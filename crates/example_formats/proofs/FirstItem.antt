@@ -1,4 +1,4 @@
--- What is known where a parser of one character, or of digits, accepts.
+-- Lemmas on the acceptances of a parser of one character, or of digits.
 use Rattle.std.proofs.Common.{◌≡◌, ℕ, ◌<◌, ◌≤◌, Bool, true, false, List, [], ◌∷◌, ◌++◌, length, Ok, Bor, sym, ◌∙◌, ap, subst, arith, inl, inr, ◌⊎◌}
 use Rattle.std.specs.Prelude.{◌==◌, chars, Some, None}
 use Rattle.std.specs.Char.{len_utf8}

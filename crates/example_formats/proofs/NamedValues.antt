@@ -1,4 +1,4 @@
--- What the parser of a name and its value answers.
+-- Lemmas on the answers of the parser of a name and its value.
 use Rattle.std.proofs.Common.{◌≡◌, ℕ, ◌+◌, Bool, true, false, List, [], ◌∷◌, ◌++◌, Bor, sym, ◌∙◌, ap, subst, arith, append_assoc, refl, rules}
 use Rattle.std.specs.Prelude.{◌==◌, chars, Some, None, IfOk}
 use Rattle.std.specs.Char.{len_utf8}

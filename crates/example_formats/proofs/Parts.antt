@@ -1,4 +1,4 @@
--- What stands in the brackets of a sum, and a sum by its parts.
+-- Lemmas on the contents of a sum's brackets, and on a sum by its parts.
 use Rattle.std.proofs.Common.{◌≡◌, ℕ, ◌-◌, zero, suc, List, Err, refl, subst, arith}
 use mathlib.Core.HProp.{h_prop_ext}
 use mathlib.Core.Path.{fun_ext}

@@ -1,4 +1,4 @@
--- What is known where a sequence accepts.
+-- Lemmas on the acceptances of a sequence.
 use Rattle.std.proofs.Common.{◌≡◌, ℕ, ◌+◌}
 use Rattle.nom_internal.specs.Prelude.{Model, IsSuffixOf, Outcome, Accept, Refuse, Stop, Then, GoesOn, after}
 

@@ -1,4 +1,4 @@
--- What the parser of sections answers.
+-- Lemmas on the answers of the parser of sections.
 use Rattle.std.proofs.Common.{◌≡◌, ℕ, ◌↔◌, List, Vec, chars, codes, subst}
 use Rattle.std.specs.Prelude.{not, Contains, IsTrue}
 use Rattle.nom_internal.specs.Prelude.{ErrorKind, Slice, text_model}

@@ -1,4 +1,4 @@
--- What a function of nested brackets answers, from what its parts answered.
+-- Lemmas on the answers of a function of nested brackets, from what its parts answered.
 use Rattle.std.proofs.Common.{◌≡◌, ℕ, ◌+◌, ◌≤◌, zero, suc, Bool, true, false, List, [], ◌∷◌, ◌++◌, drop, length, Ok, Err, Bor, refl, sym, ◌∙◌}
 use Rattle.std.proofs.Common.{ap, subst, arith, inl, inr}
 use Rattle.std.specs.Prelude.{◌==◌, cond}

@@ -1,4 +1,4 @@
--- What the parser of a colour answers, from what its parts answered.
+-- Lemmas on the answers of the parser of a colour, from what its parts answered.
 use Rattle.std.proofs.Common.{◌≡◌, ℕ, ◌+◌, ◌<◌, ◌≤◌, true, false, List, [], ◌∷◌, ◌++◌, length, Result, Ok, Err, refl, sym, ◌∙◌, ap, subst, arith, inl, inr}
 use Rattle.std.specs.Prelude.{cond, chars, encode_utf8, encode_utf8_all, ◌⊎◌}
 use Rattle.std.specs.Char.{len_utf8}

@@ -92,7 +92,7 @@ pair_place i v p = record { front = p.first ∷ (p.second ∷ []); rest = p.rest
 
 -- the outcome of the function of one pair is that of the characters
 pub pair_answered : (i : Text) (o : Outcome ℕ) → FuncAnswers text_model itself AnswersPair i o → pair_of (chars i.now) ≡ o
-pair_answered i o a = ap pair_of (sym a.alike.elements_are) ∙
+pair_answered i o a = ap pair_of (sym a.consistent.elements_are) ∙
     sym (taken_once text_model itself a.at a.outcome.answer (pair_of (chars a.at.now)) o a.outcome.given.outcome_is a.outcome.told)
 
 -- it leaves rests

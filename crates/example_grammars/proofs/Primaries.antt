@@ -1,4 +1,4 @@
--- What the parser of two digits answers: a run of two in the complete mode, read as a number.
+-- Lemmas on the answers of the parser of two digits: a run of two in the complete mode, read as a number.
 use Rattle.std.proofs.Common.{◌≡◌, ℕ, ◌+◌, ◌*◌, Bool, true, false, [], ◌∷◌, Result, Ok, Err, refl, sym, ◌∙◌, ap, subst}
 use Rattle.std.specs.Prelude.{chars, encode_utf8_all, Some, is_ok}
 use Rattle.std.specs.Char.{digit_value, is_digit}

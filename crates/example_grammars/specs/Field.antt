@@ -1,4 +1,4 @@
--- What the functions in the grammars of `field` return.
+-- The results of the functions in the grammars of `field`.
 use Rattle.std.specs.Prelude.{ℕ, Bool, ltb}
 
 -- whether another byte of a length follows

@@ -1,4 +1,4 @@
-//! What bit fields leave.
+//! A bit field, and the place that it leaves.
 ghost use Rattle.nom_internal.specs.Prelude.{bytes_model, OfRest, rest_of};
 ghost use Rattle.nom_bits.specs.BitRests.{StandsAfter};
 

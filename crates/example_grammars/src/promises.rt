@@ -1,4 +1,4 @@
-//! What a caller knows of any sound parser that settles, whatever it is made of.
+//! The promises that a caller has of any sound parser that settles, whatever it is made of.
 ghost use Rattle.nom_internal.specs.Promises.{AcceptsFronts, AnswersStay, HasNoFailure, HasOneOutcome, IsCompleteToo, NeverRunsOut, StaysOnLonger};
 
 use nom::promises::{
@@ -14,7 +14,7 @@ pub fn promised<I: Items, P: StreamParser<I>>(parser: &P)
     ensures decided { StaysOnLonger I.model (P.grammar (P.state parser.now)).meaning }
     ensures answers { AnswersStay I.model P.Output.view (P.Pins parser.now) (P.grammar (P.state parser.now)).IsOutput
         (P.grammar (P.state parser.now)).meaning }
-    ensures alike { HasOneOutcome I.model (P.grammar (P.state parser.now)).meaning }
+    ensures consistent { HasOneOutcome I.model (P.grammar (P.state parser.now)).meaning }
     ensures fronts { AcceptsFronts I.model (P.grammar (P.state parser.now)).meaning }
     ensures complete { IsCompleteToo I.model (P.grammar (P.state parser.now)).meaning }
     ensures frugal { NeverRunsOut I.model (P.grammar (P.state parser.now)).meaning }

@@ -1,4 +1,4 @@
--- What functions answer that read one part after another.
+-- Lemmas on the answers of functions that read one part after another.
 use Rattle.std.proofs.Common.{◌≡◌, false, Err, refl}
 use Rattle.nom_internal.specs.Prelude.{Modes, Needed}
 use Rattle.nom_error.specs.declared.answer.Err as Answer

@@ -1,4 +1,4 @@
--- What a value answers, by which branch it is.
+-- Lemmas on the answers of a value, by which branch it is.
 use Rattle.std.proofs.Common.{◌≡◌, ℕ, zero, suc, ◌-◌, ◌<◌, false, Err, arith, sym, subst}
 use Rattle.std.specs.Prelude.{IfOk}
 use Rattle.nom_internal.specs.Prelude.{Needed, input_len, text_model, Accept, Refuse, Stop, ParseRanOut, Parsed, Fails, Needs}

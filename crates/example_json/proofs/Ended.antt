@@ -1,4 +1,4 @@
--- What is answered of a part with nothing after it.
+-- Lemmas on the answers of a part with nothing after it.
 use Rattle.std.proofs.Common.{◌≡◌, false, Err}
 use Rattle.nom_internal.specs.Prelude.{Needed}
 use Rattle.nom_error.specs.declared.answer.Err as Answer

@@ -1,4 +1,4 @@
--- What the loops of lists answer, by what each item answered.
+-- Lemmas on the answers of the loops of lists, by what each item answered.
 use Rattle.std.proofs.Common.{◌≡◌, ℕ, ◌+◌, ◌<◌, zero, suc, ◌⊎◌, true, false, List, [], ◌∷◌, ◌++◌, length, length-append, Result, Ok, Err, Some, None}
 use Rattle.std.proofs.Common.{Vec, refl, sym, ◌∙◌, ap, subst, inl, inr, arith}
 use Rattle.std.specs.Prelude.{if◌then◌else◌, is_err, is_ok}

@@ -1,4 +1,4 @@
--- What is known of characters with white space after them.
+-- Lemmas on characters with white space after them.
 use Rattle.std.proofs.Common.{◌≡◌, ℕ, ◌+◌, ◌<◌, false, arith, sym, subst}
 use Rattle.nom_internal.specs.Prelude.{Modes, IsSuffixOf, input_len, text_model, text_lawful, Outcome, Accept, Refuse, Stop, after, GoesOn, RunsOutFirst}
 use Rattle.nom_internal.specs.Prelude.{RunsOutNext}

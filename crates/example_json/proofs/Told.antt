@@ -1,4 +1,4 @@
--- What functions answer that call each other, by what those answer.
+-- Lemmas on the answers of functions that call each other, by what those answer.
 use Rattle.std.proofs.Common.{◌≡◌, ℕ, ◌+◌, true, false, Ok, Err, refl, sym, ◌∙◌, ap, subst, inl, inr}
 use Rattle.nom_internal.specs.Prelude.{IResult, Needed, IsSuffixOf, rest_rest, text_model, text_lawful, Outcome, Accept, Refuse, Stop, Fails, Needs}
 use Rattle.nom_internal.specs.Prelude.{ParsesAnswer, ParseRanOut, Parsed, FirstFails, FirstRefuses, NextFails, NextRefuses, Then, ThenBlames, ThenRunsOut}

@@ -1,4 +1,4 @@
--- What the parsers of words, numbers and texts answer: what holds of a grammar by its parts holds of the grammar.
+-- Lemmas on the parsers of words, numbers and texts: what holds of a grammar by its parts holds of the grammar.
 use Rattle.std.proofs.Common.{◌≡◌, ℕ, List, codes, subst}
 use Rattle.nom_internal.specs.Prelude.{ErrorKind}
 use Rattle.nom_error.specs.declared.kind.ErrorKind.TheVariants.{OneOf, TakeWhile1}

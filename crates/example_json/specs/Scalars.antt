@@ -1,4 +1,4 @@
--- What has no value in it, by the grammar of JSON: words, numbers, texts, and the white space between them.
+-- The grammars of the parts of JSON with no value in them: words, numbers, texts, and the white space between them.
 use Rattle.std.specs.Prelude.{◌≡◌, ℕ, ◌↔◌, ◌⊎◌, Bool, true, false, not, ltb, ◌==◌, ◌&&◌, IsTrue, None, List, Contains, chars, codes}
 use Rattle.std.specs.Char.{IsScalar, is_digit}
 use Rattle.nom_internal.specs.Prelude.{ErrorKind, Slice, text_model, recognized_meaning, pair_meaning, premised}

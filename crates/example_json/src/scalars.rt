@@ -1,4 +1,4 @@
-//! What has no value in it: words, numbers, texts, white space and the characters between values. White space after
+//! Parts with no value in them: words, numbers, texts, white space and the characters between values. White space after
 //! each is taken with it.
 ghost use Rattle.std.specs.Prelude.{◌≡◌, false};
 ghost use Rattle.std.specs.Char.{is_digit};

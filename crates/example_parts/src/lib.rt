@@ -1,4 +1,4 @@
-//! What a user of the library adds to it, proved: inputs, an error, a leaf parser, a combinator, and functions as parsers.
+//! A user's additions to the library, proved: inputs, an error, a leaf parser, a combinator, and functions as parsers.
 #![tactic(auto)]
 
 pub mod functions;

@@ -112,9 +112,9 @@ module _ {I A U W E : Type 0} (w : Model I A) (l : InputLaws w) (IsControl : A �
 
   -- at an input that is equal as models
   piece_alike : (i j : I) → w.IsKnown i → w.IsKnown j → IsSame w j i → HasPiece j → HasPiece i
-  piece_alike i j h k r (inl a) = inl (a.0, a.1, p.alike s j i (Accept a.0 a.1) k h r a.2 tt)
+  piece_alike i j h k r (inl a) = inl (a.0, a.1, p.consistent s j i (Accept a.0 a.1) k h r a.2 tt)
   piece_alike i j h k r (inr a) = inr (
-    p.alike s j i Refuse k h r a.0 tt,
+    p.consistent s j i Refuse k h r a.0 tt,
     record {
       item = a.1.item;
       items = a.1.items;

@@ -1,4 +1,4 @@
--- What the functions of an error type return, for types that keep one kind: an `impl` states it in a line.
+-- The results of an error type's functions, for types that keep one kind: an `impl` states it in a line.
 use Rattle.std.specs.Prelude.{◌≡◌}
 use Rattle.nom_error.specs.Errors.{Contexts, Errors, Externals}
 use Rattle.nom_error.specs.declared.kind.ErrorKind.{ErrorKind}

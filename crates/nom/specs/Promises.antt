@@ -1,4 +1,4 @@
--- What parsers, combinators and lists promise: the words of `nom::promises`.
+-- The promises of parsers, combinators and lists: the words of `nom::promises`.
 pub use Rattle.nom_internal.specs.Promises.{AcceptsFronts, AnswersComplete, AnswersStay, HasNoFailure, HasOneOutcome}
 pub use Rattle.nom_internal.specs.Promises.{IsCompleteToo, IsOfWhole, NeverRunsOut, StaysOnLonger}
 pub use Rattle.nom_combinator.specs.Promises.{AreParts, ConsumesNothing, GivesFront, GivesFrontAndOutput, NeverRefuses, NeverWaits}

@@ -1,4 +1,4 @@
--- What parsers of bits show among parsers of bytes, and parsers of bytes among parsers of bits.
+-- Lemmas on parsers of bits among parsers of bytes, and on parsers of bytes among parsers of bits.
 use Rattle.std.proofs.Common.{◌≡◌, ℕ, ◌+◌, ◌*◌, Bool, true, false, inl, inr, length, Result, Ok, Err, Option, refl, ◌∙◌, ap, subst, lit<, arith}
 use Rattle.std.proofs.Math.Nat.{mod-lt}
 use Rattle.nom_internal.specs.Prelude.{Needed, Incomplete, PResult, size_of, Errors, Built, Modes, with_streaming, Model, InputLaws, IsSuffixOf, rest_rest}

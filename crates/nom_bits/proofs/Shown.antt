@@ -1,4 +1,4 @@
--- What the parsers of bit fields show.
+-- Lemmas on the answers of the parsers of bit fields.
 use Rattle.std.proofs.Common.{◌≡◌, ℕ, ◌<◌, ◌≤◌, ◌^◌, Bool, length, Option, take, drop, sym, ◌∙◌, ap, inl, inr, arith, length-append}
 use Rattle.std.proofs.lemmas.List.{length-take-le, take-append-drop}
 use Rattle.std.proofs.Math.Pow.{pow_mono}

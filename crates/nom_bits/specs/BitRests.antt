@@ -6,8 +6,8 @@ use Rattle.std.proofs.lemmas.List.{length-drop, length-take-le, take-append-drop
 use Rattle.nom_internal.specs.Prelude.{Model, items_len, IsBoundary, IsSuffixOf, Related, InputLaws, same_cut, items_len-ones, rest_related, IsCount}
 use Rattle.nom_internal.specs.Prelude.{place_slice, place_first, first_related, same_count, same_length, byte_bits, all_bits, whole_bytes, AreBytes, past_bits}
 use Rattle.nom_internal.specs.Prelude.{bits_model, bits_lawful}
-use Rattle.nom_internal.specs.Prelude.{OfRest, ThenBesides, rest_rest, items_len-append}
-use Rattle.nom_internal.specs.Results.ThenBesides.{Stopped, Both}
+use Rattle.nom_internal.specs.Prelude.{OfRest, ThenSideCondition, rest_rest, items_len-append}
+use Rattle.nom_internal.specs.Results.ThenSideCondition.{Stopped, Both}
 use Rattle.nom_traits.specs.BitLists.{length-all_bits, whole-all_bits, few_bits}
 use Rattle.nom_traits.specs.BitPlaces.{passes_bits}
 
@@ -121,7 +121,7 @@ module _ {I : Type 0} (w : Model I ℕ) where
 
     -- two parts that stand so many bits on, one after the other
     pub then_stands : (i : I × ℕ) (m n both : ℕ) (rest : Option (I × ℕ)) → m + n ≡ both →
-        ThenBesides (OfRest (StandsAfter i m)) (λ j. OfRest (StandsAfter j n)) rest → OfRest (StandsAfter i both) rest
+        ThenSideCondition (OfRest (StandsAfter i m)) (λ j. OfRest (StandsAfter j n)) rest → OfRest (StandsAfter i both) rest
     then_stands i m n both None e h = tt
     then_stands i m n both (Some k) e (Stopped f s) = absurd (cc (s))
     then_stands i m n both (Some k) e (Both j f s) = stands_as i k (m + n) both e (stands_more i j k m n f s)

@@ -139,12 +139,12 @@ abbrev pub bytes_of : {I V O E F : Type 0} → Model I ℕ → Errors (I × ℕ)
 bytes_of w errs Converts g = record { meaning = bytes_meaning w errs Converts g.meaning; IsOutput = g.IsOutput }
 
 -- what a call of a parser of bits owes among bytes, besides its outcome: a byte of which it consumed some bits is consumed
-pub data BitsBesides {I : Type 0} (w : Model I ℕ) (Part : Option (I × ℕ) → Type 0) (rest : Option I) : Type 0 where
-  NoBits : Part None → rest ≡ None → BitsBesides w Part rest
-  SomeBits : (k : I × ℕ) (j : I) → Part (Some k) → IsSuffixOf (bits_model w) k (bits_ahead w k) (j, 0) → rest ≡ Some j → BitsBesides w Part rest
+pub data BitsSideCondition {I : Type 0} (w : Model I ℕ) (Part : Option (I × ℕ) → Type 0) (rest : Option I) : Type 0 where
+  NoBits : Part None → rest ≡ None → BitsSideCondition w Part rest
+  SomeBits : (k : I × ℕ) (j : I) → Part (Some k) → IsSuffixOf (bits_model w) k (bits_ahead w k) (j, 0) → rest ≡ Some j → BitsSideCondition w Part rest
 
 -- what a call of a parser of bytes owes among bits, besides its outcome: it runs from the next whole byte on, and rests at one
-pub data BytesBesides {I : Type 0} (w : Model I ℕ) (Part : I → Option I → Type 0) (i : I × ℕ) (rest : Option (I × ℕ)) : Type 0 where
-  NoBytes : (start : I) → IsSuffixOf (bits_model w) i (bits_ahead w i) (start, 0) → Part start None → rest ≡ None → BytesBesides w Part i rest
+pub data BytesSideCondition {I : Type 0} (w : Model I ℕ) (Part : I → Option I → Type 0) (i : I × ℕ) (rest : Option (I × ℕ)) : Type 0 where
+  NoBytes : (start : I) → IsSuffixOf (bits_model w) i (bits_ahead w i) (start, 0) → Part start None → rest ≡ None → BytesSideCondition w Part i rest
   SomeBytes : (start j : I) → IsSuffixOf (bits_model w) i (bits_ahead w i) (start, 0) → Part start (Some j) → rest ≡ Some (j, 0) →
-      BytesBesides w Part i rest
+      BytesSideCondition w Part i rest

@@ -2,7 +2,7 @@
 ghost use Rattle.std.specs.Prelude.{◌≡◌, true};
 ghost use Rattle.nom_internal.specs.Prelude.{size_of, bits_model, with_streaming, IsSuffixOf, ConvertsSome};
 ghost use Rattle.nom_bits.specs.BitRests.{bits_ahead};
-ghost use Rattle.nom_bits.specs.Bridges.{bytes_needed, InBytes, InBits, IsNeed, IsTooLargeAt, BitsBesides, BytesBesides, bits_of, bytes_of};
+ghost use Rattle.nom_bits.specs.Bridges.{bytes_needed, InBytes, InBits, IsNeed, IsTooLargeAt, BitsSideCondition, BytesSideCondition, bits_of, bytes_of};
 ghost use Rattle.nom_bits.specs.laws.BridgeLaws.{bits_of_lawful, bits_of_steady, bytes_of_lawful, bytes_of_steady};
 ghost use Rattle.nom_bits.specs.Words as Words;
 
@@ -135,7 +135,7 @@ where
 
     ghost worded = { λ s. Words.bits_worded I.model P.Error.converts (P.worded s) };
 
-    ghost Besides = { λ mode old new i. BitsBesides I.model (P.Besides (with_streaming true mode) old.parser new.parser (i, 0)) };
+    ghost SideCondition = { λ mode old new i. BitsSideCondition I.model (P.SideCondition (with_streaming true mode) old.parser new.parser (i, 0)) };
 
     #[inline(always)]
     fn process<OM: OutputMode>(&mut self, input: I) -> PResult<I, P::Output, E> {
@@ -190,7 +190,7 @@ where
     ghost Tree = { P.Tree };
 
     /// The rest begins at a whole byte.
-    ghost Besides = { λ mode old new. BytesBesides I.model (P.Besides (with_streaming true mode) old.parser new.parser) };
+    ghost SideCondition = { λ mode old new. BytesSideCondition I.model (P.SideCondition (with_streaming true mode) old.parser new.parser) };
 
     ghost grammar = { λ s. bytes_of I.model E.errors P.Error.converts (P.grammar s) };
 

@@ -39,7 +39,7 @@ impl<I: Input<Item = u8>, O: BitUint, E: ParseError<(I, usize)>> Parser<(I, usiz
     ghost Tree = { ℕ };
 
     /// The pair that is left.
-    ghost Besides = { λ _ old _ i. OfRest (StandsAfter I.model i old.count) };
+    ghost SideCondition = { λ _ old _ i. OfRest (StandsAfter I.model i old.count) };
 
     ghost grammar = { λ count. record {
       meaning = take_meaning I.model E.errors O.WIDTH count;
@@ -103,7 +103,7 @@ impl<I: Input<Item = u8>, O: BitUint, E: ParseError<(I, usize)>> Parser<(I, usiz
     ghost Tree = { ℕ };
 
     /// The pair that is left.
-    ghost Besides = { λ _ old _ i. OfRest (StandsAfter I.model i old.count) };
+    ghost SideCondition = { λ _ old _ i. OfRest (StandsAfter I.model i old.count) };
 
     ghost grammar = { λ s. record {
       meaning = tag_meaning I.model E.errors O.WIDTH s.0 s.1;
@@ -167,7 +167,7 @@ impl<I: Input<Item = u8>, E: ParseError<(I, usize)>> Parser<(I, usize)> for Bool
     ghost Tree = { Bool };
 
     /// The pair that is left.
-    ghost Besides = { λ _ _ _ i. OfRest (StandsAfter I.model i 1) };
+    ghost SideCondition = { λ _ _ _ i. OfRest (StandsAfter I.model i 1) };
 
     ghost grammar = { λ _. valued (bool_meaning I.model E.errors) };
 

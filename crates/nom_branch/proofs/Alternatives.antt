@@ -3,9 +3,9 @@ use Rattle.std.specs.Prelude.{◌≡◌, Ok, Err, Option}
 use Rattle.std.proofs.Common.{sym, ap, subst}
 use Rattle.nom_error.specs.declared.kind.ErrorKind.TheVariants.{Alt}
 use Rattle.nom_internal.specs.Prelude.{Incomplete, Error, Failure, OutOfMemory, PResult, Errors, Modes, Model, Meaning, ShowsMeaning, EitherOutput}
-use Rattle.nom_internal.specs.Prelude.{Grammar, Shows, OnError, ClosesResult, ShowsNext, OrBesides, rest_of}
+use Rattle.nom_internal.specs.Prelude.{Grammar, Shows, OnError, ClosesResult, ShowsNext, OrSideCondition, rest_of}
 use Rattle.nom_internal.proofs.Choices.{either_shown, closed_shown}
-use Rattle.nom_internal.proofs.Owed.{or_besides}
+use Rattle.nom_internal.proofs.Owed.{or_side_condition}
 use Rattle.nom_branch.specs.Alternatives.{next_meaning, choice_meaning, or_of, alt_of}
 
 -- the branches before, and the next one
@@ -58,8 +58,8 @@ module _ {I O E : Type 0} (Owes : Option I → Type 0) where
 
 module _ {I O E : Type 0} {Owes : Option I → Type 0} {before : PResult I O E} where
   pub next_owed : IsOwed Owes before → (Next : Option I → Type 0) (r : PResult I O E) → OnError (λ _ r. Next (rest_of r)) before r →
-      IsOwed (OrBesides Owes Next) r
-  next_owed k Next r n = record { owed = or_besides Owes Next before r k.owed n }
+      IsOwed (OrSideCondition Owes Next) r
+  next_owed k Next r n = record { owed = or_side_condition Owes Next before r k.owed n }
 
   pub all_owed : IsOwed Owes before → (Closes : E → E → Type 0) (Grows : Type 0) (r : PResult I O E) → ClosesResult Closes Grows before r → Owes (rest_of r)
   all_owed k Closes Grows r c = closed_owed Owes Closes Grows before r c k.owed

@@ -31,7 +31,7 @@ impl<I: Items, A: Parser<I>> Parser<I> for Choice<(A,)> {
 
     ghost worded = { A.worded };
 
-    ghost Besides = { λ mode old new. A.Besides mode old.parsers.0 new.parsers.0 };
+    ghost SideCondition = { λ mode old new. A.SideCondition mode old.parsers.0 new.parsers.0 };
 
     #[inline(always)]
     fn process<OM: OutputMode>(&mut self, input: I) -> PResult<I, Self::Output, Self::Error> {

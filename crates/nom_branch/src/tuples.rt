@@ -4,7 +4,7 @@
 //! require the inner types again. The error type is required before the output, which is then found sooner.
 ghost use Rattle.std.specs.Prelude.{◌⊎◌};
 ghost use Rattle.nom_branch.specs.Alternatives.{alt_of, or_of};
-ghost use Rattle.nom_internal.specs.Prelude.{OrBesides};
+ghost use Rattle.nom_internal.specs.Prelude.{OrSideCondition};
 ghost use Rattle.nom_branch.specs.Words as Words;
 
 use crate::choice::Choice;
@@ -36,7 +36,8 @@ impl<I: Items, A: Parser<I>, B: Parser<I, Error = A::Error, Output = A::Output>>
 
     ghost worded = { λ s. Words.alt_worded A.Error.errors (Words.or_worded A.Error.errors (A.worded s.0) (B.worded s.1)) };
 
-    ghost Besides = { λ mode old new i. OrBesides (A.Besides mode old.parsers.0 new.parsers.0 i) (B.Besides mode old.parsers.1 new.parsers.1 i) };
+    ghost SideCondition = { λ mode old new i. OrSideCondition (A.SideCondition mode old.parsers.0 new.parsers.0 i) (B.SideCondition mode old.parsers.1
+        new.parsers.1 i) };
 
     #[inline(always)]
     fn process<OM: OutputMode>(&mut self, input: I) -> PResult<I, Self::Output, Self::Error> {
@@ -89,8 +90,8 @@ impl<
     ghost worded = { λ s. Words.alt_worded A.Error.errors (Words.or_worded A.Error.errors (Words.or_worded A.Error.errors (A.worded s.0)
         (B.worded s.1)) (C.worded s.2)) };
 
-    ghost Besides = { λ mode old new i. OrBesides (OrBesides (A.Besides mode old.parsers.0 new.parsers.0 i)
-        (B.Besides mode old.parsers.1 new.parsers.1 i)) (C.Besides mode old.parsers.2 new.parsers.2 i) };
+    ghost SideCondition = { λ mode old new i. OrSideCondition (OrSideCondition (A.SideCondition mode old.parsers.0 new.parsers.0 i)
+        (B.SideCondition mode old.parsers.1 new.parsers.1 i)) (C.SideCondition mode old.parsers.2 new.parsers.2 i) };
 
     #[inline(always)]
     fn process<OM: OutputMode>(&mut self, input: I) -> PResult<I, Self::Output, Self::Error> {
@@ -151,8 +152,9 @@ impl<
     ghost worded = { λ s. Words.alt_worded A.Error.errors (Words.or_worded A.Error.errors (Words.or_worded A.Error.errors
         (Words.or_worded A.Error.errors (A.worded s.0) (B.worded s.1)) (C.worded s.2)) (D.worded s.3)) };
 
-    ghost Besides = { λ mode old new i. OrBesides (OrBesides (OrBesides (A.Besides mode old.parsers.0 new.parsers.0 i)
-        (B.Besides mode old.parsers.1 new.parsers.1 i)) (C.Besides mode old.parsers.2 new.parsers.2 i)) (D.Besides mode old.parsers.3 new.parsers.3 i) };
+    ghost SideCondition = { λ mode old new i. OrSideCondition (OrSideCondition (OrSideCondition (A.SideCondition mode old.parsers.0 new.parsers.0 i)
+        (B.SideCondition mode old.parsers.1 new.parsers.1 i)) (C.SideCondition mode old.parsers.2 new.parsers.2 i)) (D.SideCondition mode old.parsers.3
+        new.parsers.3 i) };
 
     #[inline(always)]
     fn process<OM: OutputMode>(&mut self, input: I) -> PResult<I, Self::Output, Self::Error> {
@@ -216,9 +218,10 @@ impl<
     ghost worded = { λ s. Words.alt_worded A.Error.errors (Words.or_worded A.Error.errors (Words.or_worded A.Error.errors
         (Words.or_worded A.Error.errors (Words.or_worded A.Error.errors (A.worded s.0) (B.worded s.1)) (C.worded s.2)) (D.worded s.3)) (E.worded s.4)) };
 
-    ghost Besides = { λ mode old new i. OrBesides (OrBesides (OrBesides (OrBesides (A.Besides mode old.parsers.0 new.parsers.0 i)
-        (B.Besides mode old.parsers.1 new.parsers.1 i)) (C.Besides mode old.parsers.2 new.parsers.2 i))
-        (D.Besides mode old.parsers.3 new.parsers.3 i)) (E.Besides mode old.parsers.4 new.parsers.4 i) };
+    ghost SideCondition = { λ mode old new i. OrSideCondition (OrSideCondition (OrSideCondition (OrSideCondition (A.SideCondition mode old.parsers.0
+        new.parsers.0 i)
+        (B.SideCondition mode old.parsers.1 new.parsers.1 i)) (C.SideCondition mode old.parsers.2 new.parsers.2 i))
+        (D.SideCondition mode old.parsers.3 new.parsers.3 i)) (E.SideCondition mode old.parsers.4 new.parsers.4 i) };
 
     #[inline(always)]
     fn process<OM: OutputMode>(&mut self, input: I) -> PResult<I, Self::Output, Self::Error> {

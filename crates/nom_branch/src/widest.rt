@@ -1,7 +1,7 @@
 //! The choice among eight parsers, of any types.
 ghost use Rattle.std.specs.Prelude.{◌⊎◌};
 ghost use Rattle.nom_branch.specs.Alternatives.{alt_of, or_of};
-ghost use Rattle.nom_internal.specs.Prelude.{OrBesides};
+ghost use Rattle.nom_internal.specs.Prelude.{OrSideCondition};
 ghost use Rattle.nom_branch.specs.Words as Words;
 
 use crate::choice::Choice;
@@ -58,11 +58,12 @@ impl<
         (Words.or_worded A.Error.errors (A.worded s.0) (B.worded s.1)) (C.worded s.2)) (D.worded s.3)) (E.worded s.4)) (F.worded s.5)) (G.worded s.6))
         (H.worded s.7)) };
 
-    ghost Besides = { λ mode old new i. OrBesides (OrBesides (OrBesides (OrBesides (OrBesides (OrBesides (OrBesides
-        (A.Besides mode old.parsers.0 new.parsers.0 i) (B.Besides mode old.parsers.1 new.parsers.1 i))
-        (C.Besides mode old.parsers.2 new.parsers.2 i)) (D.Besides mode old.parsers.3 new.parsers.3 i))
-        (E.Besides mode old.parsers.4 new.parsers.4 i)) (F.Besides mode old.parsers.5 new.parsers.5 i))
-        (G.Besides mode old.parsers.6 new.parsers.6 i)) (H.Besides mode old.parsers.7 new.parsers.7 i) };
+    ghost SideCondition = { λ mode old new i. OrSideCondition (OrSideCondition (OrSideCondition (OrSideCondition (OrSideCondition (OrSideCondition
+        (OrSideCondition
+        (A.SideCondition mode old.parsers.0 new.parsers.0 i) (B.SideCondition mode old.parsers.1 new.parsers.1 i))
+        (C.SideCondition mode old.parsers.2 new.parsers.2 i)) (D.SideCondition mode old.parsers.3 new.parsers.3 i))
+        (E.SideCondition mode old.parsers.4 new.parsers.4 i)) (F.SideCondition mode old.parsers.5 new.parsers.5 i))
+        (G.SideCondition mode old.parsers.6 new.parsers.6 i)) (H.SideCondition mode old.parsers.7 new.parsers.7 i) };
 
     #[inline(always)]
     fn process<OM: OutputMode>(&mut self, input: I) -> PResult<I, Self::Output, Self::Error> {

@@ -1,4 +1,4 @@
--- What is shown of a run with a bound.
+-- Lemmas on the answers of a run with a bound.
 use Rattle.std.proofs.Common.{◌≡◌, ℕ, ◌-◌, ◌<◌, ◌≤◌, min, max, ◌⊎◌, Option, Some, None, Bool, true, false, [], length, refl, sym, ◌∙◌, ap, subst}
 use Rattle.std.proofs.Common.{arith, append-nil, inl, inr}
 use Rattle.std.proofs.lemmas.Bool.{cases_lt}

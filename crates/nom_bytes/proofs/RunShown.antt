@@ -1,4 +1,4 @@
--- What a split of an input after its run shows.
+-- Lemmas on the split of an input after its run.
 use Rattle.std.proofs.Common.{◌≡◌, ℕ, ◌-◌, ◌<◌, ◌≤◌, max, cond, ◌⊎◌, Bool, true, false, Ok, Option, Some, None, List, [], ◌∷◌, length, refl}
 use Rattle.std.proofs.Common.{sym, ap, subst, arith, inl, inr}
 use Rattle.std.specs.Prelude as Std

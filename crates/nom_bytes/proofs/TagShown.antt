@@ -1,4 +1,4 @@
--- What a comparison of an input with a tag shows.
+-- Lemmas on the comparison of an input with a tag.
 use Rattle.std.proofs.Common.{◌≡◌, ℕ, ◌-◌, ◌<◌, true, List, Ok, Err, Option, Some, refl, sym, ◌∙◌, ap, subst, arith}
 use Rattle.nom_internal.specs.Prelude.{Needed, Incomplete, PResult, size_of, Errors, Built, Modes, CompareResult, Model, IsBoundary, IsSuffixOf, input_len}
 use Rattle.nom_internal.specs.Prelude.{Slice, IsFirst, IsModelledBy, place_first, CompareLaws, ShowsMeaning}

@@ -1,4 +1,4 @@
--- What a search for a needle shows.
+-- Lemmas on the search for a needle.
 use Rattle.std.proofs.Common.{◌≡◌, ℕ, ◌<◌, Bool, true, false, List, Ok, Err, Option, Some, None, refl, arith}
 use Rattle.nom_internal.specs.Prelude.{Unknown, Incomplete, Errors, Built, Modes, Model, IsSuffixOf, Slice, IsFirst, IsModelledBy, place_first, ShowsMeaning}
 use Rattle.nom_search.specs.Substrings.{FindLaws}

@@ -1,4 +1,4 @@
--- What a list of pieces shows.
+-- Lemmas on the answers of a list of pieces.
 use Rattle.std.proofs.Common.{◌≡◌, ℕ, ◌<◌, Bool, true, Ok, Err, Option, Some, None, List, [], ◌∷◌, ◌++◌, length, refl, sym, ap, subst, zero}
 use Rattle.std.proofs.Common.{suc, arith, inl, inr}
 use Rattle.std.specs.Prelude.{IsSome}

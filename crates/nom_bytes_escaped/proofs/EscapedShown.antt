@@ -1,4 +1,4 @@
--- What `escaped` shows.
+-- Lemmas on the answers of `escaped`.
 use Rattle.std.proofs.Common.{◌≡◌, ℕ, false, Ok, Err, Option, Some, None, refl, sym, subst}
 use Rattle.nom_internal.specs.Prelude.{Needed, Errors, Built, Modes, with_outputs, PResult, Refuses, Model, InputLaws, IsSuffixOf, input_len, Slice, IsFirst}
 use Rattle.nom_internal.specs.Prelude.{IsModelledBy, Meaning, ShowsMeaning, always}

@@ -1,4 +1,4 @@
--- What is shown of what stands at a place.
+-- Lemmas on the piece that stands at a place.
 use Rattle.std.proofs.Common.{◌≡◌, ℕ, ◌<◌, Bool, true, false, List, [], length, Ok, Err, Option, Some, None, refl, sym, ◌∙◌, subst}
 use Rattle.nom_internal.specs.Prelude.{Needed, Unknown, Error, PResult, size_of, modes, Model, InputLaws, IsSuffixOf, input_len, Accept, Refuse, Stop, Needs}
 use Rattle.nom_internal.specs.Prelude.{ShowsAnswer, Shown, Meaning, ShowsMeaning, LeafAnswers, labelled_meaning}

@@ -1,4 +1,4 @@
--- What `escaped_transform` shows.
+-- Lemmas on the answers of `escaped_transform`.
 use Rattle.std.proofs.Common.{◌≡◌, ℕ, Ok, Err, Option, Some, None, List, ◌∷◌, [], ◌++◌, sym, subst}
 use Rattle.std.specs.Prelude.{IsSome}
 use Rattle.nom_internal.specs.Prelude.{Needed, OutOfMemory, Errors, Built, Modes, PResult, Refuses, Model, InputLaws, input_len, Meaning, ShowsMeaning}

@@ -1,4 +1,4 @@
--- What stands next in a text with escapes: where an item is left, a normal piece, otherwise the control character and after
+-- The next piece of a text with escapes: where an item is left, a normal piece, otherwise the control character and after
 -- it an escapable piece.
 use Rattle.std.specs.Prelude.{◌≡◌, ℕ, ◌<◌, Bool, true, false, List, [], ◌∷◌, length, Option, Some, None, Ok, Err}
 use Rattle.nom_internal.specs.Prelude.{PResult, Needed, Incomplete, Built, Modes, with_outputs, Model, IsSuffixOf, ShowsAnswer, Meaning, Leaf, leaf_meaning}

@@ -1,4 +1,4 @@
--- What `process` shows of a function.
+-- Lemmas on the answers of `process` for a function.
 use Rattle.std.proofs.Common.{◌≡◌, ℕ, Bool, Ok, Err, Option, refl, sym, subst, ap, inl, inr}
 use Rattle.nom_internal.specs.Prelude.{Needed, Incomplete, Error, Failure, OutOfMemory, IResult, PResult, Errors, size_of, Built, Modes, Model, same_self, View}
 use Rattle.nom_internal.specs.Prelude.{Outcome, Accept, Refuse, Stop, Fails, Needs, Outright, ShowsAnswer, Shown, RanOut, IsSuffixOf}
@@ -13,7 +13,7 @@ use Rattle.nom_internal.proofs.Shown.{built_error}
 module _ {I A O E : Type 0} {w : Model I A} {view : View O} {Gives : I → IResult I O E → Type 0} {i : I} where
   -- the outcome that the function's answer is taken as
   answered : (o : Outcome view.Value) (r : IResult I O E) → w.IsKnown i → Gives i r → TakenAs w view i r o → FuncAnswers w view Gives i o
-  answered o r h g t = record { at = i; known = h; alike = same_self w i; outcome = record { answer = r; given = g; told = t } }
+  answered o r h g t = record { at = i; known = h; consistent = same_self w i; outcome = record { answer = r; given = g; told = t } }
 
 module _ {I A O E : Type 0} {w : Model I A} {view : View O} {errs : Errors I E} {Gives : I → IResult I O E → Type 0} {mode : Modes} {i : I} where
   func_ok : (n : ℕ) (j left : I) (v : O) (b : Option O) → w.IsKnown i → Gives i (Ok (left, v)) → CutsAs w i n left → IsSuffixOf w i n j →

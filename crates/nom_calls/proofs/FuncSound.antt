@@ -93,7 +93,7 @@ module _ {I A V O E : Type 0} {w : Model I A} {view : View O} {IsOutput : V → 
   parser_by : IsParser w view Gives
   unfolding TellOne
   parser_by = record {
-    alike = λ x y f g record { from_known = kx; to_known = ky; related = r } a b. (λ o p t k u.
+    consistent = λ x y f g record { from_known = kx; to_known = ky; related = r } a b. (λ o p t k u.
         let c = meant x f o kx a t in
         let d = meant y g p ky b u in
         let same = one x y c.outcome d.outcome kx ky r c.answered tt d.answered in
@@ -137,7 +137,7 @@ module _ {I A O E : Type 0} {w : Model I A} {view : View O} (outcome : List A �
   pub items_func : IsParser {E = E} w view (TellsItems w view outcome)
   unfolding TellOne
   items_func = record {
-    alike = λ x y f g record { from_known = kx; to_known = ky; related = r } a b. (λ o p t k u.
+    consistent = λ x y f g record { from_known = kx; to_known = ky; related = r } a b. (λ o p t k u.
         items_outcome w view outcome x f o a t ∙ (ap outcome r.elements_are ∙ sym (items_outcome w view outcome y g p b u)));
   }
 
@@ -166,19 +166,19 @@ module _ {I A O E : Type 0} {w : Model I A} (l : InputLaws w) {view : View O} {G
   -- the outputs of inputs that are equal as models are
   pub outright_func : ((i j : I) → Related w false i j → view.value (value i) ≡ view.value (value j)) → IsParser w view Gives
   unfolding TellOne
-  outright_func alike = record {
-    alike = λ i j r q h a b. (λ o p t k u. taken_with w l view i (value i) r o h.from_known (outright i r a) t ∙
-        (ap (λ v. Accept 0 v) (alike i j h.related) ∙ sym (taken_with w l view j (value j) q p h.to_known (outright j q b) u)));
+  outright_func consistent = record {
+    consistent = λ i j r q h a b. (λ o p t k u. taken_with w l view i (value i) r o h.from_known (outright i r a) t ∙
+        (ap (λ v. Accept 0 v) (consistent i j h.related) ∙ sym (taken_with w l view j (value j) q p h.to_known (outright j q b) u)));
   }
 
   -- and that of a longer input is
   pub outright_stream_func : ((longer : Bool) (i j : I) → Related w longer i j → view.value (value i) ≡ view.value (value j)) →
       IsStreamParser w view Gives
   unfolding TellOne
-  outright_stream_func alike = record {
-    parser = outright_func (alike false);
+  outright_stream_func consistent = record {
+    parser = outright_func (consistent false);
     stays = λ i j r q h a b. (λ o p t k u. taken_with w l view i (value i) r o h.from_known (outright i r a) t ∙
-        (ap (λ v. Accept 0 v) (alike true i j h.related) ∙ sym (taken_with w l view j (value j) q p h.to_known (outright j q b) u)));
+        (ap (λ v. Accept 0 v) (consistent true i j h.related) ∙ sym (taken_with w l view j (value j) q p h.to_known (outright j q b) u)));
   }
 
 -- What answers by a lawful meaning, whose trees stand for one output each, answers so alike.
@@ -188,7 +188,7 @@ module _ {I A V O E : Type 0} {w : Model I A} {view : View O} {IsOutput : V → 
   unfolding TellOne Answers
   answers_by {s} lawful pinned shown = record {
     shown = shown;
-    alike = λ j q record { from_known = ki; to_known = kj; related = same } by. (λ o p t k u.
+    consistent = λ j q record { from_known = ki; to_known = kj; related = same } by. (λ o p t k u.
         let a = meant_by w view IsOutput i (m.answers s i) (m.blames s i) (m.may_run_out (modes true true s) i) r o shown t in
         let b = meant_by w view IsOutput j (m.answers s j) (m.blames s j) (m.may_run_out (modes true true s) j) q p by u in
         let one = lawful.one_outcome s i j a.outcome b.outcome ki kj same a.answered tt b.answered in

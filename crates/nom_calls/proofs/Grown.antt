@@ -1,4 +1,4 @@
--- What is shown of an input that grows.
+-- Lemmas on the answers on an input that grows.
 use Rattle.std.proofs.Common.{◌≡◌, ℕ, ◌-◌, ◌<◌, ◌++◌, true, false, List, length, slice_index, Ok, Err, Option, sym, ◌∙◌, ap, subst, refl}
 use Rattle.std.proofs.Common.{arith, append_assoc, ◌⊎◌, inl, inr}
 use Rattle.nom_internal.specs.Prelude.{Needed, Incomplete, OutOfMemory, IResult, size_of, AsksForMore, HasRests, WithRest, Model, InputLaws, IsBoundary}

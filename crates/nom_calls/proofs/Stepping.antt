@@ -1,4 +1,4 @@
--- What one call of `next` shows.
+-- Lemmas on one call of `next`.
 use Rattle.std.proofs.Common.{◌≡◌, Option, sym, subst}
 use Rattle.nom_internal.specs.Prelude.{Model, Meaning, ParsesMeaning, IResult}
 use Rattle.std.specs.Prelude.{true}

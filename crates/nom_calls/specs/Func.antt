@@ -92,7 +92,7 @@ module _ {I A O E : Type 0} (w : Model I A) (view : View O) where
   module _ (Gives : I → IResult I O E → Type 0) where
     -- What makes a function a sound parser: at inputs of equal models its answers are taken as one outcome.
     pub record IsParser : Type 0 where
-      pub alike : (i j : I) (r q : IResult I O E) → AreRelated w false i j → Gives i r → Gives j q → TellOne false i j r q
+      pub consistent : (i j : I) (r q : IResult I O E) → AreRelated w false i j → Gives i r → Gives j q → TellOne false i j r q
 
     -- and a stream parser: an acceptance, a refusal or a failure stays on every longer input
     pub record IsStreamParser : Type 0 where
@@ -109,7 +109,7 @@ module _ {I A O E : Type 0} (w : Model I A) (view : View O) where
     pub record FuncAnswers (i : I) (o : Outcome view.Value) : Type 0 where
       pub at : I
       pub known : w.IsKnown at
-      pub alike : IsSame w at i
+      pub consistent : IsSame w at i
       pub outcome : FuncOutcome at o
 
     -- What a function means, with its premises: alike in both modes.
@@ -137,7 +137,7 @@ module _ {I A V O E : Type 0} (w : Model I A) (view : View O) (IsOutput : V → 
   pub record AnswersBy : Type 0 where
     pub shown : Answers w IsOutput m s i r
     -- each answer by the meaning at an input whose model is i's
-    pub alike : (j : I) (q : IResult I O E) → AreRelated w false i j → Answers w IsOutput m s j q → TellOne w view false i j r q
+    pub consistent : (j : I) (q : IResult I O E) → AreRelated w false i j → Answers w IsOutput m s j q → TellOne w view false i j r q
 
   -- and of a function of `streaming`, by which `stream_func` is sound with it: on each longer input what is decided stays
   pub record StreamsBy : Type 0 where

@@ -1,4 +1,4 @@
--- What a parser answers on an input that grows.
+-- The answers of a parser on an input that grows.
 use Rattle.std.specs.Prelude.{◌≡◌, ℕ, ◌<◌, ◌≤◌, true, ◌⊎◌, List, length, slice_index, Err, Option}
 use Rattle.nom_internal.specs.Prelude.{IResult, OutOfMemory, modes, Model, IsBoundary, IsPrefixOf, View, Outcome, Stop, Fails, Needs, TooLarge}
 use Rattle.nom_internal.specs.Prelude.{ParsesOutcome, Meaning}

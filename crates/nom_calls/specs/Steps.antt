@@ -1,4 +1,4 @@
--- What `next` and `finish` answer, by the place that is reached and by what is held.
+-- The answers of `next` and `finish`, by the place that is reached and by what is held.
 use Rattle.std.specs.Prelude.{◌≡◌, Bool, true, false, ◌⊎◌, List, length, Ok, Err, Option, Some, None}
 use Rattle.std.specs.Iterator.{Yields}
 use Rattle.std.specs.List.{AllZip}

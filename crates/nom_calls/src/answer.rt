@@ -20,7 +20,7 @@ pub fn answer<I: Items, P: StreamParser<I>>(
     requires pins { P.Pins parser.old }
     ensures answer { AnswersBy I.model P.Output.view (P.grammar (P.state parser.old)).IsOutput (P.grammar (P.state parser.old)).meaning false input result }
     ensures kept { P.state parser.new ≡ P.state parser.old }
-    ensures besides { P.Besides (modes true true false) parser.old parser.new input (rest_of result) }
+    ensures side_condition { P.SideCondition (modes true true false) parser.old parser.new input (rest_of result) }
 {
     parser.parse_complete(input)
 }
@@ -39,7 +39,7 @@ pub fn stream_answer<I: Items, P: StreamParser<I>>(
     requires never_too_large { NeverTooLarge (P.grammar (P.state parser.old)).meaning }
     ensures answer { StreamsBy I.model P.Output.view (P.grammar (P.state parser.old)).IsOutput (P.grammar (P.state parser.old)).meaning true input result }
     ensures kept { P.state parser.new ≡ P.state parser.old }
-    ensures besides { P.Besides (modes true true true) parser.old parser.new input (rest_of result) }
+    ensures side_condition { P.SideCondition (modes true true true) parser.old parser.new input (rest_of result) }
 {
     parser.parse(input)
 }

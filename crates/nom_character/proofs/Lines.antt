@@ -1,4 +1,4 @@
--- What was found at the start of an input.
+-- Lemmas on the match that was found at the start of an input.
 use Rattle.std.proofs.Common.{◌≡◌, ℕ, ◌+◌, ◌==◌, Bool, true, false, cond, ◌||◌, suc, Option, Some, None, List, [], ◌∷◌, ◌++◌, length, refl, sym, ◌∙◌}
 use Rattle.std.proofs.Common.{ap, subst, arith, append-nil}
 use Rattle.std.specs.List.{All}

@@ -1,4 +1,4 @@
--- What is matched at the first items of an input, by a function of the list of items.
+-- The match at the first items of an input, by a function of the list of items.
 use Rattle.std.specs.Prelude.{◌≡◌, ℕ, ◌+◌, ◌==◌, ◌||◌, Bool, true, false, cond, List, [], ◌∷◌, length, Option, Some, None}
 use Rattle.nom_internal.specs.Prelude.{ErrorKind, Errors, size_of, Model, IsSuffixOf, Slice, IsFirst, Meaning, Leaf, leaf_meaning}
 use Rattle.nom_error.specs.declared.kind.ErrorKind.TheVariants as Kind

@@ -1,4 +1,4 @@
--- What is shown of a number in a bounded count of digits.
+-- Lemmas on the answers of a number in a bounded count of digits.
 use Rattle.std.proofs.Common.{◌≡◌, ℕ, ◌-◌, ◌<◌, ◌≤◌, max, Bool, true, false, Option, Some, Ok, length, refl, sym, ◌∙◌, ap, subst, arith}
 use Rattle.nom_internal.specs.Prelude.{Modes, Built, Errors, Model, IsSuffixOf, ShowsMeaning}
 use Rattle.nom_internal.proofs.Shown.{accepted}

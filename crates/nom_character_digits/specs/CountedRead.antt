@@ -1,4 +1,4 @@
--- What is read of a number in a bounded count of digits.
+-- The reading of a number in a bounded count of digits.
 use Rattle.std.specs.Prelude.{◌≡◌, ℕ, ◌<◌, ◌≤◌, true, false, length}
 use Rattle.nom_internal.specs.Prelude.{Model, items_len}
 use Rattle.nom_character_digits.specs.declared.digits.Run.{Run}

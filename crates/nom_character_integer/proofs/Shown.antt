@@ -1,4 +1,4 @@
--- What is shown of a decimal integer.
+-- Lemmas on the answers of a decimal integer.
 use Rattle.std.proofs.Common.{◌≡◌, ℕ, ◌+◌, ◌<◌, Bool, true, false, Option, Ok, List, [], ◌∷◌, ◌++◌, length, refl, sym, ◌∙◌, ap, subst, arith}
 use Rattle.std.specs.Prelude.{ℤ}
 use Rattle.nom_internal.specs.Prelude.{Modes, Built, Errors, Model, items_len, IsBoundary, IsSuffixOf, InputLaws, items_len-append, rest_rest, ShowsMeaning}

@@ -1,4 +1,4 @@
--- What is read of a decimal integer, part by part.
+-- The reading of a decimal integer, part by part.
 use Rattle.std.specs.Prelude.{◌≡◌, ℕ, ◌<◌, Bool, true, ℤ, length, ◌↔◌}
 use Rattle.nom_internal.specs.Prelude.{Model, items_len, IsSuffixOf}
 use Rattle.nom_character_integer.specs.declared.integer.Unsigned.{Unsigned}

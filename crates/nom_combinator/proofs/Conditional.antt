@@ -1,4 +1,4 @@
--- What is shown of a part that runs on a condition.
+-- Lemmas on a part that runs on a condition.
 use Rattle.std.proofs.Common.{◌≡◌, Bool, true, false, Ok, Err, Option, Some, None, refl, sym, subst}
 use Rattle.nom_internal.specs.Prelude.{PResult, Needed, Built, Modes, Model, InputLaws, Grammar, Shows}
 use Rattle.nom_error.specs.declared.answer.Err as Answer

@@ -1,4 +1,4 @@
--- What is shown of a part whose errors are made into others.
+-- Lemmas on a part whose errors are made into others.
 use Rattle.std.proofs.Common.{◌≡◌, Bool, true, false, Ok, Err, Option, Some, None, refl, sym, subst, ap, inl, inr}
 use Rattle.nom_internal.specs.Prelude.{PResult, Needed, Incomplete, Error, Failure, OutOfMemory, Built, Modes, Model, Outcome, Accept, Refuse, Stop, Fails}
 use Rattle.nom_internal.specs.Prelude.{Needs, IsFault, ShowsOutcome, RanOut, Shown, Meaning, ShowsMeaning, RunsOutInPart, RunsOutBeside, BuildsError}

@@ -1,4 +1,4 @@
--- What is shown of a value in the place of what a part accepts.
+-- Lemmas on a value in the place of what a part accepts.
 use Rattle.std.proofs.Common.{◌≡◌, Ok, Err, Option, refl, sym, subst}
 use Rattle.nom_internal.specs.Prelude.{PResult, Needed, Built, Modes, Model, Accept, Shown, Meaning, ShowsMeaning}
 use Rattle.nom_error.specs.declared.answer.Err as Answer

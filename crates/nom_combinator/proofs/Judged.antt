@@ -1,4 +1,4 @@
--- What is shown of what becomes of a part's outcome.
+-- Lemmas on a part whose outcome becomes another.
 use Rattle.std.proofs.Common.{◌≡◌, ℕ, Bool, true, false, Ok, Err, Option, Some, None, refl, sym, ◌∙◌, ap, subst, inl, inr}
 use Rattle.nom_internal.specs.Prelude.{Needed, Incomplete, Error, Failure, PResult, Refuses, with_outputs, Built, Modes, modes, Model, InputLaws, IsSuffixOf}
 use Rattle.nom_internal.specs.Prelude.{Slice, IsFirst, IsModelledBy, recognized_meaning, Outcome, Accept, Refuse, Stop, Fails, Needs, Outright, ShowsOutcome}

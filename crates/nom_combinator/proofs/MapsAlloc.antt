@@ -1,4 +1,4 @@
--- What a part shows whose outputs a closure maps, which may take memory.
+-- Lemmas on a part whose outputs are mapped by a closure that may take memory.
 use Rattle.std.proofs.Common.{◌≡◌, Bool, true, false, Result, Ok, Err, Option, Some, None, refl, sym, subst}
 use Rattle.nom_internal.specs.Prelude.{PResult, Needed, Built, Modes, Model, Accept, RanOut, Shown, Meaning, ShowsMeaning, RunsOutBeside, GivesFor, IsCallable}
 use Rattle.nom_error.specs.declared.answer.OutOfMemory.{OutOfMemory}

@@ -1,4 +1,4 @@
--- What is answered of what a part consumes.
+-- Lemmas on answers that give the input which a part consumes.
 use Rattle.std.proofs.Common.{◌≡◌, ℕ, ◌++◌, Bool, Ok, refl, sym, ◌∙◌, ap, subst}
 use Rattle.nom_internal.specs.Prelude.{Model, InputLaws, IsSuffixOf, same_cut, Slice, IsModelledBy, IsFirst, Outcome, Accept, Refuse, Stop, ParsesOutcome}
 use Rattle.nom_internal.specs.Prelude.{ParseRanOut}

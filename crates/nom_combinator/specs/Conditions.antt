@@ -18,9 +18,9 @@ CondOutput true IsOutput t o = OptOutput IsOutput t o
 CondOutput false IsOutput t o = o ≡ None
 
 -- what a call owes besides its outcome: the part's, where it runs, and else that nothing is consumed
-abbrev pub CondBesides : {I : Type 0} → Bool → (I → Option I → Type 0) → I → Option I → Type 0
-CondBesides true Owes i rest = Owes i rest
-CondBesides false Owes i rest = rest ≡ Some i
+abbrev pub CondSideCondition : {I : Type 0} → Bool → (I → Option I → Type 0) → I → Option I → Type 0
+CondSideCondition true Owes i rest = Owes i rest
+CondSideCondition false Owes i rest = rest ≡ Some i
 
 -- a grammar on a condition
 abbrev pub cond_of : {I V O E : Type 0} → Bool → Grammar I V O E → Grammar I (Option V) (Option O) E

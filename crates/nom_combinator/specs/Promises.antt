@@ -1,4 +1,4 @@
--- What combinators promise, said of what they mean and of what they answer.
+-- The promises of combinators, on what they mean and on what they answer.
 use Rattle.std.specs.Prelude.{◌≡◌, ℕ, Bool, ◌++◌, Option, Ok}
 use Rattle.nom_internal.specs.Prelude.{Model, Slice, IsModelledBy, Accept, Refuse, Stop, Needs, Meaning, ParsesMeaning}
 

@@ -1,6 +1,6 @@
 //! A parser whose outputs are mapped by a closure that may take memory.
 ghost use Rattle.std.specs.Prelude.{Ok};
-ghost use Rattle.nom_internal.specs.Prelude.{JudgedBesides, SeesAlike};
+ghost use Rattle.nom_internal.specs.Prelude.{JudgedSideCondition, SeesAlike};
 ghost use Rattle.nom_internal.specs.laws.MappedLaws.{given_pinned};
 ghost use Rattle.nom_combinator.specs.MapAlloc.{map_alloc_by};
 ghost use Rattle.nom_combinator.specs.laws.MapAllocLaws.{map_alloc_lawful, map_alloc_steady};
@@ -37,7 +37,7 @@ impl<I: Items, F: Parser<I> + Drop, O: Drop, G: Fn(F::Output) -> Result<O, OutOf
 
     ghost worded = { λ s. Words.map_alloc_worded (G.pre s.1) (G.post s.1) (F.worded s.0) };
 
-    ghost Besides = { λ mode old new i. JudgedBesides (F.Besides mode old.parser new.parser i) };
+    ghost SideCondition = { λ mode old new i. JudgedSideCondition (F.SideCondition mode old.parser new.parser i) };
 
     #[inline(always)]
     fn process<OM: OutputMode>(&mut self, input: I) -> PResult<I, O, F::Error> {

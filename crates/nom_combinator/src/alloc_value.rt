@@ -1,6 +1,6 @@
 //! A value in place of a parser's output, made by a closure that may take memory.
 ghost use Rattle.std.specs.Prelude.{Ok};
-ghost use Rattle.nom_internal.specs.Prelude.{JudgedBesides};
+ghost use Rattle.nom_internal.specs.Prelude.{JudgedSideCondition};
 ghost use Rattle.nom_combinator.specs.ValueAlloc.{MakesAlike, value_alloc_by};
 ghost use Rattle.nom_combinator.specs.laws.MapAllocLaws.{map_alloc_lawful, map_alloc_steady};
 ghost use Rattle.nom_combinator.specs.laws.ValueAllocLaws.{made_pinned};
@@ -39,7 +39,7 @@ impl<I: Items, O: Drop, G: Fn() -> Result<O, OutOfMemory>, F: Parser<I> + Drop> 
 
     ghost worded = { λ s. Words.value_alloc_worded (G.pre s.0) (G.post s.0) (F.worded s.1) };
 
-    ghost Besides = { λ mode old new i. JudgedBesides (F.Besides mode old.parser new.parser i) };
+    ghost SideCondition = { λ mode old new i. JudgedSideCondition (F.SideCondition mode old.parser new.parser i) };
 
     #[inline(always)]
     fn process<OM: OutputMode>(&mut self, input: I) -> PResult<I, O, F::Error> {

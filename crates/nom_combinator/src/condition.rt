@@ -1,6 +1,6 @@
 //! A part that runs on a condition.
 ghost use Rattle.std.specs.Prelude.{◌≡◌, Bool, Option, true};
-ghost use Rattle.nom_combinator.specs.Conditions.{CondBesides, cond_of};
+ghost use Rattle.nom_combinator.specs.Conditions.{CondSideCondition, cond_of};
 ghost use Rattle.nom_combinator.specs.Words as Words;
 ghost use Rattle.nom_combinator.specs.laws.ConditionLaws.{cond_lawful, cond_steady, cond_pinned};
 
@@ -34,7 +34,7 @@ impl<I: Items, F: Parser<I> + Drop> Parser<I> for Cond<F> {
 
     ghost worded = { λ s. Words.cond_worded s.0 (F.worded s.1) };
 
-    ghost Besides = { λ mode old new. CondBesides old.condition (F.Besides mode old.parser new.parser) };
+    ghost SideCondition = { λ mode old new. CondSideCondition old.condition (F.SideCondition mode old.parser new.parser) };
 
     #[inline(always)]
     fn process<OM: OutputMode>(&mut self, input: I) -> PResult<I, Self::Output, Self::Error> {

@@ -1,6 +1,6 @@
 //! A part that leaves nothing.
 ghost use Rattle.std.specs.Prelude.{false};
-ghost use Rattle.nom_internal.specs.Prelude.{JudgedBesides, with_outputs};
+ghost use Rattle.nom_internal.specs.Prelude.{JudgedSideCondition, with_outputs};
 ghost use Rattle.nom_internal.specs.laws.SequenceLaws.{sequence_lawful};
 ghost use Rattle.nom_combinator.specs.laws.AllLaws.{eof_lawful};
 ghost use Rattle.nom_combinator.specs.Ends.{all_consuming_of};
@@ -35,7 +35,7 @@ impl<I: Input, F: Parser<I> + Drop> Parser<I> for AllConsuming<F> {
 
     ghost worded = { λ s. Words.all_consuming_worded I.model F.Error.errors (F.worded s) };
 
-    ghost Besides = { λ mode old new i. JudgedBesides (F.Besides mode old.parser new.parser i) };
+    ghost SideCondition = { λ mode old new i. JudgedSideCondition (F.SideCondition mode old.parser new.parser i) };
 
     #[inline(always)]
     fn process<OM: OutputMode>(&mut self, input: I) -> PResult<I, Self::Output, Self::Error> {

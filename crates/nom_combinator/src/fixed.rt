@@ -45,7 +45,7 @@ impl<I: Items, O: Clone, E: ParseError<I>> Parser<I> for Success<O, I, E> {
     ghost worded = { λ value. Words.success_worded O.is_clone value (O.is_infallible value) };
 
     /// The rest is the whole input.
-    ghost Besides = { λ _ _ _ i. OfRest (λ rest. rest ≡ i) };
+    ghost SideCondition = { λ _ _ _ i. OfRest (λ rest. rest ≡ i) };
 
     #[inline(always)]
     fn process<OM: OutputMode>(&mut self, input: I) -> PResult<I, O, E> {

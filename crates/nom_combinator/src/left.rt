@@ -46,7 +46,7 @@ impl<I: Input, E: ParseError<I>> Parser<I> for Eof<I, E> {
     ghost worded = { λ _. Words.eof_worded I.model E.errors };
 
     /// The rest is the whole input.
-    ghost Besides = { λ _ _ _ i. OfRest (λ rest. rest ≡ i) };
+    ghost SideCondition = { λ _ _ _ i. OfRest (λ rest. rest ≡ i) };
 
     #[inline(always)]
     fn process<OM: OutputMode>(&mut self, input: I) -> PResult<I, I, E> {
@@ -136,7 +136,7 @@ impl<I: Input, E: ParseError<I>> Parser<I> for RestLen<I, E> {
     ghost worded = { λ _. Words.rest_len_worded I.model };
 
     /// The rest is the whole input.
-    ghost Besides = { λ _ _ _ i. OfRest (λ rest. rest ≡ i) };
+    ghost SideCondition = { λ _ _ _ i. OfRest (λ rest. rest ≡ i) };
 
     #[inline(always)]
     fn process<OM: OutputMode>(&mut self, input: I) -> PResult<I, usize, E> {

@@ -61,7 +61,7 @@ where
 
     ghost worded = { λ s. Words.context_worded F.Error.contexts s.0 (F.worded s.1) };
 
-    ghost Besides = { λ mode old new. F.Besides mode old.parser new.parser };
+    ghost SideCondition = { λ mode old new. F.SideCondition mode old.parser new.parser };
 
     #[inline(always)]
     fn process<OM: OutputMode>(&mut self, input: I) -> PResult<I, Self::Output, Self::Error> {

@@ -3,7 +3,7 @@ ghost use Rattle.std.specs.Prelude.{◌≡◌, true};
 ghost use Rattle.std.specs.Borrow.{Bor};
 ghost use Rattle.std.specs.Fn.{FnReturnsAt};
 ghost use Rattle.nom_internal.specs.Cloned.{ClonesAlike, clones_pinned};
-ghost use Rattle.nom_internal.specs.Prelude.{JudgedBesides, with_outputs};
+ghost use Rattle.nom_internal.specs.Prelude.{JudgedSideCondition, with_outputs};
 ghost use Rattle.nom_internal.specs.laws.JudgedLaws.{judged_lawful, judged_steady};
 ghost use Rattle.nom_combinator.specs.Outputs.{value_by, verify_by};
 ghost use Rattle.nom_combinator.specs.laws.OutputLaws.{tested_pinned, value_lawful, value_steady};
@@ -54,7 +54,7 @@ impl<I: Items, A: Drop, F: Parser<I, Output = A> + Drop, G: Fn(&A) -> bool> Pars
 
     ghost worded = { λ s. Words.verify_worded F.Error.errors (λ o. (p : Bor A) → p.now ≡ o → G.pre s.1 p) (FnReturnsAt G.Fn s.1) (F.worded s.0) };
 
-    ghost Besides = { λ mode old new i. JudgedBesides (F.Besides (with_outputs true mode) old.parser new.parser i) };
+    ghost SideCondition = { λ mode old new i. JudgedSideCondition (F.SideCondition (with_outputs true mode) old.parser new.parser i) };
 
     #[inline(always)]
     fn process<OM: OutputMode>(&mut self, input: I) -> PResult<I, F::Output, F::Error> {
@@ -116,7 +116,7 @@ impl<I: Items, O: Clone, F: Parser<I> + Drop> Parser<I> for Value<O, F> {
 
     ghost worded = { λ s. Words.value_worded O.is_clone s.0 (O.is_infallible s.0) (F.worded s.1) };
 
-    ghost Besides = { λ mode old new i. JudgedBesides (F.Besides mode old.parser new.parser i) };
+    ghost SideCondition = { λ mode old new i. JudgedSideCondition (F.SideCondition mode old.parser new.parser i) };
 
     #[inline(always)]
     fn process<OM: OutputMode>(&mut self, input: I) -> PResult<I, O, F::Error> {

@@ -36,7 +36,7 @@ impl<I: Input, F: Parser<I> + Drop> Parser<I> for Recognize<F> {
 
     ghost worded = { λ s. Words.recognize_worded I.model (F.worded s) };
 
-    ghost Besides = { λ mode old new. F.Besides (with_outputs false mode) old.parser new.parser };
+    ghost SideCondition = { λ mode old new. F.SideCondition (with_outputs false mode) old.parser new.parser };
 
     #[inline(always)]
     fn process<OM: OutputMode>(&mut self, input: I) -> PResult<I, I, F::Error> {
@@ -81,7 +81,7 @@ impl<I: Input, F: Parser<I> + Drop> Parser<I> for Consumed<F> {
 
     ghost worded = { λ s. Words.consumed_worded I.model (F.worded s) };
 
-    ghost Besides = { λ mode old new. F.Besides mode old.parser new.parser };
+    ghost SideCondition = { λ mode old new. F.SideCondition mode old.parser new.parser };
 
     #[inline(always)]
     fn process<OM: OutputMode>(&mut self, input: I) -> PResult<I, Self::Output, Self::Error> {

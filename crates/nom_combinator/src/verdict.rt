@@ -1,8 +1,8 @@
 //! The parsers that change or test a part's outcome.
 ghost use Rattle.std.specs.Prelude.{◌≡◌, Option, Some, true, false};
-ghost use Rattle.nom_internal.specs.Prelude.{OrBesides, ThenBesides, with_errors, with_outputs, with_streaming};
+ghost use Rattle.nom_internal.specs.Prelude.{OrSideCondition, ThenSideCondition, with_errors, with_outputs, with_streaming};
 ghost use Rattle.nom_combinator.specs.Verdicts.{cut_of, opt_of, peek_of};
-ghost use Rattle.nom_combinator.specs.Verdicts.{NotBesides, not_of, complete_of};
+ghost use Rattle.nom_combinator.specs.Verdicts.{NotSideCondition, not_of, complete_of};
 ghost use Rattle.nom_combinator.specs.laws.VerdictLaws.{complete_lawful, cut_lawful, cut_steady, opt_pinned, opt_lawful, opt_steady, peek_lawful};
 ghost use Rattle.nom_combinator.specs.laws.VerdictLaws.{peek_steady, not_lawful, not_steady};
 ghost use Rattle.nom_combinator.specs.Words as Words;
@@ -38,7 +38,7 @@ impl<I: Items, F: Parser<I> + Drop> Parser<I> for Cut<F> {
 
     ghost worded = { λ s. Words.cut_worded (F.worded s) };
 
-    ghost Besides = { λ mode old new. F.Besides (with_errors true mode) old.parser new.parser };
+    ghost SideCondition = { λ mode old new. F.SideCondition (with_errors true mode) old.parser new.parser };
 
     #[inline(always)]
     fn process<OM: OutputMode>(&mut self, input: I) -> PResult<I, Self::Output, Self::Error> {
@@ -89,7 +89,7 @@ impl<I: Items, F: Parser<I> + Drop> Parser<I> for Opt<F> {
 
     ghost worded = { λ s. Words.opt_worded (F.worded s) };
 
-    ghost Besides = { λ mode old new i. OrBesides (F.Besides (with_errors false mode) old.parser new.parser i) (λ rest. rest ≡ Some i) };
+    ghost SideCondition = { λ mode old new i. OrSideCondition (F.SideCondition (with_errors false mode) old.parser new.parser i) (λ rest. rest ≡ Some i) };
 
     #[inline(always)]
     fn process<OM: OutputMode>(&mut self, input: I) -> PResult<I, Self::Output, Self::Error> {
@@ -140,7 +140,7 @@ impl<I: Items, F: Parser<I> + Drop> Parser<I> for Peek<F> {
 
     ghost worded = { λ s. Words.peek_worded (F.worded s) };
 
-    ghost Besides = { λ mode old new i. ThenBesides (F.Besides mode old.parser new.parser i) (λ _ rest. rest ≡ Some i) };
+    ghost SideCondition = { λ mode old new i. ThenSideCondition (F.SideCondition mode old.parser new.parser i) (λ _ rest. rest ≡ Some i) };
 
     #[inline(always)]
     fn process<OM: OutputMode>(&mut self, input: I) -> PResult<I, Self::Output, Self::Error> {
@@ -183,7 +183,7 @@ impl<I: Items, F: Parser<I> + Drop> Parser<I> for Not<F> {
 
     ghost worded = { λ s. Words.not_worded F.Error.errors (F.worded s) };
 
-    ghost Besides = { λ mode old new i. NotBesides (F.Besides (with_outputs false (with_errors false mode)) old.parser new.parser i) i };
+    ghost SideCondition = { λ mode old new i. NotSideCondition (F.SideCondition (with_outputs false (with_errors false mode)) old.parser new.parser i) i };
 
     #[inline(always)]
     fn process<OM: OutputMode>(&mut self, input: I) -> PResult<I, Self::Output, Self::Error> {
@@ -236,7 +236,7 @@ impl<I: Items, F: Parser<I> + Drop> Parser<I> for MakeComplete<F> {
 
     ghost worded = { λ s. Words.complete_worded F.Error.errors (F.worded s) };
 
-    ghost Besides = { λ mode old new. F.Besides (with_streaming false mode) old.parser new.parser };
+    ghost SideCondition = { λ mode old new. F.SideCondition (with_streaming false mode) old.parser new.parser };
 
     #[inline(always)]
     fn process<OM: OutputMode>(&mut self, input: I) -> PResult<I, Self::Output, Self::Error> {

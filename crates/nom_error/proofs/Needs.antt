@@ -1,4 +1,4 @@
--- What is needed is equal where both are unknown, or one size.
+-- Lemmas on the sizes that are needed: two are equal where both are unknown, or one size.
 use Rattle.std.proofs.Common.{rules, ◌≡◌, ◌<◌, IsTrue, ap, subst}
 use Rattle.std.proofs.lemmas.Bool.{eqb-true, eq-eqb}
 use Rattle.std.proofs.lemmas.Option.{same_Some}

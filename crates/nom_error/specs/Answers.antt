@@ -1,4 +1,4 @@
--- What parsers answer beside an acceptance.
+-- The answers of parsers beside an acceptance.
 use Rattle.std.specs.Prelude.{◌≡◌, ℕ, Bool, true, false, ◌⊎◌, List, ◌++◌, Result, Ok, Option, Some, None, codes}
 use Rattle.std.specs.Prelude as Std
 use Rattle.std.specs.Fmt.{decimal, ◌++?◌}

@@ -1,4 +1,4 @@
--- What the functions of an error type give.
+-- Error types, by what their functions give.
 use Rattle.std.specs.Prelude.{ℕ, List}
 use Rattle.nom_error.specs.declared.kind.ErrorKind.{ErrorKind}
 

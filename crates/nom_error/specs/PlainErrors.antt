@@ -1,4 +1,4 @@
--- What `Error` holds: the input at which a parser refused, and the kind. Of two errors the second is kept, and none takes memory.
+-- The error type `Error`: the input at which a parser refused, and the kind. Of two errors the second is kept, and none takes memory.
 use Rattle.std.specs.Prelude.{◌≡◌}
 use Rattle.nom_error.specs.declared.kind.ErrorKind.TheVariants.{Char}
 use Rattle.nom_error.specs.declared.value.Error.{Error}

@@ -1,4 +1,4 @@
--- What a parser shows on what another one gives.
+-- Lemmas on a parser that runs on what another one gives.
 use Rattle.std.proofs.Common.{◌≡◌, sym, subst, true, Ok, Err, Option, Some, refl}
 use Rattle.nom_internal.specs.Prelude.{PResult, Needed, Built, Modes, Model, InputLaws, Outcome, Accept, Refuse, Stop, Fails, Needs, ShowsOutcome, RanOut}
 use Rattle.nom_internal.specs.Prelude.{Shown}

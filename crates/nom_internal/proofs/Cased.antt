@@ -1,4 +1,4 @@
--- What cases over a part's outcome show, from what the part showed.
+-- Lemmas on cases over a part's outcome, from what the part showed.
 use Rattle.std.proofs.Common.{◌≡◌, ℕ, Bool, Ok, Err, Option, refl, subst}
 use Rattle.nom_internal.specs.Prelude.{PResult, Needed, Incomplete, Error, Built, Modes, with_outputs, with_streaming, Model, Outcome, Accept, Refuse, Stop}
 use Rattle.nom_internal.specs.Prelude.{Fails, Needs, ShowsOutcome, ShowsAnswer, RanOut, Shown, Meaning, ShowsMeaning, mode_of, Case, OnPart}

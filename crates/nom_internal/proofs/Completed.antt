@@ -1,4 +1,4 @@
--- What is answered on a complete input, by what was answered where more might have come.
+-- Lemmas on the answers on a complete input, by what was answered where more might have come.
 use Rattle.std.proofs.Common.{◌≡◌, true, false, Ok, Err, sym, subst, ◌⊎◌, inl, inr}
 use Rattle.nom_internal.specs.Prelude.{IResult, OutOfMemory, Model, InputLaws, same_self, rest_related, View, IsPinned, Outcome, Accept, Refuse, Stop, Fails}
 use Rattle.nom_internal.specs.Prelude.{Needs, Outright, TooLarge, ParsesOutcome, IsDecided, ParseRanOut, Parsed, Meaning, IsLawful, ParsesMeaning}

@@ -1,4 +1,4 @@
--- What the parser shows that a closure gives.
+-- Lemmas on the parser that a closure gives.
 use Rattle.std.proofs.Common.{◌≡◌, true, Option, Some, refl}
 use Rattle.nom_internal.specs.Prelude.{PResult, Built, Modes, Model, RanOut, Shown, Meaning, ShowsMeaning, Family, of_value}
 use Rattle.nom_internal.specs.FlatMap.{Maker, GivesState, IsGiven, states_family, given_family}

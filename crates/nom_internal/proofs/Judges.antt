@@ -1,4 +1,4 @@
--- What parts show whose acceptances closures judge.
+-- Lemmas on parts whose acceptances are judged by closures.
 use Rattle.std.proofs.Common.{◌≡◌, ℕ, Bool, true, false, Ok, Err, Option, Some, refl, sym, ap, subst, inl, inr}
 use Rattle.nom_internal.specs.Prelude.{Needed, PResult, Refuses, Built, Modes, with_outputs, Model, Outcome, Accept, Refuse, RanOut, Shown, Meaning}
 use Rattle.nom_internal.specs.Prelude.{ShowsMeaning, RunsOutBeside, GivesFor, IsAsked, kept_if, judged_case, judged_meaning}

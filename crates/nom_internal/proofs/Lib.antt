@@ -9,3 +9,4 @@ pub mod Maps
 pub mod Owed
 pub mod Shown
 pub mod Tuples
+pub mod Widths

@@ -1,4 +1,4 @@
--- What parts show whose outputs or errors become others.
+-- Lemmas on parts whose outputs or errors become others.
 use Rattle.std.proofs.Common.{◌≡◌, Bool, true, false, Ok, Err, Option, Some, None, refl, sym, subst}
 use Rattle.nom_internal.specs.Prelude.{PResult, Needed, Built, Modes, Model, Outcome, Accept, Refuse, Stop, Fails, Needs, IsFault, ShowsOutcome, RanOut, Shown}
 use Rattle.nom_internal.specs.Prelude.{Meaning, ShowsMeaning, RunsOutInPart, GivesFor, IsCallable, map_case, map_meaning, into_meaning, ConvertsSome}

@@ -1,4 +1,4 @@
--- What `process` returns, from what the parts returned.
+-- Lemmas on the results of `process`, from what the parts returned.
 use Rattle.std.proofs.Common.{◌≡◌, ℕ, Bool, true, false, Result, Ok, Err, Option, Some, None, refl, sym, ◌∙◌, ap, subst, inl, inr}
 use Rattle.std.specs.Result.{IsErrAnd, IsErr}
 use Rattle.std.proofs.lemmas.Result.{err_from_is_err_and}

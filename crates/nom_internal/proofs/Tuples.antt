@@ -1,4 +1,4 @@
--- What tuples show, from what their members showed.
+-- Lemmas on the answers of tuples, from what their members showed.
 use Rattle.std.proofs.Common.{◌≡◌, Bool, true, false, Result, Ok, Err, Option, Some, sym, subst}
 use Rattle.nom_error.specs.declared.answer.Needed.{Needed}
 use Rattle.nom_error.specs.declared.answer.Err as Answer

@@ -86,7 +86,12 @@ module _ {P V I A Q E : Type 0} (w : Model I A) (IsValue : P → V → Type 0) (
         let v = a.value in
         (l.lawful v (u, a.is_value)).one_outcome s x y o p kx ky r a.fact k
         (subst (λ n. (f.at n).answers s y p) (one u b.value v b.is_value a.is_value) b.fact);
-    alike = λ s x y o kx ky r a k. record { value = a.value; is_value = a.is_value; fact = (l.lawful a.value (u, a.is_value)).alike s x y o kx ky r a.fact k };
+    consistent = λ s x y o kx ky r a k. record {
+      value = a.value;
+      is_value = a.is_value;
+      fact = (l.lawful a.value (u, a.is_value)).consistent s x y o kx ky
+          r a.fact k;
+    };
     frugal = λ mode i h g a. (l.lawful a.value (u, a.is_value)).frugal mode i h (l.frugal mode g a.value (u, a.is_value)) a.fact;
     settles = λ t x y o kx ky r a k. record {
       value = a.value;

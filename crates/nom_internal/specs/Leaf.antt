@@ -91,7 +91,7 @@ module _ {I A V : Type 0} {w : Model I A} {leaf : Leaf I V} (l : LeafLaws w leaf
     leaf_lawful = record {
       within = λ s i n v h a. l.place s i n v h a;
       one_outcome = λ s. answers_agree false s (λ e. cc);
-      alike = λ s x y o kx ky r a d. answers_carry false s (λ e. cc) x y o kx ky r a d;
+      consistent = λ s x y o kx ky r a d. answers_carry false s (λ e. cc) x y o kx ky r a d;
       frugal = λ mode i h f r. f r.1 r.2;
       settles = λ t x y o kx ky r a d. answers_settle y o ky (answers_carry false true (λ e. refl) x y o kx ky r a tt) d;
       blames_alike = λ t s i o e h a b d z. z;

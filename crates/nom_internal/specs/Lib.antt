@@ -20,6 +20,7 @@ pub mod Sequence
 pub mod Success
 pub mod TupleWords
 pub mod Tuples
+pub mod Width
 pub mod Word
 pub mod Words
 pub mod laws

@@ -1,4 +1,4 @@
--- What a parser means, and the laws of meanings.
+-- The meaning of a parser, and the laws of meanings.
 use Rattle.std.specs.Prelude.{◌≡◌, ℕ, Bool, true, false, not}
 use Rattle.nom_error.specs.Answers.{PResult, IResult}
 use Rattle.nom_error.specs.Modes.{Modes, modes}
@@ -63,7 +63,7 @@ module _ {I A V E : Type 0} (w : Model I A) (m : Meaning I V E) where
     pub within : (s : Bool) → Within w (m.answers s)
     -- inputs that are equal as models have one outcome, and the same
     pub one_outcome : (s : Bool) → Agree w false (m.answers s) (m.answers s)
-    pub alike : (s : Bool) → Carries w false (m.answers s) (m.answers s)
+    pub consistent : (s : Bool) → Carries w false (m.answers s) (m.answers s)
     pub frugal : (mode : Modes) (i : I) → w.IsKnown i → m.IsFrugal mode → m.may_run_out mode i → ⊥
     -- where it settles, a decided streaming outcome is the complete one, and the errors of either mode are the other's
     pub settles : m.Settles → Carries w true (m.answers true) (m.answers false)
@@ -80,7 +80,7 @@ module _ {I A V E : Type 0} {w : Model I A} {m : Meaning I V E} {Runs IsSound : 
   premised_lawful l = record {
     within = l.within;
     one_outcome = l.one_outcome;
-    alike = l.alike;
+    consistent = l.consistent;
     frugal = l.frugal;
     settles = l.settles;
     blames_alike = l.blames_alike;

@@ -1,4 +1,4 @@
--- What a parser answers at an input, and what `process` and `parse` return for it.
+-- The outcome of a parser at an input, and the results of `process` and `parse` for it.
 use Rattle.std.specs.Prelude.{◌≡◌, ℕ, Ok, Err, Option}
 use Rattle.nom_error.specs.declared.answer.Err.TheVariants.{Incomplete, Error, Failure, OutOfMemory}
 use Rattle.nom_error.specs.declared.answer.Needed.{Needed}

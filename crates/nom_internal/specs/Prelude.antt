@@ -50,9 +50,11 @@ pub use Rattle.nom_internal.specs.Outcome.Reason.{Fails, Needs}
 pub use Rattle.nom_internal.specs.Outcome.ShowsAnswer.{RanOut, Shown}
 pub use Rattle.nom_internal.specs.Pinned.{IsPinned, either_pinned, pair_pinned, slice_pinned, value_pinned}
 pub use Rattle.nom_internal.specs.Recognized.{IsSliced, recognized_meaning}
-pub use Rattle.nom_internal.specs.Results.{AsksForMore, BoundBesides, HasRests, HoldsSame, IsFull, JudgedBesides, MadeBesides, OfRest, OrBesides}
-pub use Rattle.nom_internal.specs.Results.{ThenBesides, WithRest, rest_of}
+pub use Rattle.nom_internal.specs.Results.{AsksForMore, BoundSideCondition, HasRests, HoldsSame, IsFull, JudgedSideCondition, MadeSideCondition, OfRest}
+pub use Rattle.nom_internal.specs.Results.{OrSideCondition}
+pub use Rattle.nom_internal.specs.Results.{ThenSideCondition, WithRest, rest_of}
 pub use Rattle.nom_internal.specs.Sequence.{GoesOn, OnRest, PairOutput, Then, ThenBlames, ThenRunsOut, after, pair_meaning, pair_of, sequence_meaning}
 pub use Rattle.nom_internal.specs.Sequence.{then_meaning}
 pub use Rattle.nom_internal.specs.Sequence.ThenRunsOut.{RunsOutFirst, RunsOutNext}
 pub use Rattle.nom_internal.specs.Success.{place_zero, success_lawful, success_meaning, success_steady}
+pub use Rattle.nom_internal.specs.Width.{HasGroups, HasWidth}

@@ -1,4 +1,4 @@
--- What every parser promises, said of its meaning and of its answers.
+-- The promises of every parser, on its meaning and on its answers.
 use Rattle.std.specs.Prelude.{◌≡◌, ℕ, Bool, true, false, ◌⊎◌, Ok, Err}
 use Rattle.nom_internal.specs.Prelude.{Needed, Incomplete, Error, Failure, OutOfMemory, IResult, size_of, Modes, Model, Extends, IsSame, IsBoundary, IsSuffixOf}
 use Rattle.nom_internal.specs.Prelude.{View, Outcome, Accept, Stop, Fails, TooLarge, IsDecided, Meaning, ParsesMeaning, Cause}

@@ -1,4 +1,4 @@
--- What a part consumes, as a slice.
+-- The slice that a part consumes.
 use Rattle.std.specs.Prelude.{◌≡◌, ℕ, false}
 use Rattle.nom_traits.specs.Input.{Model}
 use Rattle.nom_traits.specs.Slices.{Slice, IsFirst}

@@ -41,25 +41,25 @@ OfRest Fact (Some j) = Fact j
 OfRest Fact None = Unit {0}
 
 -- What a call owes that may drop what its part accepts: what the part owes, by the whole's rest, or by a rest that is dropped.
-pub data JudgedBesides {I : Type 0} (Part : Option I → Type 0) (rest : Option I) : Type 0 where
-  Kept : Part rest → JudgedBesides Part rest
-  Dropped : (j : I) → Part (Some j) → rest ≡ None → JudgedBesides Part rest
+pub data JudgedSideCondition {I : Type 0} (Part : Option I → Type 0) (rest : Option I) : Type 0 where
+  Kept : Part rest → JudgedSideCondition Part rest
+  Dropped : (j : I) → Part (Some j) → rest ≡ None → JudgedSideCondition Part rest
 
 -- What two calls owe, one after the other: where the first accepts, the second begins at its rest.
-pub data ThenBesides {I : Type 0} (First : Option I → Type 0) (Second : I → Option I → Type 0) (rest : Option I) : Type 0 where
-  Stopped : First None → rest ≡ None → ThenBesides First Second rest
-  Both : (j : I) → First (Some j) → Second j rest → ThenBesides First Second rest
+pub data ThenSideCondition {I : Type 0} (First : Option I → Type 0) (Second : I → Option I → Type 0) (rest : Option I) : Type 0 where
+  Stopped : First None → rest ≡ None → ThenSideCondition First Second rest
+  Both : (j : I) → First (Some j) → Second j rest → ThenSideCondition First Second rest
 
 -- What one of two calls at one input owes: the first, or, where it accepts nothing, the second, by the whole's rest.
-pub data OrBesides {I : Type 0} (First Second : Option I → Type 0) (rest : Option I) : Type 0 where
-  Taken : First rest → OrBesides First Second rest
-  Other : First None → Second rest → OrBesides First Second rest
+pub data OrSideCondition {I : Type 0} (First Second : Option I → Type 0) (rest : Option I) : Type 0 where
+  Taken : First rest → OrSideCondition First Second rest
+  Other : First None → Second rest → OrSideCondition First Second rest
 
 -- What a call of a parser that was made owes: it was made for an output that was given, and stands as before and after
 -- the call.
-pub data MadeBesides {O H I : Type 0} (Gives : O → Type 0) (Makes : O → H → Type 0) (Owes : H → H → I → Option I → Type 0) (i : I)
+pub data MadeSideCondition {O H I : Type 0} (Gives : O → Type 0) (Makes : O → H → Type 0) (Owes : H → H → I → Option I → Type 0) (i : I)
     (rest : Option I) : Type 0 where
-  Made : (o : O) (old new : H) → Gives o → Makes o old → Owes old new i rest → MadeBesides Gives Makes Owes i rest
+  Made : (o : O) (old new : H) → Gives o → Makes o old → Owes old new i rest → MadeSideCondition Gives Makes Owes i rest
 
 -- a rest, where another one is accepted
 abbrev pub where_some : {I J : Type 0} → I → Option J → Option I
@@ -67,9 +67,9 @@ where_some j (Some k) = Some j
 where_some j None = None
 
 -- What two calls owe, the second on the first's output: where the second accepts, the first's rest is left.
-pub data BoundBesides {I J : Type 0} (First : Option I → Type 0) (Gives : J → Type 0) (Second : J → Option J → Type 0) (rest : Option I) : Type 0 where
-  Unbound : First None → rest ≡ None → BoundBesides First Gives Second rest
-  Bound : (j : I) (o : J) (k : Option J) → First (Some j) → Gives o → Second o k → rest ≡ where_some j k → BoundBesides First Gives Second rest
+pub data BoundSideCondition {I J : Type 0} (First : Option I → Type 0) (Gives : J → Type 0) (Second : J → Option J → Type 0) (rest : Option I) : Type 0 where
+  Unbound : First None → rest ≡ None → BoundSideCondition First Gives Second rest
+  Bound : (j : I) (o : J) (k : Option J) → First (Some j) → Gives o → Second o k → rest ≡ where_some j k → BoundSideCondition First Gives Second rest
 
 -- the answer asks for more input
 abbrev pub AsksForMore : {T E : Type 0} → Result T (Answer.Err E E Needed) → Type 0

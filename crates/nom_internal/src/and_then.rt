@@ -4,7 +4,7 @@ ghost use Rattle.nom_error.specs.Modes.{with_outputs};
 ghost use Rattle.nom_internal.specs.Bounded.{and_then_of};
 ghost use Rattle.nom_internal.specs.Grammar.{GivesAt};
 ghost use Rattle.nom_internal.specs.Pinned.{IsPinned};
-ghost use Rattle.nom_internal.specs.Results.{BoundBesides};
+ghost use Rattle.nom_internal.specs.Results.{BoundSideCondition};
 ghost use Rattle.nom_internal.specs.Words as Words;
 
 use crate::parser::{Parser, StreamParser};
@@ -46,8 +46,8 @@ impl<
 
     ghost worded = { λ s. Words.and_then_worded I.model F.Output.model (F.worded s.0) (G.worded s.1) };
 
-    ghost Besides = { λ mode old new i. BoundBesides (F.Besides (with_outputs true mode) old.first new.first i)
-        (GivesAt (F.grammar (F.state old.first)) mode.streaming i) (G.Besides mode old.second new.second) };
+    ghost SideCondition = { λ mode old new i. BoundSideCondition (F.SideCondition (with_outputs true mode) old.first new.first i)
+        (GivesAt (F.grammar (F.state old.first)) mode.streaming i) (G.SideCondition mode old.second new.second) };
 
     // The second needn't be a stream parser, which alone has a law of what it pins.
 

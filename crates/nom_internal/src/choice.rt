@@ -56,7 +56,7 @@ pub fn after_refusal<I: Items, P: Parser<I>, OM: OutputMode>(
     ensures shown { ShowsNext I.model (P.grammar (P.state next.old)).IsOutput P.Error.errors.joined P.Error.errors.grows (P.grammar (P.state next.old)).meaning
         (modes OM.Output.BUILDS OM.Error.BUILDS OM.Incomplete.STREAMING) input error result }
     ensures kept { P.state next.new ≡ P.state next.old }
-    ensures besides { P.Besides (modes OM.Output.BUILDS OM.Error.BUILDS OM.Incomplete.STREAMING) next.old next.new input (rest_of result) }
+    ensures side_condition { P.SideCondition (modes OM.Output.BUILDS OM.Error.BUILDS OM.Incomplete.STREAMING) next.old next.new input (rest_of result) }
 {
     join(error, next.process::<OM>(input))
 }
@@ -73,7 +73,8 @@ pub fn next_branch<I: Items, P: Parser<I>, OM: OutputMode>(
         (P.grammar (P.state next.old)).meaning
         (modes OM.Output.BUILDS OM.Error.BUILDS OM.Incomplete.STREAMING) input) before result }
     ensures kept { P.state next.new ≡ P.state next.old }
-    ensures besides { OnError (λ _ r. P.Besides (modes OM.Output.BUILDS OM.Error.BUILDS OM.Incomplete.STREAMING) next.old next.new input (rest_of r))
+    ensures side_condition { OnError (λ _ r. P.SideCondition (modes OM.Output.BUILDS OM.Error.BUILDS OM.Incomplete.STREAMING) next.old next.new input
+        (rest_of r))
         before result }
 {
     match before {

@@ -1,7 +1,7 @@
 //! One of two parsers.
 ghost use Rattle.std.specs.Prelude.{◌⊎◌};
 ghost use Rattle.nom_internal.specs.Choice.{either_of};
-ghost use Rattle.nom_internal.specs.Results.{OrBesides};
+ghost use Rattle.nom_internal.specs.Results.{OrSideCondition};
 ghost use Rattle.nom_internal.specs.Words as Words;
 
 use crate::choice::next_branch;
@@ -43,7 +43,7 @@ impl<
 
     ghost worded = { λ s. Words.either_worded F.Error.errors.joined F.Error.errors.grows (F.worded s.0) (G.worded s.1) };
 
-    ghost Besides = { λ mode old new i. OrBesides (F.Besides mode old.first new.first i) (G.Besides mode old.second new.second i) };
+    ghost SideCondition = { λ mode old new i. OrSideCondition (F.SideCondition mode old.first new.first i) (G.SideCondition mode old.second new.second i) };
 
     #[inline(always)]
     fn process<OM: OutputMode>(&mut self, input: I) -> PResult<I, Self::Output, Self::Error> {

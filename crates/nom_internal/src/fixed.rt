@@ -34,12 +34,22 @@ impl<I: Items, P: Parser<I> + Drop, S: IsStreaming> Parser<I> for Fixed<P, S> {
 
     ghost worded = { λ s. Words.fixed_worded S.STREAMING (P.worded s) };
 
-    ghost Besides = { λ mode old new. P.Besides (with_streaming S.STREAMING mode) old.parser new.parser };
+    ghost SideCondition = { λ mode old new. P.SideCondition (with_streaming S.STREAMING mode) old.parser new.parser };
 
     #[inline(always)]
     fn process<OM: OutputMode>(&mut self, input: I) -> PResult<I, P::Output, P::Error> {
         self.parser
             .process::<OutputM<OM::Output, OM::Error, S>>(input)
+    }
+
+    #[inline(always)]
+    fn width(&self) -> usize {
+        self.parser.width()
+    }
+
+    #[inline(always)]
+    fn groups(&self, input: I, width: usize, most: usize) -> usize {
+        self.parser.groups(input, width, most)
     }
 
     ghost lawful = { λ s k. fixed_lawful (P.lawful s k) };

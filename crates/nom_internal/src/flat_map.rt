@@ -3,7 +3,7 @@ ghost use Rattle.std.specs.Prelude.{true};
 ghost use Rattle.nom_error.specs.Modes.{with_outputs};
 ghost use Rattle.nom_internal.specs.FlatMap.{maker, OfEachGiven, flat_map_by};
 ghost use Rattle.nom_internal.specs.Grammar.{GivesAt};
-ghost use Rattle.nom_internal.specs.Results.{MadeBesides, ThenBesides};
+ghost use Rattle.nom_internal.specs.Results.{MadeSideCondition, ThenSideCondition};
 ghost use Rattle.nom_internal.specs.Word.{keyed};
 ghost use Rattle.nom_internal.specs.Words as Words;
 
@@ -44,8 +44,8 @@ impl<
 
     ghost worded = { λ s. Words.flat_map_worded I.model (maker (G.pre s.1) (G.post s.1) H.state) (keyed H.grammar) (F.worded s.0) };
 
-    ghost Besides = { λ mode old new i. ThenBesides (F.Besides (with_outputs true mode) old.first new.first i)
-        (MadeBesides (GivesAt (F.grammar (F.state old.first)) mode.streaming i) (G.post old.make) (H.Besides mode)) };
+    ghost SideCondition = { λ mode old new i. ThenSideCondition (F.SideCondition (with_outputs true mode) old.first new.first i)
+        (MadeSideCondition (GivesAt (F.grammar (F.state old.first)) mode.streaming i) (G.post old.make) (H.SideCondition mode)) };
 
     #[inline(always)]
     fn process<OM: OutputMode>(&mut self, input: I) -> PResult<I, H::Output, F::Error> {

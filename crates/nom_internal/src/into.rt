@@ -73,7 +73,7 @@ impl<
 
     ghost worded = { λ s. Words.into_worded O.from_gives E.from_gives (F.worded s) };
 
-    ghost Besides = { λ mode old new. F.Besides mode old.parser new.parser };
+    ghost SideCondition = { λ mode old new. F.SideCondition mode old.parser new.parser };
 
     #[inline(always)]
     fn process<OM: OutputMode>(&mut self, input: I) -> PResult<I, O, E> {

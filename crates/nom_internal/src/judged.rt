@@ -4,7 +4,7 @@ ghost use Rattle.nom_error.specs.Answers.{Refuses};
 ghost use Rattle.nom_error.specs.Modes.{with_outputs};
 ghost use Rattle.nom_internal.specs.Closures.{SeesAlike};
 ghost use Rattle.nom_internal.specs.Judged.{map_opt_by, map_res_by};
-ghost use Rattle.nom_internal.specs.Results.{JudgedBesides};
+ghost use Rattle.nom_internal.specs.Results.{JudgedSideCondition};
 ghost use Rattle.nom_internal.specs.laws.JudgedLaws.{judged_lawful, judged_steady};
 ghost use Rattle.nom_internal.specs.laws.MappedLaws.{given_pinned};
 ghost use Rattle.nom_internal.specs.Words as Words;
@@ -46,7 +46,7 @@ impl<I: Items, A: Drop, F: Parser<I, Output = A> + Drop, O: Drop, G: Fn(A) -> Op
 
     ghost worded = { λ s. Words.map_opt_worded F.Error.errors (G.pre s.1) (G.post s.1) (F.worded s.0) };
 
-    ghost Besides = { λ mode old new i. JudgedBesides (F.Besides (with_outputs true mode) old.parser new.parser i) };
+    ghost SideCondition = { λ mode old new i. JudgedSideCondition (F.SideCondition (with_outputs true mode) old.parser new.parser i) };
 
     #[inline(always)]
     fn process<OM: OutputMode>(&mut self, input: I) -> PResult<I, O, F::Error> {
@@ -135,7 +135,7 @@ where
 
     ghost worded = { λ s. Words.map_res_worded F.Error.externals (G.pre s.1) (G.post s.1) (F.worded s.0) };
 
-    ghost Besides = { λ mode old new i. JudgedBesides (F.Besides (with_outputs true mode) old.parser new.parser i) };
+    ghost SideCondition = { λ mode old new i. JudgedSideCondition (F.SideCondition (with_outputs true mode) old.parser new.parser i) };
 
     #[inline(always)]
     fn process<OM: OutputMode>(&mut self, input: I) -> PResult<I, O, F::Error> {

@@ -21,3 +21,4 @@ pub mod sequence;
 pub mod slices;
 pub mod tuple;
 pub mod wide_tuple;
+pub mod width;

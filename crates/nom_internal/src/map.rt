@@ -35,7 +35,7 @@ impl<I: Items, A: Drop, F: Parser<I, Output = A> + Drop, O: Drop, G: Fn(A) -> O>
 
     ghost worded = { λ s. Words.map_worded (G.pre s.1) (G.post s.1) (F.worded s.0) };
 
-    ghost Besides = { λ mode old new. F.Besides mode old.parser new.parser };
+    ghost SideCondition = { λ mode old new. F.SideCondition mode old.parser new.parser };
 
     #[inline(always)]
     fn process<OM: OutputMode>(&mut self, input: I) -> PResult<I, O, F::Error> {
@@ -44,6 +44,16 @@ impl<I: Items, A: Drop, F: Parser<I, Output = A> + Drop, O: Drop, G: Fn(A) -> O>
             Some(output) => Ok((rest, Some((self.map)(output)))),
             None => Ok((rest, None)),
         }
+    }
+
+    #[inline(always)]
+    fn width(&self) -> usize {
+        self.parser.width()
+    }
+
+    #[inline(always)]
+    fn groups(&self, input: I, width: usize, most: usize) -> usize {
+        self.parser.groups(input, width, most)
     }
 
     ghost lawful = { λ s k. map_lawful (F.lawful s.0 k) };

@@ -5,6 +5,7 @@ ghost use Rattle.nom_internal.specs.Grammar.{Grammar, Parses, Shows};
 ghost use Rattle.nom_internal.specs.Meaning.{IsLawful, IsSteady};
 ghost use Rattle.nom_internal.specs.Pinned.{IsPinned};
 ghost use Rattle.nom_internal.specs.Results.{IsFull, HoldsSame, rest_of};
+ghost use Rattle.nom_internal.specs.Width.{HasWidth, HasGroups};
 ghost use Rattle.nom_internal.specs.Word.{Answers, Word};
 
 use crate::and_then::AndThen;
@@ -52,7 +53,7 @@ pub trait Parser<I: Items>: Sized {
     /// The condition that a call must prove in addition to its outcome.
     ///
     /// It depends on the mode, the parser before and after, the input, and the accepted rest.
-    ghost Besides: { Modes → Self → Self → I → Option I → Type 0 } = { λ _ _ _ _ _. Unit {0} };
+    ghost SideCondition: { Modes → Self → Self → I → Option I → Type 0 } = { λ _ _ _ _ _. Unit {0} };
 
     /// Runs the parser in the mode `OM`.
     ///
@@ -62,7 +63,24 @@ pub trait Parser<I: Items>: Sized {
         ensures shown { Shows I.model (grammar (state self.old)) (modes OM.Output.BUILDS OM.Error.BUILDS OM.Incomplete.STREAMING) input result }
         // A call keeps the meaning.
         ensures kept { state self.new ≡ state self.old }
-        ensures besides { Besides (modes OM.Output.BUILDS OM.Error.BUILDS OM.Incomplete.STREAMING) self.old self.new input (rest_of result) };
+        ensures side_condition { SideCondition (modes OM.Output.BUILDS OM.Error.BUILDS OM.Incomplete.STREAMING) self.old self.new input (rest_of result) };
+
+    /// Returns the number of items that the parser takes from every input that has so many, or 0 if there is no
+    /// such number.
+    #[inline(always)]
+    fn width(&self) -> usize
+        ensures { HasWidth I.model (grammar (state self.now)).meaning result }
+    {
+        0
+    }
+
+    /// Returns a number of groups of `width` items that the input has, at most `most`. It may have more of them.
+    #[inline(always)]
+    fn groups(&self, input: I, width: usize, most: usize) -> usize
+        ensures { HasGroups I.model input width most result }
+    {
+        0
+    }
 
     /// The laws of a sound parser.
     ///
@@ -80,7 +98,7 @@ pub trait Parser<I: Items>: Sized {
         ensures written { Answers I.model (word (state self.old)) true input result }
         ensures shown { Parses I.model (grammar (state self.old)) true input result }
         ensures kept { state self.new ≡ state self.old }
-        ensures besides { Besides (modes true true true) self.old self.new input (rest_of result) }
+        ensures side_condition { SideCondition (modes true true true) self.old self.new input (rest_of result) }
     {
         full(self.process::<OutputM<Emit, Emit, Streaming>>(input))
     }
@@ -92,7 +110,7 @@ pub trait Parser<I: Items>: Sized {
         ensures written { Answers I.model (word (state self.old)) false input result }
         ensures shown { Parses I.model (grammar (state self.old)) false input result }
         ensures kept { state self.new ≡ state self.old }
-        ensures besides { Besides (modes true true false) self.old self.new input (rest_of result) }
+        ensures side_condition { SideCondition (modes true true false) self.old self.new input (rest_of result) }
     {
         full(self.process::<OutputM<Emit, Emit, Complete>>(input))
     }

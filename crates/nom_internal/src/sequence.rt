@@ -1,6 +1,6 @@
 //! One parser after another.
 ghost use Rattle.std.specs.Prelude.{◌≡◌, Some, None};
-ghost use Rattle.nom_internal.specs.Results.{ThenBesides};
+ghost use Rattle.nom_internal.specs.Results.{ThenSideCondition};
 ghost use Rattle.nom_internal.specs.Sequence.{pair_of};
 ghost use Rattle.nom_internal.specs.Words as Words;
 
@@ -47,7 +47,7 @@ impl<I: Items, F: Parser<I> + Drop, G: Parser<I, Error = F::Error> + Drop> Parse
 
     ghost worded = { λ s. Words.pair_worded I.model (F.worded s.0) (G.worded s.1) };
 
-    ghost Besides = { λ mode old new i. ThenBesides (F.Besides mode old.first new.first i) (G.Besides mode old.second new.second) };
+    ghost SideCondition = { λ mode old new i. ThenSideCondition (F.SideCondition mode old.first new.first i) (G.SideCondition mode old.second new.second) };
 
     #[inline(always)]
     fn process<OM: OutputMode>(&mut self, input: I) -> PResult<I, Self::Output, Self::Error> {

@@ -7,7 +7,7 @@ ghost use Rattle.std.proofs.Common.{refl};
 ghost use Rattle.nom_error.specs.Modes.{modes, with_outputs};
 ghost use Rattle.nom_internal.specs.Meaning.{ShowsMeaning};
 ghost use Rattle.nom_internal.specs.Sequence.{pair_of};
-ghost use Rattle.nom_internal.specs.Results.{rest_of, with_output, ThenBesides};
+ghost use Rattle.nom_internal.specs.Results.{rest_of, with_output, ThenSideCondition};
 ghost use Rattle.nom_internal.specs.Tuples.{tuple_of};
 ghost use Rattle.nom_internal.specs.Pinned.{pair_pinned};
 ghost use Rattle.nom_internal.specs.laws.TupleLaws.{built_lawful, pair_lawful, built_steady, pair_steady, flat_pinned, single_pinned};
@@ -16,6 +16,7 @@ ghost use Rattle.nom_internal.specs.Words as Plain;
 
 use crate::built::built;
 use crate::parser::{Parser, StreamParser};
+use crate::width::both_widths;
 use nom_error::answer::{Err, PResult};
 use nom_error::mode::{Emit, OutputM, OutputMode};
 use nom_traits::input::Items;
@@ -30,7 +31,7 @@ pub fn member<I: Items, P: Parser<I>, OM: OutputMode>(
     ensures shown { ShowsMeaning I.model (P.grammar (P.state part.old)).IsOutput (P.grammar (P.state part.old)).meaning
         (modes true OM.Error.BUILDS OM.Incomplete.STREAMING) input (with_output result) }
     ensures kept { P.state part.new ≡ P.state part.old }
-    ensures besides { P.Besides (modes true OM.Error.BUILDS OM.Incomplete.STREAMING) part.old part.new input (rest_of result) }
+    ensures side_condition { P.SideCondition (modes true OM.Error.BUILDS OM.Incomplete.STREAMING) part.old part.new input (rest_of result) }
 {
     let (rest, output) = part.process::<OutputM<Emit, OM::Error, OM::Incomplete>>(input)?;
     match output {
@@ -56,7 +57,7 @@ impl<I: Items, A: Parser<I>> Parser<I> for (A,) {
 
     ghost worded = { λ s. Plain.tuple_worded (λ o. o.0) (A.worded s) };
 
-    ghost Besides = { λ mode old new i. A.Besides (with_outputs true mode) old.0 new.0 i };
+    ghost SideCondition = { λ mode old new i. A.SideCondition (with_outputs true mode) old.0 new.0 i };
 
     #[inline(always)]
     fn process<OM: OutputMode>(&mut self, input: I) -> PResult<I, Self::Output, Self::Error> {
@@ -92,7 +93,8 @@ impl<I: Items, A: Parser<I>, B: Parser<I, Error = A::Error>> Parser<I> for (A, B
 
     ghost worded = { λ s. Words.tuple_of_two_worded I.model (A.worded s.0) (B.worded s.1) };
 
-    ghost Besides = { λ mode old new i. ThenBesides (A.Besides (with_outputs true mode) old.0 new.0 i) (B.Besides (with_outputs true mode) old.1
+    ghost SideCondition = { λ mode old new i. ThenSideCondition (A.SideCondition (with_outputs true mode) old.0 new.0 i) (B.SideCondition (with_outputs
+        true mode) old.1
         new.1) };
 
     #[inline(always)]
@@ -100,6 +102,18 @@ impl<I: Items, A: Parser<I>, B: Parser<I, Error = A::Error>> Parser<I> for (A, B
         let (rest, a) = member::<I, A, OM>(&mut self.0, input)?;
         let (rest, b) = member::<I, B, OM>(&mut self.1, rest)?;
         Ok((rest, built::<OM::Output, _>((a, b))))
+    }
+
+    #[inline(always)]
+    fn width(&self) -> usize {
+        let a = self.0.width();
+        let b = self.1.width();
+        both_widths(a, b)
+    }
+
+    #[inline(always)]
+    fn groups(&self, input: I, width: usize, most: usize) -> usize {
+        self.0.groups(input, width, most)
     }
 
     ghost lawful = { λ s k. built_lawful (pair_lawful I.lawful (A.lawful s.0 k.0) (B.lawful s.1 k.1)) };
@@ -133,8 +147,9 @@ impl<I: Items, A: Parser<I>, B: Parser<I, Error = A::Error>, C: Parser<I, Error 
 
     ghost worded = { λ s. Words.tuple_of_three_worded I.model (A.worded s.0) (B.worded s.1) (C.worded s.2) };
 
-    ghost Besides = { λ mode old new i. ThenBesides (A.Besides (with_outputs true mode) old.0 new.0 i) (λ j. ThenBesides (B.Besides (with_outputs
-        true mode) old.1 new.1 j) (C.Besides (with_outputs true mode) old.2 new.2)) };
+    ghost SideCondition = { λ mode old new i. ThenSideCondition (A.SideCondition (with_outputs true mode) old.0 new.0 i) (λ j. ThenSideCondition
+        (B.SideCondition (with_outputs
+        true mode) old.1 new.1 j) (C.SideCondition (with_outputs true mode) old.2 new.2)) };
 
     #[inline(always)]
     fn process<OM: OutputMode>(&mut self, input: I) -> PResult<I, Self::Output, Self::Error> {
@@ -142,6 +157,20 @@ impl<I: Items, A: Parser<I>, B: Parser<I, Error = A::Error>, C: Parser<I, Error 
         let (rest, b) = member::<I, B, OM>(&mut self.1, rest)?;
         let (rest, c) = member::<I, C, OM>(&mut self.2, rest)?;
         Ok((rest, built::<OM::Output, _>((a, b, c))))
+    }
+
+    #[inline(always)]
+    fn width(&self) -> usize {
+        let a = self.0.width();
+        let b = self.1.width();
+        let c = self.2.width();
+        let b_on = both_widths(b, c);
+        both_widths(a, b_on)
+    }
+
+    #[inline(always)]
+    fn groups(&self, input: I, width: usize, most: usize) -> usize {
+        self.0.groups(input, width, most)
     }
 
     ghost lawful = { λ s k. built_lawful (pair_lawful I.lawful (A.lawful s.0 k.0) (pair_lawful I.lawful (B.lawful s.1 k.1.0) (C.lawful s.2 k.1.1))) };
@@ -185,8 +214,10 @@ impl<
 
     ghost worded = { λ s. Words.tuple_of_four_worded I.model (A.worded s.0) (B.worded s.1) (C.worded s.2) (D.worded s.3) };
 
-    ghost Besides = { λ mode old new i. ThenBesides (A.Besides (with_outputs true mode) old.0 new.0 i) (λ j. ThenBesides (B.Besides (with_outputs
-        true mode) old.1 new.1 j) (λ k. ThenBesides (C.Besides (with_outputs true mode) old.2 new.2 k) (D.Besides (with_outputs true mode) old.3
+    ghost SideCondition = { λ mode old new i. ThenSideCondition (A.SideCondition (with_outputs true mode) old.0 new.0 i) (λ j. ThenSideCondition
+        (B.SideCondition (with_outputs
+        true mode) old.1 new.1 j) (λ k. ThenSideCondition (C.SideCondition (with_outputs true mode) old.2 new.2 k) (D.SideCondition (with_outputs true
+        mode) old.3
         new.3))) };
 
     #[inline(always)]
@@ -196,6 +227,22 @@ impl<
         let (rest, c) = member::<I, C, OM>(&mut self.2, rest)?;
         let (rest, d) = member::<I, D, OM>(&mut self.3, rest)?;
         Ok((rest, built::<OM::Output, _>((a, b, c, d))))
+    }
+
+    #[inline(always)]
+    fn width(&self) -> usize {
+        let a = self.0.width();
+        let b = self.1.width();
+        let c = self.2.width();
+        let d = self.3.width();
+        let c_on = both_widths(c, d);
+        let b_on = both_widths(b, c_on);
+        both_widths(a, b_on)
+    }
+
+    #[inline(always)]
+    fn groups(&self, input: I, width: usize, most: usize) -> usize {
+        self.0.groups(input, width, most)
     }
 
     ghost lawful = { λ s k. built_lawful (pair_lawful I.lawful (A.lawful s.0 k.0) (pair_lawful I.lawful (B.lawful s.1 k.1.0) (pair_lawful I.lawful

@@ -2,7 +2,7 @@
 ghost use Rattle.std.specs.Prelude.{true};
 ghost use Rattle.std.proofs.Common.{refl};
 ghost use Rattle.nom_error.specs.Modes.{with_outputs};
-ghost use Rattle.nom_internal.specs.Results.{ThenBesides};
+ghost use Rattle.nom_internal.specs.Results.{ThenSideCondition};
 ghost use Rattle.nom_internal.specs.Sequence.{pair_of};
 ghost use Rattle.nom_internal.specs.Tuples.{tuple_of};
 ghost use Rattle.nom_internal.specs.Pinned.{pair_pinned};
@@ -12,6 +12,7 @@ ghost use Rattle.nom_internal.specs.TupleWords as Words;
 use crate::built::built;
 use crate::parser::{Parser, StreamParser};
 use crate::tuple::member;
+use crate::width::both_widths;
 use nom_error::answer::PResult;
 use nom_error::mode::OutputMode;
 use nom_traits::input::Items;
@@ -41,9 +42,11 @@ impl<
 
     ghost worded = { λ s. Words.tuple_of_five_worded I.model (A.worded s.0) (B.worded s.1) (C.worded s.2) (D.worded s.3) (E.worded s.4) };
 
-    ghost Besides = { λ mode old new i. ThenBesides (A.Besides (with_outputs true mode) old.0 new.0 i) (λ j. ThenBesides (B.Besides (with_outputs
-        true mode) old.1 new.1 j) (λ k. ThenBesides (C.Besides (with_outputs true mode) old.2 new.2 k) (λ l. ThenBesides (D.Besides (with_outputs
-        true mode) old.3 new.3 l) (E.Besides (with_outputs true mode) old.4 new.4)))) };
+    ghost SideCondition = { λ mode old new i. ThenSideCondition (A.SideCondition (with_outputs true mode) old.0 new.0 i) (λ j. ThenSideCondition
+        (B.SideCondition (with_outputs
+        true mode) old.1 new.1 j) (λ k. ThenSideCondition (C.SideCondition (with_outputs true mode) old.2 new.2 k) (λ l. ThenSideCondition (D.SideCondition
+        (with_outputs
+        true mode) old.3 new.3 l) (E.SideCondition (with_outputs true mode) old.4 new.4)))) };
 
     #[inline(always)]
     fn process<OM: OutputMode>(&mut self, input: I) -> PResult<I, Self::Output, Self::Error> {
@@ -53,6 +56,24 @@ impl<
         let (rest, d) = member::<I, D, OM>(&mut self.3, rest)?;
         let (rest, e) = member::<I, E, OM>(&mut self.4, rest)?;
         Ok((rest, built::<OM::Output, _>((a, b, c, d, e))))
+    }
+
+    #[inline(always)]
+    fn width(&self) -> usize {
+        let a = self.0.width();
+        let b = self.1.width();
+        let c = self.2.width();
+        let d = self.3.width();
+        let e = self.4.width();
+        let d_on = both_widths(d, e);
+        let c_on = both_widths(c, d_on);
+        let b_on = both_widths(b, c_on);
+        both_widths(a, b_on)
+    }
+
+    #[inline(always)]
+    fn groups(&self, input: I, width: usize, most: usize) -> usize {
+        self.0.groups(input, width, most)
     }
 
     ghost lawful = { λ s k. built_lawful (pair_lawful I.lawful (A.lawful s.0 k.0) (pair_lawful I.lawful (B.lawful s.1 k.1.0) (pair_lawful I.lawful
@@ -110,9 +131,12 @@ impl<
 
     ghost worded = { λ s. Words.tuple_of_six_worded I.model (A.worded s.0) (B.worded s.1) (C.worded s.2) (D.worded s.3) (E.worded s.4) (F.worded s.5) };
 
-    ghost Besides = { λ mode old new i. ThenBesides (A.Besides (with_outputs true mode) old.0 new.0 i) (λ j. ThenBesides (B.Besides (with_outputs
-        true mode) old.1 new.1 j) (λ k. ThenBesides (C.Besides (with_outputs true mode) old.2 new.2 k) (λ l. ThenBesides (D.Besides (with_outputs
-        true mode) old.3 new.3 l) (λ m. ThenBesides (E.Besides (with_outputs true mode) old.4 new.4 m) (F.Besides (with_outputs true mode) old.5
+    ghost SideCondition = { λ mode old new i. ThenSideCondition (A.SideCondition (with_outputs true mode) old.0 new.0 i) (λ j. ThenSideCondition
+        (B.SideCondition (with_outputs
+        true mode) old.1 new.1 j) (λ k. ThenSideCondition (C.SideCondition (with_outputs true mode) old.2 new.2 k) (λ l. ThenSideCondition (D.SideCondition
+        (with_outputs
+        true mode) old.3 new.3 l) (λ m. ThenSideCondition (E.SideCondition (with_outputs true mode) old.4 new.4 m) (F.SideCondition (with_outputs true
+        mode) old.5
         new.5))))) };
 
     #[inline(always)]
@@ -124,6 +148,26 @@ impl<
         let (rest, e) = member::<I, E, OM>(&mut self.4, rest)?;
         let (rest, f) = member::<I, F, OM>(&mut self.5, rest)?;
         Ok((rest, built::<OM::Output, _>((a, b, c, d, e, f))))
+    }
+
+    #[inline(always)]
+    fn width(&self) -> usize {
+        let a = self.0.width();
+        let b = self.1.width();
+        let c = self.2.width();
+        let d = self.3.width();
+        let e = self.4.width();
+        let f = self.5.width();
+        let e_on = both_widths(e, f);
+        let d_on = both_widths(d, e_on);
+        let c_on = both_widths(c, d_on);
+        let b_on = both_widths(b, c_on);
+        both_widths(a, b_on)
+    }
+
+    #[inline(always)]
+    fn groups(&self, input: I, width: usize, most: usize) -> usize {
+        self.0.groups(input, width, most)
     }
 
     ghost lawful = { λ s k. built_lawful (pair_lawful I.lawful (A.lawful s.0 k.0) (pair_lawful I.lawful (B.lawful s.1 k.1.0) (pair_lawful I.lawful
@@ -202,10 +246,13 @@ impl<
     ghost worded = { λ s. Words.tuple_of_seven_worded I.model (A.worded s.0) (B.worded s.1) (C.worded s.2) (D.worded s.3) (E.worded s.4) (F.worded
         s.5) (G.worded s.6) };
 
-    ghost Besides = { λ mode old new i. ThenBesides (A.Besides (with_outputs true mode) old.0 new.0 i) (λ j. ThenBesides (B.Besides (with_outputs
-        true mode) old.1 new.1 j) (λ k. ThenBesides (C.Besides (with_outputs true mode) old.2 new.2 k) (λ l. ThenBesides (D.Besides (with_outputs
-        true mode) old.3 new.3 l) (λ m. ThenBesides (E.Besides (with_outputs true mode) old.4 new.4 m) (λ n. ThenBesides (F.Besides (with_outputs
-        true mode) old.5 new.5 n) (G.Besides (with_outputs true mode) old.6 new.6)))))) };
+    ghost SideCondition = { λ mode old new i. ThenSideCondition (A.SideCondition (with_outputs true mode) old.0 new.0 i) (λ j. ThenSideCondition
+        (B.SideCondition (with_outputs
+        true mode) old.1 new.1 j) (λ k. ThenSideCondition (C.SideCondition (with_outputs true mode) old.2 new.2 k) (λ l. ThenSideCondition (D.SideCondition
+        (with_outputs
+        true mode) old.3 new.3 l) (λ m. ThenSideCondition (E.SideCondition (with_outputs true mode) old.4 new.4 m) (λ n. ThenSideCondition (F.SideCondition
+        (with_outputs
+        true mode) old.5 new.5 n) (G.SideCondition (with_outputs true mode) old.6 new.6)))))) };
 
     #[inline(always)]
     fn process<OM: OutputMode>(&mut self, input: I) -> PResult<I, Self::Output, Self::Error> {
@@ -217,6 +264,28 @@ impl<
         let (rest, f) = member::<I, F, OM>(&mut self.5, rest)?;
         let (rest, g) = member::<I, G, OM>(&mut self.6, rest)?;
         Ok((rest, built::<OM::Output, _>((a, b, c, d, e, f, g))))
+    }
+
+    #[inline(always)]
+    fn width(&self) -> usize {
+        let a = self.0.width();
+        let b = self.1.width();
+        let c = self.2.width();
+        let d = self.3.width();
+        let e = self.4.width();
+        let f = self.5.width();
+        let g = self.6.width();
+        let f_on = both_widths(f, g);
+        let e_on = both_widths(e, f_on);
+        let d_on = both_widths(d, e_on);
+        let c_on = both_widths(c, d_on);
+        let b_on = both_widths(b, c_on);
+        both_widths(a, b_on)
+    }
+
+    #[inline(always)]
+    fn groups(&self, input: I, width: usize, most: usize) -> usize {
+        self.0.groups(input, width, most)
     }
 
     ghost lawful = { λ s k. built_lawful (pair_lawful I.lawful (A.lawful s.0 k.0) (pair_lawful I.lawful (B.lawful s.1 k.1.0) (pair_lawful I.lawful
@@ -294,10 +363,14 @@ impl<
     ghost worded = { λ s. Words.tuple_of_eight_worded I.model (A.worded s.0) (B.worded s.1) (C.worded s.2) (D.worded s.3) (E.worded s.4) (F.worded
         s.5) (G.worded s.6) (H.worded s.7) };
 
-    ghost Besides = { λ mode old new i. ThenBesides (A.Besides (with_outputs true mode) old.0 new.0 i) (λ j. ThenBesides (B.Besides (with_outputs
-        true mode) old.1 new.1 j) (λ k. ThenBesides (C.Besides (with_outputs true mode) old.2 new.2 k) (λ l. ThenBesides (D.Besides (with_outputs
-        true mode) old.3 new.3 l) (λ m. ThenBesides (E.Besides (with_outputs true mode) old.4 new.4 m) (λ n. ThenBesides (F.Besides (with_outputs
-        true mode) old.5 new.5 n) (λ o. ThenBesides (G.Besides (with_outputs true mode) old.6 new.6 o) (H.Besides (with_outputs true mode) old.7
+    ghost SideCondition = { λ mode old new i. ThenSideCondition (A.SideCondition (with_outputs true mode) old.0 new.0 i) (λ j. ThenSideCondition
+        (B.SideCondition (with_outputs
+        true mode) old.1 new.1 j) (λ k. ThenSideCondition (C.SideCondition (with_outputs true mode) old.2 new.2 k) (λ l. ThenSideCondition (D.SideCondition
+        (with_outputs
+        true mode) old.3 new.3 l) (λ m. ThenSideCondition (E.SideCondition (with_outputs true mode) old.4 new.4 m) (λ n. ThenSideCondition (F.SideCondition
+        (with_outputs
+        true mode) old.5 new.5 n) (λ o. ThenSideCondition (G.SideCondition (with_outputs true mode) old.6 new.6 o) (H.SideCondition (with_outputs true
+        mode) old.7
         new.7))))))) };
 
     #[inline(always)]
@@ -311,6 +384,30 @@ impl<
         let (rest, g) = member::<I, G, OM>(&mut self.6, rest)?;
         let (rest, h) = member::<I, H, OM>(&mut self.7, rest)?;
         Ok((rest, built::<OM::Output, _>((a, b, c, d, e, f, g, h))))
+    }
+
+    #[inline(always)]
+    fn width(&self) -> usize {
+        let a = self.0.width();
+        let b = self.1.width();
+        let c = self.2.width();
+        let d = self.3.width();
+        let e = self.4.width();
+        let f = self.5.width();
+        let g = self.6.width();
+        let h = self.7.width();
+        let g_on = both_widths(g, h);
+        let f_on = both_widths(f, g_on);
+        let e_on = both_widths(e, f_on);
+        let d_on = both_widths(d, e_on);
+        let c_on = both_widths(c, d_on);
+        let b_on = both_widths(b, c_on);
+        both_widths(a, b_on)
+    }
+
+    #[inline(always)]
+    fn groups(&self, input: I, width: usize, most: usize) -> usize {
+        self.0.groups(input, width, most)
     }
 
     ghost lawful = { λ s k. built_lawful (pair_lawful I.lawful (A.lawful s.0 k.0) (pair_lawful I.lawful (B.lawful s.1 k.1.0) (pair_lawful I.lawful

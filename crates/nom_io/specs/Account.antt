@@ -1,4 +1,4 @@
--- What is known of a source or a sink: its bytes, and the counts of its calls.
+-- The account of a source or a sink: its bytes, and the counts of its calls.
 use Rattle.std.specs.Prelude.{◌≡◌, ℕ, ◌+◌, ◌-◌, ◌^◌, ◌<◌, min, ◌⊎◌, List, Option, Result, MatchResult}
 
 -- Its bytes where they are known, which are those that it has left or that it holds. How many calls were made, how many of them

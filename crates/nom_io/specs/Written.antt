@@ -1,4 +1,4 @@
--- What was written of a text.
+-- Texts that were written, whole or in part.
 use Rattle.std.specs.Prelude.{◌≡◌, ℕ, ◌<◌, List, ◌++◌, length}
 use Rattle.std.specs.Io.KnownBytes.{Appends}
 use Rattle.nom_io.specs.Account.{Account, NoneFailed, OneFailed}

@@ -1,4 +1,4 @@
--- What is wanted where a part is missing.
+-- Lemmas on the expectations where a part is missing.
 use Rattle.std.proofs.Common.{arith, ◌≡◌, ℕ, zero, suc, ◌-◌, ◌<◌, Bool, false, List, [], ◌∷◌, length, take, drop, Result, Ok, Err, IfOk}
 use Rattle.std.proofs.Common.{◌∙◌, ap, subst, sym, inl, inr}
 use Rattle.std.proofs.lemmas.List.{length-drop}

@@ -1,4 +1,4 @@
--- What is left of a JSON text at a place within it, by the brackets that lie open there, the innermost first.
+-- The rest of a JSON text at a place within it, by the brackets that lie open there, the innermost first.
 use Rattle.std.specs.Prelude.{◌≡◌, ℕ, ◌<◌, ◌≤◌, ◌⊎◌, ◌↔◌, true, List, [], ◌∷◌, Option, MatchOption, length, drop, codes}
 use Rattle.nom_json_run.specs.Json.{JsonInside, JsonItem, JsonItems, JsonValue, after_spaces, begins, closing, rest, IsValue}
 use Rattle.nom_json_run.specs.Scans.{BeginsAs, FailsFor, IsMissing}

@@ -1,4 +1,4 @@
--- What expressions show whose fold refuses, or finds no memory.
+-- Lemmas on the answers of expressions whose fold refuses, or finds no memory.
 use Rattle.std.specs.Prelude.{◌≡◌, Option, Some, None, Result, Ok, Err, is_ok, refl}
 use Rattle.std.proofs.Common.{ap, inr, subst, sym, true}
 use Rattle.nom_error.specs.declared.answer.Err as Answer

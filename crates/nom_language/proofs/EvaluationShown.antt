@@ -1,4 +1,4 @@
--- What is evaluated of terms, as they are read.
+-- Lemmas on the evaluation of terms, as they are read.
 use Rattle.std.specs.Prelude.{◌≡◌, ◌<◌, ◌⊎◌, Bool, true, List, [], ◌∷◌, ◌++◌, length, Option, Some, None, IsSome, Result, refl}
 use Rattle.std.proofs.Common.{sym, ◌∙◌, ap, subst, inl, append_assoc, append-nil}
 use Rattle.nom_internal.specs.Prelude.{PResult, Built, Modes, Model, Outcome, Accept, ShowsAnswer, RanOut, Shown, Meaning, closed_meaning}

@@ -1,4 +1,4 @@
--- What is built of outputs that are built, and what a fold from the left makes of pairs.
+-- Lemmas on outputs that are built, and on the fold of pairs from the left.
 use Rattle.std.specs.Prelude.{◌≡◌, Bool, true, false, List, [], ◌∷◌, Option, Some, None, MatchOption, refl}
 use Rattle.std.specs.List.{FoldsTo}
 use Rattle.std.proofs.Common.{sym, ◌∙◌, ap, subst}

@@ -1,4 +1,4 @@
--- What the error of a fold says that may take memory.
+-- The error of a fold that may take memory, and what it says.
 use Rattle.std.specs.Prelude.{◌≡◌, Bool, Option, Some, Result, Ok, Err}
 use Rattle.nom_error.specs.declared.answer.Err as Answer
 use Rattle.nom_internal.specs.Prelude.{Needed, Refuses}

@@ -1,4 +1,4 @@
--- What terms with operators between them stand for.
+-- The values of terms with operators between them.
 use Rattle.std.specs.Prelude.{List, [], ◌∷◌, ◌++◌, Result, Vec}
 use Rattle.std.specs.List.{AllZip}
 use Rattle.nom_operators.specs.Evaluations.{IsValueOf, term_symbols}

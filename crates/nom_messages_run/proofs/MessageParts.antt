@@ -1,4 +1,4 @@
--- What holds of the grammar of messages by its parts holds of the grammar.
+-- Lemmas on the grammar of messages: what holds of it by its parts holds of it.
 use Rattle.std.proofs.Common.{◌≡◌, ℕ, List, [], ◌∷◌, length, subst}
 use Rattle.nom.specs.grammars.Bytes.{BytesGrammar, Endianness, Big, all_consuming_of, alt_of}
 use Rattle.nom.specs.grammars.Bytes.{length_data_of, length_value_of, map_of, number_of, or_of, pair_of}

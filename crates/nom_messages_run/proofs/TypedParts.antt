@@ -1,4 +1,4 @@
--- What holds of the grammar of typed lines by its parts holds of the grammar.
+-- Lemmas on the grammar of typed lines: what holds of it by its parts holds of it.
 use Rattle.std.proofs.Common.{◌≡◌, ℕ, ℤ, Bool, false, List, codes, subst, pos}
 use Rattle.nom_internal.specs.Prelude.{bytes_model}
 use Rattle.std.specs.Int.{FitsUnsignedBits}

@@ -1,4 +1,4 @@
--- What is written is that of the whole.
+-- Lemmas on the messages of a whole: what is written is that of the whole.
 use Rattle.std.proofs.Common.{arith, ◌≡◌, ℕ, zero, suc, ◌+◌, ◌-◌, ◌^◌, ◌<◌, ◌≤◌, min, Bool, true, false, List, [], ◌∷◌, ◌++◌, length, Option, Some, None}
 use Rattle.std.proofs.Common.{Ok, refl, sym, ◌∙◌, ap, subst, take}
 use Rattle.nom_io.specs.Account.{Account}

@@ -1,4 +1,4 @@
--- What the parser of messages answers.
+-- Lemmas on the answers of the parser of messages.
 use Rattle.std.proofs.Common.{◌≡◌, ℕ, true, List, [], ◌∷◌, Err, Vec, sym, subst, inl, inr, ◌⊎◌}
 use Rattle.nom_internal.specs.Prelude.{IResult, OutOfMemory, bytes_model, Meaning, Outcome, TooLarge, ParsesOutcome}
 use Rattle.nom_error.specs.declared.value.Error.{Error}

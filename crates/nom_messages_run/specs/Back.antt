@@ -1,4 +1,4 @@
--- What is written of messages is read back as these messages.
+-- Messages that are written, and read back as the same messages.
 use Rattle.std.specs.Prelude.{◌≡◌, ℕ, ◌-◌, ◌^◌, ◌<◌, ◌≤◌, List, [], ◌++◌, length, Option, Some, None}
 use Rattle.nom_io.specs.Account.{Account}
 use Rattle.nom_io.specs.Written.{Wrote}

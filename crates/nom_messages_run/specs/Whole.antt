@@ -1,4 +1,4 @@
--- What is written of messages that come one after another is that of the whole of the data.
+-- The lines that are written of messages, one after another: those of the whole of the data.
 use Rattle.std.specs.Prelude.{◌≡◌, ℕ, ◌+◌, ◌-◌, ◌^◌, ◌<◌, ◌≤◌, min, Bool, false, List, [], ◌∷◌, ◌++◌, length, take, Option, Some, None}
 use Rattle.nom_io.specs.Account.{Account}
 use Rattle.nom_io.specs.Written.{Wrote}

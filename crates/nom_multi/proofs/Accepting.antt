@@ -1,4 +1,4 @@
--- What lists accept.
+-- Lemmas on the acceptances of lists.
 use Rattle.std.specs.Prelude.{ltb}
 use Rattle.std.proofs.lemmas.Bool.{le-ltb, ltb-false}
 use Rattle.std.proofs.Common.{◌≡◌, Bool, true, false, ℕ, ◌<◌, ◌≤◌, Some, None, refl}

@@ -1,4 +1,4 @@
--- What stands in a buffer, and what is shown of it.
+-- Lemmas on the items in a buffer, and on what is shown of it.
 use Rattle.std.proofs.Common.{◌≡◌, ℕ, ◌+◌, ◌<◌, ◌≤◌, Bool, true, false, Err, Option, Some, None, List, ◌∷◌, [], ◌++◌, length, refl, suc, arith}
 use Rattle.std.proofs.Common.{inl, inr, ap, subst, sym, ◌∙◌}
 use Rattle.std.specs.Prelude.{drop, set}

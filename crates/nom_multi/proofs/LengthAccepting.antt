@@ -1,4 +1,4 @@
--- What a list after its length accepts.
+-- Lemmas on the acceptances of a list after its length.
 use Rattle.std.proofs.Common.{ℕ, Some, ap, sym, subst}
 use Rattle.nom_internal.specs.Prelude.{Errors, Model, Accept, Meaning, of_value}
 use Rattle.nom_repeat.specs.Accepted.{InTurn}

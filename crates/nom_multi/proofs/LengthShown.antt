@@ -1,4 +1,4 @@
--- What is shown after a length.
+-- Lemmas on the answers of what stands after a length.
 use Rattle.std.proofs.Common.{◌≡◌, ℕ, true, Ok, Option, Some, sym}
 use Rattle.nom_internal.specs.Prelude.{PResult, Modes, with_outputs, Model, InputLaws, Outcome, Accept, Refuse, Stop, Fails, Needs, ShowsOutcome}
 use Rattle.nom_internal.specs.Prelude.{ShowsAnswer, RanOut}

@@ -1,4 +1,4 @@
--- What follows from the items of a repetition.
+-- Lemmas on the items of a repetition, and what follows from them.
 use Rattle.std.specs.Prelude.{ltb}
 use Rattle.std.proofs.lemmas.Bool.{le-ltb}
 use Rattle.std.proofs.Common.{◌≡◌, Bool, true, false, ℕ, ◌+◌, Option, Some, None, List, [], ◌∷◌, zero, suc, refl, arith, sym, subst}

@@ -1,4 +1,4 @@
--- What lists until an end accept.
+-- Lemmas on the acceptances of lists until an end.
 use Rattle.std.proofs.Common.{◌≡◌, Bool, ℕ, ◌+◌, ◌<◌, ◌⊎◌, Option, Some, None, List, [], ◌∷◌, zero, suc, refl, arith, ap, subst, sym, inl, inr}
 use Rattle.nom_internal.specs.Prelude.{Errors, Model, Outcome, Accept, Refuse, Stop, Meaning, labelled, labelled_meaning, GoesOnRefused}
 use Rattle.nom_repeat.specs.Repeat.{Turn, Pieces, Replies, TurnsBy}

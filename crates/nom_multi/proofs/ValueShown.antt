@@ -1,4 +1,4 @@
--- What is shown on exactly that much of an input.
+-- Lemmas on the answers on exactly that much of an input.
 use Rattle.std.proofs.Common.{◌≡◌, ℕ, ◌-◌, ◌<◌, ◌≤◌, true, Ok, Err, Option, Some, inl, inr, arith, ◌∙◌, ap, subst, refl}
 use Rattle.nom_internal.specs.Prelude.{Needed, Incomplete, PResult, size_of, Refuses, Errors, Built, Modes, with_streaming, Model, IsBoundary, IsSuffixOf}
 use Rattle.nom_internal.specs.Prelude.{input_len, Slice, IsFirst, IsModelledBy, place_first, leaf_meaning, Outcome, Accept, Refuse, Stop, Fails, Needs}

@@ -1,4 +1,4 @@
--- What a list after its length promises, said of the meanings.
+-- The promises of a list after its length, on the meanings.
 use Rattle.std.specs.Prelude.{◌≡◌, ℕ, ◌+◌, ◌↔◌, Bool, Some, List}
 use Rattle.nom_internal.specs.Prelude.{Model, IsSuffixOf, Outcome, Accept, Meaning}
 use Rattle.nom_repeat.specs.Accepted.{InTurn}

@@ -1,4 +1,4 @@
--- What stands after a length.
+-- Lengths, and what stands after them.
 use Rattle.std.specs.Prelude.{◌≡◌, ℕ, true, List, Option, Vec}
 use Rattle.nom_internal.specs.Prelude.{Errors, modes, with_outputs, Model, Slice, Meaning, Family, of_value, then_meaning, Grammar, IsModelledBy}
 use Rattle.nom_bytes.specs.Takes.{take_meaning}

@@ -1,4 +1,4 @@
--- What the repetitions promise, said of their meanings.
+-- The promises of the repetitions, on their meanings.
 use Rattle.std.specs.Prelude.{◌≡◌, ℕ, ◌+◌, ◌<◌, ◌≤◌, ◌↔◌, Bool, List, length}
 use Rattle.nom_internal.specs.Prelude.{Model, IsSuffixOf, input_len, Outcome, Accept, Refuse, Meaning}
 use Rattle.nom_repeat.specs.Repeat.{Turn, Pieces}

@@ -8,7 +8,7 @@ use nom_error::kind::ErrorKind;
 use nom_error::mode::OutputMode;
 use nom_error::value::ParseError;
 use nom_internal::parser::{Parser, StreamParser};
-use nom_repeat::accumulator::{none_yet, with_room};
+use nom_repeat::ahead::list_ahead;
 use nom_repeat::bounds::bounded_items;
 use nom_repeat::exact::items_exactly;
 use nom_repeat::inverted::failure;
@@ -44,7 +44,13 @@ impl<I: Items, A: Allocator + Copy, F: Parser<I> + Drop> Parser<I> for Count<A, 
 
     #[inline]
     fn process<OM: OutputMode>(&mut self, input: I) -> PResult<I, Self::Output, Self::Error> {
-        let none = with_room::<OM::Output, F::Output, A>(self.alloc, self.count);
+        let none = list_ahead::<OM::Output, I, F, A>(
+            &self.parser,
+            input,
+            self.alloc,
+            self.count,
+            self.count,
+        );
         items_exactly::<OM, I, F, Vec<F::Output, A>>(&mut self.parser, input, none, self.count)
     }
 
@@ -95,7 +101,7 @@ impl<I: Input, A: Allocator + Copy, F: Parser<I> + Drop> Parser<I> for ManyMN<A,
         if self.max < self.min {
             return Err(failure(input, ErrorKind::ManyMN));
         }
-        let none = none_yet::<OM::Output, F::Output, A>(self.alloc);
+        let none = list_ahead::<OM::Output, I, F, A>(&self.parser, input, self.alloc, self.max, 0);
         bounded_items::<OM, I, F, Vec<F::Output, A>>(
             &mut self.parser,
             input,

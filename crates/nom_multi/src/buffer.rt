@@ -34,7 +34,7 @@ impl<'a, I: Items, T: Drop, F: Parser<I, Output = T> + Drop> Parser<I> for Fill<
     ghost Tree = { List F.Tree };
 
     /// The content of the buffer.
-    ghost Besides = { λ mode old new i rest. IsFilled I.model (F.grammar (F.state old.parser)).IsOutput (F.grammar (F.state old.parser)).meaning mode i
+    ghost SideCondition = { λ mode old new i rest. IsFilled I.model (F.grammar (F.state old.parser)).IsOutput (F.grammar (F.state old.parser)).meaning mode i
         old.buffer.now new.buffer.now (rest ≡ None) };
 
     ghost grammar = { λ s. fill_of I.model F.Error.errors s.1 (F.grammar s.0) };
@@ -53,7 +53,7 @@ impl<'a, I: Items, T: Drop, F: Parser<I, Output = T> + Drop> Parser<I> for Fill<
         // Where memory ran out in an item, that is the answer.
         ensures filled { IsFilled I.model (F.grammar (F.state self.old.parser)).IsOutput (F.grammar (F.state self.old.parser)).meaning
             (modes OM.Output.BUILDS OM.Error.BUILDS OM.Incomplete.STREAMING) input self.old.buffer.now self.new.buffer.now (IsRanOut result) }
-        ensures besides { IsFilled I.model (F.grammar (F.state self.old.parser)).IsOutput (F.grammar (F.state self.old.parser)).meaning
+        ensures side_condition { IsFilled I.model (F.grammar (F.state self.old.parser)).IsOutput (F.grammar (F.state self.old.parser)).meaning
             (modes OM.Output.BUILDS OM.Error.BUILDS OM.Incomplete.STREAMING) input self.old.buffer.now self.new.buffer.now (rest_of result ≡ None) }
     {
         fill_buffer::<OM, I, T, F>(&mut self.parser, self.buffer, input)

@@ -7,7 +7,7 @@ use nom_error::answer::PResult;
 use nom_error::mode::{Emit, OutputM, OutputMode};
 use nom_error::value::ParseError;
 use nom_internal::parser::{Parser, StreamParser};
-use nom_repeat::accumulator::with_room;
+use nom_repeat::ahead::list_ahead;
 use nom_repeat::exact::items_exactly;
 use nom_traits::convert::ToUsize;
 use nom_traits::input::Items;
@@ -54,7 +54,7 @@ impl<
             Some(length) => length.to_usize(),
             None => unreachable!(),
         };
-        let none = with_room::<OM::Output, G::Output, A>(self.alloc, count);
+        let none = list_ahead::<OM::Output, I, G, A>(&self.parser, rest, self.alloc, count, count);
         items_exactly::<OM, I, G, Vec<G::Output, A>>(&mut self.parser, rest, none, count)
     }
 

@@ -57,8 +57,9 @@ pub fn many1<A: Allocator + Copy, F>(alloc: A, parser: F) -> Many1<A, F>
 /// `count(alloc, tag("ab"), 2)` on `"abababc"` returns `["ab", "ab"]` and leaves `"abc"`.
 ///
 /// If an item is refused, the list refuses with the item's error, to which `Count` is added at the start.
-/// Items may consume nothing. The list reserves room for its items in advance, for 1,024 at most. Without the
-/// memory for it, and beyond that room, it grows with each accepted item.
+/// Items may consume nothing. The list reserves room for its items in advance: for all of them if the parser
+/// takes a fixed number of items and the input has so many, as with `be_u32`, and else for 1,024 at most.
+/// Without the memory for it, and beyond that room, it grows with each accepted item.
 #[inline(always)]
 pub fn count<A: Allocator + Copy, F>(alloc: A, parser: F, count: usize) -> Count<A, F>
     ensures alloc { result.alloc ≡ alloc }
@@ -150,9 +151,9 @@ pub fn length_data<F>(parser: F) -> LengthData<F>
 /// If an item is refused, the whole is refused, and `Count` is added to its error at the place after the
 /// length. An item may consume nothing. Any other answer of an item is passed on.
 ///
-/// The list reserves room for its items in advance, for 1,024 at most, whatever length is claimed. Without
-/// the memory for it, and beyond that room, it grows with each accepted item. It answers `OutOfMemory` if it
-/// can't grow.
+/// The list reserves room for its items in advance, as `count` does, whatever length is claimed. Without the
+/// memory for it, and beyond that room, it grows with each accepted item. It answers `OutOfMemory` if it can't
+/// grow.
 #[inline(always)]
 pub fn length_count<A: Allocator + Copy, F, G>(
     alloc: A,

@@ -8,7 +8,7 @@ use nom_error::kind::ErrorKind;
 use nom_error::mode::OutputMode;
 use nom_error::value::ParseError;
 use nom_internal::parser::{Parser, StreamParser};
-use nom_repeat::accumulator::none_yet;
+use nom_repeat::ahead::list_ahead;
 use nom_repeat::bounds::{any_items, one_item};
 use nom_repeat::items::TooFew;
 use nom_traits::input::{Input, Items};
@@ -42,7 +42,13 @@ impl<I: Input, A: Allocator + Copy, F: Parser<I> + Drop> Parser<I> for Many0<A, 
 
     #[inline]
     fn process<OM: OutputMode>(&mut self, input: I) -> PResult<I, Self::Output, Self::Error> {
-        let none = none_yet::<OM::Output, F::Output, A>(self.alloc);
+        let none = list_ahead::<OM::Output, I, F, A>(
+            &self.parser,
+            input,
+            self.alloc,
+            usize::MAX,
+            0,
+        );
         any_items::<OM, I, F, Vec<F::Output, A>>(&mut self.parser, input, none, ErrorKind::Many0)
     }
 
@@ -88,7 +94,13 @@ impl<I: Input, A: Allocator + Copy, F: Parser<I> + Drop> Parser<I> for Many1<A, 
 
     #[inline]
     fn process<OM: OutputMode>(&mut self, input: I) -> PResult<I, Self::Output, Self::Error> {
-        let none = none_yet::<OM::Output, F::Output, A>(self.alloc);
+        let none = list_ahead::<OM::Output, I, F, A>(
+            &self.parser,
+            input,
+            self.alloc,
+            usize::MAX,
+            0,
+        );
         let (rest, first) = one_item::<OM, OM::Error, I, F, Vec<F::Output, A>>(
             &mut self.parser,
             input,

@@ -1,4 +1,4 @@
--- What counts, folds and lists over a range accept.
+-- Lemmas on the acceptances of counts, folds and lists over a range.
 use Rattle.std.specs.Prelude.{◌↔◌}
 use Rattle.std.specs.declared.ops.Bound.{Bound}
 use Rattle.std.proofs.Common.{◌≡◌, Bool, true, false, ℕ, ◌+◌, ◌<◌, Option, Some, None, List, [], ◌∷◌, refl, subst, sym, inl, inr}

@@ -1,4 +1,4 @@
--- What counts of items show: the number fits, since each item but a first one consumes.
+-- Lemmas on the answers of counts of items: the number fits, since each item but a first one consumes.
 use Rattle.std.proofs.Common.{◌≡◌, ℕ, ◌+◌, ◌-◌, ◌^◌, ◌<◌, ◌≤◌, Bool, true, false, Ok, Option, Some, ◌⊎◌, inl, inr, List, [], ◌∷◌, ◌++◌}
 use Rattle.std.proofs.Common.{length, zero, suc, refl, arith, ap, subst}
 use Rattle.nom_internal.specs.Prelude.{PResult, Errors, ErrorKind, Built, Modes, Model, InputLaws, IsSuffixOf, input_len, same_self, rest_related, Outcome}

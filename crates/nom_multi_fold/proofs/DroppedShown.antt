@@ -1,4 +1,4 @@
--- What is shown of a part whose outputs are never built.
+-- Lemmas on a part whose outputs are never built.
 use Rattle.std.proofs.Common.{◌≡◌, Ok, Err, Option, refl, sym, subst}
 use Rattle.std.specs.Result.{IsErrAnd, IsErr}
 use Rattle.std.specs.Prelude.{false}

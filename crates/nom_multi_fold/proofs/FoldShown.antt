@@ -1,4 +1,4 @@
--- What folds show, by what is accumulated of items.
+-- Lemmas on the answers of folds, by what is accumulated of items.
 use Rattle.std.proofs.Common.{◌≡◌, Bool, true, false, Option, Some, None, List, [], ◌∷◌, ◌++◌, sym, ◌∙◌, ap, subst}
 use Rattle.std.specs.List.{FoldsTo}
 use Rattle.nom_internal.specs.Prelude.{PResult, Built, Modes, Model, Errors, ShowsMeaning, Grammar}

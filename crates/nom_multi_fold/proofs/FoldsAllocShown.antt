@@ -1,4 +1,4 @@
--- What a fold shows whose closures may take memory.
+-- Lemmas on the answers of a fold whose closures may take memory.
 use Rattle.std.proofs.Common.{◌≡◌, ℕ, ◌+◌, ◌<◌, Bool, true, false, Result, Ok, Err, Option, Some, None, List, [], ◌∷◌, ◌++◌, ◌⊎◌, inl, inr, refl, subst}
 use Rattle.std.proofs.Common.{length, arith, sym, ◌∙◌, ap}
 use Rattle.std.specs.Prelude.{ltb}

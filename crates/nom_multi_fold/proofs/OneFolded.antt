@@ -1,4 +1,4 @@
--- What the fold of one item shows.
+-- Lemmas on the fold of one item.
 use Rattle.std.proofs.Common.{true, Result, Ok, Err, Option, Some, [], ◌∷◌, inl, refl, arith}
 use Rattle.nom_error.specs.declared.answer.OutOfMemory.{OutOfMemory}
 use Rattle.nom_error.specs.declared.answer.Err as Answer

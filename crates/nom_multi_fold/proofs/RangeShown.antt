@@ -1,4 +1,4 @@
--- What items by a range of counts show.
+-- Lemmas on the answers of items by a range of counts.
 use Rattle.std.proofs.Common.{◌≡◌, ℕ, Bool, true, false, List, subst}
 use Rattle.std.specs.Prelude.{IsTrue}
 use Rattle.std.specs.declared.ops.Bound.{Bound}

@@ -1,4 +1,4 @@
--- What bounds that don't fit each other show.
+-- Lemmas on bounds that don't fit each other.
 use Rattle.std.proofs.Common.{Bool, true, false, Err, Option, inl, inr, refl, ap}
 use Rattle.nom_internal.specs.Prelude.{Errors, PResult, Refuses, Modes, ErrorKind, Needed, Model, Outcome, Accept, Refuse, Stop, Fails, Needs, Outright}
 use Rattle.nom_internal.specs.Prelude.{ShowsOutcome}

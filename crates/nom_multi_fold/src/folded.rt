@@ -26,6 +26,13 @@ impl<'a, T: Drop, R: Drop, G: Fn(R, T) -> R> Accumulator<T> for Folded<'a, R, G>
 
     ghost fills = { λ _ h. h };
 
+    ghost HasRoom = { λ _ _. Unit {0} };
+
+    #[inline(always)]
+    fn has_room(&self, _count: usize) -> bool {
+        true
+    }
+
     #[inline(always)]
     fn push(&mut self, item: T) -> Result<(), OutOfMemory> {
         match self.value.take() {

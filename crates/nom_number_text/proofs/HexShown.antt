@@ -1,4 +1,4 @@
--- What is shown of a number in base 16.
+-- Lemmas on the answers of a number in base 16.
 use Rattle.std.proofs.Common.{◌≡◌, ℕ, true, Option, Some, Ok, Err, take, refl, sym, ◌∙◌, ap, subst, arith}
 use Rattle.std.proofs.lemmas.List.{take-append-le, take_all}
 use Rattle.nom_internal.specs.Prelude.{PResult, Needed, Errors, Built, Modes, with_outputs, Model, InputLaws, IsPrefixOf, IsBoundary, IsSuffixOf, input_len}

@@ -1,4 +1,4 @@
--- What operators that wait stand for, step by step.
+-- Lemmas on operators that wait, and what they stand for, step by step.
 use Rattle.std.specs.Prelude.{◌≡◌, ℕ, Bool, true, List, [], ◌∷◌, ◌++◌, map, reverse, Result, Ok, Option, Some, None, refl}
 use Rattle.std.specs.Prelude.{IfSome, option_to_list}
 use Rattle.std.proofs.Common.{sym, ◌∙◌, ap, subst, append_assoc, append-nil}

@@ -1,4 +1,4 @@
--- What the steps make of a term and pairs: they keep the spine, and at the end leave the value of the tree.
+-- Lemmas on the steps over a term and pairs: they keep the spine, and at the end leave the value of the tree.
 use Rattle.std.specs.Prelude.{◌≡◌, ℕ, Bool, List, [], ◌∷◌, ◌++◌, refl}
 use Rattle.std.specs.List.{AllZip}
 use Rattle.std.proofs.Common.{sym, subst, append_assoc, append-nil}

@@ -1,4 +1,4 @@
--- What loops show of their steps.
+-- Lemmas on the steps of loops.
 use Rattle.std.specs.Prelude.{◌≡◌, ◌<◌, List, [], length, reverse, Option, Some, None}
 use Rattle.std.proofs.Common.{arith, subst, ap}
 use Rattle.nom_operators.specs.Steps.{IsNested, Joined, waiting}

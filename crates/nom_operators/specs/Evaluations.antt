@@ -1,4 +1,4 @@
--- What the fold gives for a tree of operators, from its leaves up.
+-- The fold of a tree of operators, from its leaves up.
 use Rattle.std.specs.Prelude.{◌≡◌, List, [], ◌∷◌, ◌++◌, map, Result, Ok, Err}
 use Rattle.nom_operators.specs.Groups.{is_left}
 use Rattle.nom_operators.specs.OperatorTrees.{OperatorTree, Symbol, Binding, IsTreeOf}

@@ -1,4 +1,4 @@
--- What of an operator with its precedence is compared: its value, as that is viewed, and its precedence.
+-- The view of an operator with its precedence: its value, as that is viewed, and its precedence.
 use Rattle.std.specs.Prelude.{ℕ}
 use Rattle.nom_traits.specs.View.{View}
 use Rattle.nom_operators.specs.declared.operation.Assoc.{Assoc}

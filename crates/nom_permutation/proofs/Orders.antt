@@ -1,4 +1,4 @@
--- What the rounds accept is what an order of the members accepts.
+-- Lemmas on the rounds of a permutation: they accept what an order of the members accepts.
 use Rattle.std.specs.Prelude.{◌≡◌, ℕ, ◌+◌, Bool, List, [], ◌∷◌, length, Option, Some, None, ◌⊎◌, refl}
 use Rattle.std.proofs.Common.{arith, sym, ap, subst, inl, inr, zero, suc}
 use Rattle.nom_internal.specs.Prelude.{Model, InputLaws, IsSuffixOf, Outcome, Accept, Refuse, Stop, Meaning, labelled, labelled_meaning, GoesOnRefused, GoesOn}

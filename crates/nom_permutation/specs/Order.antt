@@ -1,4 +1,4 @@
--- What a permutation accepts, as an order of its members: each accepts at its turn, and every earlier member that isn't
+-- The acceptances of a permutation, as an order of its members: each accepts at its turn, and every earlier member that isn't
 -- applied yet refuses there.
 use Rattle.std.specs.Prelude.{◌≡◌, ℕ, ◌+◌, Bool, List, [], ◌∷◌, None, ◌⊎◌}
 use Rattle.std.proofs.Common.{zero, suc}

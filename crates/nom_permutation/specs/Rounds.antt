@@ -1,4 +1,4 @@
--- What a round of a permutation shows of its members.
+-- A round of a permutation, and what it shows of the members.
 use Rattle.std.specs.Prelude.{◌≡◌, ℕ, Bool, true, Result, Ok, Err, Option, Some, None}
 use Rattle.nom_internal.specs.Prelude.{PResult, Needed, Incomplete, Error, Failure, OutOfMemory, Model, Built, Modes, with_outputs, ShowsAnswer, Meaning}
 use Rattle.nom_error.specs.declared.answer.Err as Answer

@@ -1,14 +1,14 @@
--- What is held of a first value and of pairs after it.
+-- Lemmas on what is held of a first value and of pairs after it.
 use Rattle.std.proofs.Common.{◌≡◌, ℕ, Bool, true, false, Option, Some, None, List, [], ◌∷◌, ◌++◌, refl, sym, subst}
-use Rattle.std.specs.Prelude.{IfSome, IsSome}
+use Rattle.std.specs.Prelude.{IfSome, IsSome, option_to_list}
 use Rattle.std.specs.List.{AllZip}
 use Rattle.nom.specs.Prelude.{Built, BuiltFrom, BuiltFromBoth}
 use Rattle.nom.proofs.Accumulating.{zip_push}
-use Rattle.nom_operators.specs.Steps.{IsNested, Joined, Pushed, Runs, waiting}
+use Rattle.nom_operators.specs.Steps.{IsNested, Joined, Made, Pushed, Runs, waiting}
 use Rattle.nom_operators.proofs.StepsShown.{none_waits}
 use Rattle.nom_operators.proofs.Runs.{runs_more}
-use Rattle.nom_precedence.specs.Told.{IsMade}
-use Rattle.nom_precedence.proofs.ReadShown.{built_from}
+use Rattle.nom_precedence.specs.Told.{OfPairs}
+use Rattle.nom_precedence.proofs.ReadShown.{built_from, built_from_both}
 
 none_nested : {E : Type 0} (innermost : Option E) (outer : List E) → innermost ≡ None → outer ≡ [] → IsNested innermost outer
 none_nested (Some e) outer i o = absurd (cc (i))
@@ -17,80 +17,76 @@ none_nested None outer i o = o
 -- what is held is built where something is
 pub held_built : {K : Type 0} (P : K → Type 0) (builds : Bool) (held : Option K) → Built builds P held → IsSome held → builds ≡ true
 held_built P true held b s = refl
-held_built {K} P false held b s = let no : IsSome {T = K} None = subst (λ z. IsSome z) b s in absurd (cc (no))
+held_built {K} P false held b s = let no : IsSome {T = K} None = subst IsSome b s in absurd (cc (no))
+
+-- one more output in a list, where outputs are built
+pub listed : {V X : Type 0} (P : V → X → Type 0) (builds : Bool) (vs : List V) (v : V) (item : Option X) (old new : List X) →
+    (builds ≡ true → AllZip P vs old) → Built builds (P v) item → new ≡ old ++ option_to_list item → builds ≡ true → AllZip P (vs ++ v ∷ []) new
+listed P true vs v (Some x) old new h b e t =
+    let item : x ≡ b.0 = cc (b.1) in
+    subst (λ z. AllZip P (vs ++ v ∷ []) z) (sym e) (zip_push P vs old v x (h t) (subst (λ z. P v z) (sym item) b.2))
+listed P true vs v None old new h b e t = absurd (cc (b.1))
+listed P false vs v item old new h b e t = absurd (cc (t))
+
+-- all of them
+pub all_listed : {X : Type 0} {Fact : Type 0} (P : X → Type 0) (builds : Bool) (told : Option X) → (builds ≡ true → Fact) → Built builds P told →
+    Built builds (λ _. Fact) told
+all_listed P true told h b = (b.0, b.1, h (cc))
+all_listed P false told h b = b
 
 module _ {X C V K : Type 0} (left : ℕ → Bool) (of : C → ℕ) (Gives : X → C → X → X → Type 0) (IsPair : V → C × X → Type 0)
     (innermost : K → Option (X × C)) (value : K → X) where
   -- the outputs of pairs came in turn after the first value
-  pub record HasRun (outer : List (X × C)) (before : Option X) (vs : List V) (k : K) : Type 0 where
-    pub first : X
-    pub first_is : before ≡ Some first
-    pub outputs : List (C × X)
-    pub are_outputs : AllZip IsPair vs outputs
-    pub runs : Runs left of Gives [] first outputs (waiting (innermost k) outer) (value k)
+  pub record HasRun (before : Option X) (outer : List (X × C)) (vs : List V) (k : K) : Type 0 where
+    pub run : OfPairs IsPair before vs (λ x os. Runs left of Gives [] x os (waiting (innermost k) outer) (value k))
     pub nested : IsNested (innermost k) outer
 
-  -- none yet
-  pub run_none : (builds : Bool) (outer : List (X × C)) (before : Option X) (held : Option K) → outer ≡ [] → Built builds (λ _. Unit {0}) before →
-      BuiltFrom true (λ x k. (value k ≡ x) × (innermost k ≡ None)) before held → Built builds (HasRun outer before []) held
-  run_none true outer (Some a) held o b c =
-      let nested = none_nested (innermost c.0) outer c.2.1 o in (
-        c.0,
-        c.1,
+  module _ (before : Option X) (builds : Bool) (outer : List (X × C)) (held : Option K) where
+    -- none yet
+    pub run_none : outer ≡ [] → Built builds (λ _. Unit {0}) before → BuiltFrom true (λ x k. (value k ≡ x) × (innermost k ≡ None)) before held →
+        Built builds (HasRun before outer []) held
+    run_none o = built_from builds held (λ x k is _ c.
+        let nested = none_nested (innermost k) outer c.1 o in
         record {
-          first = a;
-          first_is = refl;
-          outputs = [];
-          are_outputs = tt;
-          runs = (none_waits (innermost c.0) outer c.2.1 nested, c.2.0);
+          run = record { first = x; first_is = is; outputs = []; are_outputs = tt; fact = (none_waits (innermost k) outer c.1 nested, c.0) };
           nested = nested;
-        },
-      )
-  run_none true outer None held o b c = absurd (cc (b.1))
-  run_none false outer (Some a) held o b c = absurd (cc (b))
-  run_none false outer None held o b c = c
+        })
 
-  pub run_nested : (builds : Bool) (outer : List (X × C)) (before : Option X) (vs : List V) (held : Option K) → Built builds (HasRun outer before vs) held →
-      IfSome held (λ k. IsNested (innermost k) outer)
-  run_nested true outer before vs held h = subst (λ z. IfSome z (λ k. IsNested (innermost k) outer)) (sym h.1) h.2.nested
-  run_nested false outer before vs held h = subst (λ z. IfSome z (λ k. IsNested (innermost k) outer)) (sym h) tt
+    module _ (vs : List V) where
+      -- one more
+      pub run_more : (rest : List (X × C)) (v : V) (new : Option K) (item : Option (C × X)) →
+          BuiltFromBoth true (λ k p n. Pushed left of Gives (waiting (innermost k) outer) (value k) p.0 p.1 (waiting (innermost n) rest) (value n)
+          × IsNested (innermost n) rest) held item new → Built builds (HasRun before outer vs) held → Built builds (IsPair v) item →
+          Built builds (HasRun before rest (vs ++ v ∷ [])) new
+      run_more rest v new item g b c = built_from_both builds held item new (λ k p n h i s.
+          let r = h.run in
+          record {
+            run = record {
+              first = r.first;
+              first_is = r.first_is;
+              outputs = r.outputs ++ p ∷ [];
+              are_outputs = zip_push IsPair vs r.outputs v p r.are_outputs i;
+              fact = runs_more left of Gives [] r.first r.outputs (waiting (innermost k) outer) (value k) p (waiting (innermost n) rest) (value n) r.fact s.0;
+            };
+            nested = s.1;
+          }) b c g
 
-  -- one more
-  pub run_more : (builds : Bool) (outer rest : List (X × C)) (before : Option X) (vs : List V) (v : V) (held new : Option K) (item : Option (C × X)) →
-      BuiltFromBoth true (λ k p n. Pushed left of Gives (waiting (innermost k) outer) (value k) p.0 p.1 (waiting (innermost n) rest) (value n)
-      × IsNested (innermost n) rest) held item new → Built builds (HasRun outer before vs) held → Built builds (IsPair v) item →
-      Built builds (HasRun rest before (vs ++ v ∷ [])) new
-  run_more true outer rest before vs v (Some k) new (Some p) g b c =
-      let one : k ≡ b.0 = cc (b.1) in
-      let item : p ≡ c.0 = cc (c.1) in
-      let h = subst (λ z. HasRun outer before vs z) (sym one) b.2 in (
-        g.0,
-        g.1,
-        record {
-          first = h.first;
-          first_is = h.first_is;
-          outputs = h.outputs ++ p ∷ [];
-          are_outputs = zip_push IsPair vs h.outputs v p h.are_outputs (subst (λ z. IsPair v z) (sym item) c.2);
-          runs = runs_more left of Gives [] h.first h.outputs (waiting (innermost k) outer) (value k) p (waiting (innermost g.0) rest) (value g.0) h.runs g.2.0;
-          nested = g.2.1;
-        },
-      )
-  run_more true outer rest before vs v (Some k) new None g b c = absurd (cc (c.1))
-  run_more true outer rest before vs v None new item g b c = absurd (cc (b.1))
-  run_more false outer rest before vs v (Some k) new item g b c = absurd (cc (b))
-  run_more false outer rest before vs v None new item g b c = g
+      pub run_nested : Built builds (HasRun before outer vs) held → IfSome held (λ k. IsNested (innermost k) outer)
+      run_nested h = by builds held h
+        where
+          by : (b : Bool) (k : Option K) → Built b (HasRun before outer vs) k → IfSome k (λ k. IsNested (innermost k) outer)
+          by true k h = rw h.1 h.2.nested
+          by false k h = rw h tt
 
-  -- at the end all that wait are joined
-  pub run_made : (builds : Bool) (outer : List (X × C)) (before : Option X) (vs : List V) (held : Option K) (y : Option X) →
-      BuiltFrom true (λ k z. Joined Gives (λ _. Unit {0}) (waiting (innermost k) outer) (value k) [] z) held y →
-      Built builds (HasRun outer before vs) held → Built builds (IsMade left of Gives IsPair before vs) y
-  run_made builds outer before vs held y g b =
-      built_from builds (HasRun outer before vs) (IsMade left of Gives IsPair before vs)
-      (λ k z. Joined Gives (λ _. Unit {0}) (waiting (innermost k) outer) (value k) [] z) held y
-      (λ k z h j. record {
-        first = h.first;
-        first_is = h.first_is;
-        outputs = h.outputs;
-        are_outputs = h.are_outputs;
-        made = record { stack = waiting (innermost k) outer; after = value k; runs = h.runs; joined = j };
-      }) b g
+      -- at the end all that wait are joined
+      pub run_made : (y : Option X) → BuiltFrom true (λ k z. Joined Gives (λ _. Unit {0}) (waiting (innermost k) outer) (value k) [] z) held y →
+          Built builds (HasRun before outer vs) held → Built builds (λ z. OfPairs IsPair before vs (λ x os. Made left of Gives x os z)) y
+      run_made y g b = built_from builds y (λ k z _ h j.
+          let r = h.run in
+          record {
+            first = r.first;
+            first_is = r.first_is;
+            outputs = r.outputs;
+            are_outputs = r.are_outputs;
+            fact = record { stack = waiting (innermost k) outer; after = value k; runs = r.fact; joined = j };
+          }) b g

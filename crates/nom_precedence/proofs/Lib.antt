@@ -1,6 +1,5 @@
 pub mod ChainShown
 pub mod HeldShown
-pub mod ListShown
 pub mod OperatorShown
 pub mod ReadShown
 pub mod TermShown

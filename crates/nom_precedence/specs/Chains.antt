@@ -1,11 +1,11 @@
 -- Items of one part in turn, until one is refused. The items are read whole, with the list of their trees; or one is stuck: it
 -- consumes nothing, or is stuck itself.
 use Rattle.std.specs.Prelude.{◌≡◌, ℕ, true, false, Option, Some, None, List, zero, suc}
-use Rattle.nom.specs.Prelude.{with_errors, Model, Outcome, Accept, Refuse, Stop, Fails, Needs, Meaning, always}
+use Rattle.nom.specs.Prelude.{with_errors, Model, Outcome, Accept, Refuse, Stop, IsFailure, Meaning, always}
 use Rattle.nom.specs.Repeat.{Turn, Rule, repeat_meaning}
 use Rattle.nom.specs.Repeat.Turn.{Takes, Ends}
-use Rattle.nom_precedence.specs.Stuck.{Read}
-use Rattle.nom_precedence.specs.Stuck.Read.{Whole, Stuck}
+use Rattle.nom_precedence.specs.declared.read.Read.{Read}
+use Rattle.nom_precedence.specs.declared.read.Read.TheVariants.{Whole, Stuck}
 
 -- an item is taken; a stuck one, and one that consumes nothing, is the end
 abbrev pub read_turn : {V : Type 0} → Read V → ℕ → Turn V (Read (Unit {0}))
@@ -20,25 +20,15 @@ chain_turn (Some Refuse) = Ends (Accept 0 (Whole tt))
 chain_turn (Some (Stop why)) = Ends (Stop why)
 chain_turn None = Ends (Accept 0 (Whole tt))
 
--- the errors are the part's
+-- the error of a failure is the part's
 abbrev pub ChainBlames : {V E : Type 0} → Option (Outcome V) → (E → Type 0) → E → Type 0
-ChainBlames (Some (Accept n u)) P e = ⊥
-ChainBlames (Some Refuse) P e = ⊥
-ChainBlames (Some (Stop (Fails cause))) P e = P e
-ChainBlames (Some (Stop (Needs d))) P e = ⊥
+ChainBlames (Some o) P e = IsFailure o × P e
 ChainBlames None P e = ⊥
 
-abbrev pub IfTaken : {V : Type 0} → Type 0 → Read V → ℕ → Type 0
-IfTaken Fact Stuck n = ⊥
-IfTaken Fact (Whole v) zero = ⊥
-IfTaken Fact (Whole v) (suc n) = Fact
-
 -- memory is asked for to keep an item
-abbrev pub ChainAsks : {V : Type 0} → Type 0 → Option (Outcome (Read V)) → Type 0
-ChainAsks Fact (Some (Accept n u)) = IfTaken Fact u n
-ChainAsks Fact (Some Refuse) = ⊥
-ChainAsks Fact (Some (Stop why)) = ⊥
-ChainAsks Fact None = ⊥
+abbrev pub IfTakes : {V T : Type 0} → Type 0 → Turn V T → Type 0
+IfTakes Fact (Takes n v) = Fact
+IfTakes Fact (Ends o) = ⊥
 
 -- The errors of the part's refusals aren't built. Accumulating an item may take memory where outputs are built.
 abbrev pub chain_rule : {I V E : Type 0} → Type 0 → Rule I (Read V) V (Read (Unit {0})) E
@@ -47,7 +37,7 @@ chain_rule Grows = record {
   turn = λ _ a. chain_turn a;
   Blames = λ _ _ _ a P e. ChainBlames a P e;
   part = λ _ mode. with_errors false mode;
-  Asks = λ mode _ a. ChainAsks ((mode.outputs ≡ true) × Grows) a;
+  Asks = λ mode _ a. IfTakes ((mode.outputs ≡ true) × Grows) (chain_turn a);
   Runs = λ Part. Part;
   IsSound = λ Part. Part;
   IsFrugal = λ PartIs mode. PartIs (with_errors false mode) × (mode.outputs ≡ true → Grows → ⊥);

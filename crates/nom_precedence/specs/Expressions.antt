@@ -3,8 +3,9 @@ use Rattle.std.specs.Prelude.{◌≡◌, ℕ, true, false, List}
 use Rattle.nom.specs.Prelude.{Errors, with_errors, with_outputs, Model, Meaning, IsOne, labelled_meaning, closed_meaning, TooLarge}
 use Rattle.nom.specs.ErrorKind.TheVariants as Kind
 use Rattle.nom_precedence.specs.Premises.{Premises, with_premises}
-use Rattle.nom_precedence.specs.Stuck.{Read, read_both, freed_meaning}
-use Rattle.nom_precedence.specs.Stuck.Read.{Whole}
+use Rattle.nom_precedence.specs.Stuck.{read_both, read_next, freed_meaning}
+use Rattle.nom_precedence.specs.declared.read.Read.{Read}
+use Rattle.nom_precedence.specs.declared.read.Read.TheVariants.{Whole}
 use Rattle.nom_precedence.specs.Chains.{chain_meaning}
 use Rattle.nom_precedence.specs.Operators.{operator_meaning}
 
@@ -27,19 +28,19 @@ affixes_meaning w Grows m = chain_meaning w Grows (labelled_meaning Whole m)
 
 -- an operand, and as many postfixes
 abbrev pub tail_meaning : {I A V Q E : Type 0} → Model I A → Meaning I V E → Meaning I Q E → Meaning I (Read (Tail V Q)) E
-tail_meaning w operand postfix = read_both w (λ v qs. (v, qs)) (labelled_meaning Whole operand) (affixes_meaning w ⊥ postfix)
+tail_meaning w operand postfix = read_next w (λ v qs. (v, qs)) operand (affixes_meaning w ⊥ postfix)
 
 -- A term. As many prefixes as are accepted, an operand, and as many postfixes. It is refused where its operand is. Prefixes are
 -- kept where outputs are built, which may take memory.
-unfoldable pub term_meaning : {I A P V Q E : Type 0} → Model I A → Meaning I P E → Meaning I V E → Meaning I Q E → Meaning I (Read (Term P V Q)) E
+abbrev pub term_meaning : {I A P V Q E : Type 0} → Model I A → Meaning I P E → Meaning I V E → Meaning I Q E → Meaning I (Read (Term P V Q)) E
 term_meaning w prefix operand postfix = read_both w term_of (affixes_meaning w (Unit {0}) prefix) (tail_meaning w operand postfix)
 
 -- an operator with its level, and a term after it
 abbrev pub Pair : Type 0 → Type 0 → Type 0
 Pair B T = (ℕ × B) × T
 
-unfoldable pub pair_meaning : {I A T B E : Type 0} → Model I A → Meaning I (ℕ × B) E → Meaning I (Read T) E → Meaning I (Read (Pair B T)) E
-pair_meaning w operator term = read_both w (λ o t. (o, t)) (labelled_meaning Whole operator) term
+abbrev pub pair_meaning : {I A T B E : Type 0} → Model I A → Meaning I (ℕ × B) E → Meaning I (Read T) E → Meaning I (Read (Pair B T)) E
+pair_meaning w operator term = read_next w (λ o t. (o, t)) operator term
 
 -- A first term, to whose refusal `Precedence` is added at the start; and then pairs of an operator and a term, as many as are accepted.
 -- Where an operator or its term is refused, the pairs end before that operator. All is read whole, or an item is stuck.

@@ -2,7 +2,6 @@ pub mod Chains
 pub mod Expressions
 pub mod Operators
 pub mod Premises
-pub mod Steps
 pub mod Stuck
 pub mod Told
 pub mod Values

@@ -11,16 +11,7 @@ pub record Premises : Type 1 where
 
 -- the same answers, errors and running out of memory
 abbrev pub with_premises : {I V E : Type 0} → Premises → Meaning I V E → Meaning I V E
-with_premises p m = record {
-  Runs = p.Runs;
-  IsSound = p.IsSound;
-  answers = m.answers;
-  blames = m.blames;
-  may_run_out = m.may_run_out;
-  IsFrugal = p.IsFrugal;
-  Settles = p.Settles;
-  NeverFails = p.NeverFails;
-}
+with_premises p m = record m { Runs = p.Runs; IsSound = p.IsSound; IsFrugal = p.IsFrugal; Settles = p.Settles; NeverFails = p.NeverFails }
 
 -- what is told gives what the definition gathers
 pub record Gives {I V E : Type 0} (p : Premises) (m : Meaning I V E) : Type 0 where
@@ -33,7 +24,7 @@ module _ {I A V E : Type 0} {w : Model I A} {p : Premises} {m : Meaning I V E} w
   told_lawful g l = record {
     within = l.within;
     one_outcome = l.one_outcome;
-    alike = l.alike;
+    consistent = l.consistent;
     frugal = λ mode i k h. l.frugal mode i k (g.frugal mode h);
     settles = λ h. l.settles (g.settles h);
     blames_alike = λ h. l.blames_alike (g.settles h);

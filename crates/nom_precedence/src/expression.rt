@@ -1,9 +1,8 @@
 //! Expressions.
 ghost use Rattle.std.specs.Prelude.{◌≡◌, List, length};
-ghost use Rattle.nom_precedence.specs.Expressions.{read_meaning, term_meaning};
-ghost use Rattle.nom_precedence.specs.Operators.{HasLevel, operator_meaning};
-ghost use Rattle.nom_precedence.specs.Told.{ShowsRead};
-ghost use Rattle.nom_precedence.specs.Values.{StandsFor, folding, precedence_by};
+ghost use Rattle.nom.specs.Prelude.{modes};
+ghost use Rattle.nom_precedence.specs.Told.{AreKept, ShowsRead, whole_by};
+ghost use Rattle.nom_precedence.specs.Values.{folding, precedence_by};
 ghost use Rattle.nom_operators.specs.Groups.{groups_left};
 ghost use Rattle.nom_operators.specs.declared.operation.Operation.{Operation};
 ghost use Rattle.nom_operators.specs.declared.operation.Assoc.{Assoc};
@@ -139,29 +138,18 @@ fn read<
     requires postfix { (Q.grammar (Q.state postfix.old)).meaning.Runs }
     requires binary { (C.grammar (C.state binary.old)).meaning.Runs }
     requires fold { (x : Operation P.Output Q.Output B F.Output) → G.pre fold.now x }
-    ensures shown { ShowsRead I.model (λ e y. StandsFor (folding (P.grammar (P.state prefix.old)).IsOutput (F.grammar (F.state operand.old)).IsOutput
-        (Q.grammar (Q.state postfix.old)).IsOutput (C.grammar (C.state binary.old)).IsOutput (G.post fold.now)) (groups_left levels.now) e.0 e.1 y)
-        (read_meaning I.model F.Error.errors (operator_meaning F.Error.errors (HasLevel (C.grammar (C.state binary.old)).IsOutput (λ o. o.0))
-        (length levels.now) (C.grammar (C.state binary.old)).meaning) (term_meaning I.model (P.grammar (P.state prefix.old)).meaning
-        (F.grammar (F.state operand.old)).meaning (Q.grammar (Q.state postfix.old)).meaning))
-        OM.Output.BUILDS OM.Error.BUILDS OM.Incomplete.STREAMING input result }
-    ensures prefix_kept { P.state prefix.new ≡ P.state prefix.old }
-    ensures operand_kept { F.state operand.new ≡ F.state operand.old }
-    ensures postfix_kept { Q.state postfix.new ≡ Q.state postfix.old }
-    ensures binary_kept { C.state binary.new ≡ C.state binary.old }
+    ensures shown { ShowsRead I.model (whole_by I.model F.Error.errors levels.now (P.grammar (P.state prefix.old)) (F.grammar (F.state operand.old))
+        (Q.grammar (Q.state postfix.old)) (C.grammar (C.state binary.old)) (G.post fold.now))
+        (modes OM.Output.BUILDS OM.Error.BUILDS OM.Incomplete.STREAMING) input result }
+    ensures kept { AreKept (P.state prefix.new) (P.state prefix.old) (F.state operand.new) (F.state operand.old) (Q.state postfix.new) (Q.state postfix.old)
+        (C.state binary.new) (C.state binary.old) }
 {
     let first = term::<OM, I, A, P, F, Q, B, G>(alloc, prefix, operand, postfix, fold, input);
     let (rest, before) = close(first, input, ErrorKind::Precedence)?;
     match emitted(before) {
         Read::Stuck => Ok((rest, Some(Read::Stuck))),
-        Read::Whole(value) => {
-            let (end, after) = pairs::<OM, I, A, P, F, Q, B, C, G>(
-                alloc, levels, prefix, operand, postfix, binary, fold, rest, value,
-            )?;
-            match emitted(after) {
-                Read::Stuck => Ok((end, Some(Read::Stuck))),
-                Read::Whole(value) => Ok((end, Some(Read::Whole(value)))),
-            }
-        }
+        Read::Whole(value) => pairs::<OM, I, A, P, F, Q, B, C, G>(
+            alloc, levels, prefix, operand, postfix, binary, fold, rest, value,
+        ),
     }
 }

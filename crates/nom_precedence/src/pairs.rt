@@ -1,14 +1,11 @@
 //! Pairs of an operator and a term, in turn.
 ghost use Rattle.std.specs.Prelude.{◌≡◌, ◌≤◌, [], IfSome, IsSome, None, true, length, vec_capacity, vec_len};
-ghost use Rattle.nom.specs.Prelude.{Built, BuiltFrom, BuiltFromBoth, modes, ShowsAnswer};
+ghost use Rattle.nom.specs.Prelude.{Built, BuiltFrom, BuiltFromBoth, modes};
 ghost use Rattle.nom_operators.specs.Groups.{groups_left};
 ghost use Rattle.nom_operators.specs.Steps.{IsNested, Joined, Pushed, waiting};
-ghost use Rattle.nom_precedence.specs.Chains.{chain_meaning};
-ghost use Rattle.nom_precedence.specs.Expressions.{pair_meaning, term_meaning};
-ghost use Rattle.nom_precedence.specs.Operators.{HasLevel, operator_meaning};
-ghost use Rattle.nom_precedence.specs.Told.{ShowsRead, IsMade, IsOwn, IsPairOf, IsTerm};
+ghost use Rattle.nom_precedence.specs.Told.{AreKept, ShowsRead, ShowsTold, operator_of, pair_by, pairs_by, term_by};
 ghost use Rattle.nom_operators.specs.declared.operation.Operation.{Operation};
-ghost use Rattle.nom_operators.specs.declared.operation.Operation.TheVariants.{Binary, Postfix, Prefix};
+ghost use Rattle.nom_operators.specs.declared.operation.Operation.TheVariants.{Binary};
 
 use crate::read::Read;
 use crate::term::term;
@@ -26,13 +23,8 @@ fn operator<OM: OutputMode, I: Input, B: Drop, C: Parser<I, Output = (usize, B)>
     input: I,
 ) -> PResult<I, (usize, B), C::Error>
     requires { (C.grammar (C.state binary.old)).meaning.Runs }
-    ensures shown { ShowsAnswer I.model (IsOwn (C.grammar (C.state binary.old)).IsOutput) (modes true OM.Error.BUILDS OM.Incomplete.STREAMING) input
-        ((operator_meaning C.Error.errors (HasLevel (C.grammar (C.state binary.old)).IsOutput (λ o. o.0)) (length levels.now)
-        (C.grammar (C.state binary.old)).meaning).answers OM.Incomplete.STREAMING input)
-        ((operator_meaning C.Error.errors (HasLevel (C.grammar (C.state binary.old)).IsOutput (λ o. o.0)) (length levels.now)
-        (C.grammar (C.state binary.old)).meaning).blames OM.Incomplete.STREAMING input)
-        ((operator_meaning C.Error.errors (HasLevel (C.grammar (C.state binary.old)).IsOutput (λ o. o.0)) (length levels.now)
-        (C.grammar (C.state binary.old)).meaning).may_run_out (modes OM.Output.BUILDS OM.Error.BUILDS OM.Incomplete.STREAMING) input) result }
+    ensures shown { let own = operator_of C.Error.errors (length levels.now) (C.grammar (C.state binary.old)) in
+        ShowsTold I.model own.IsOutput own.meaning (modes OM.Output.BUILDS OM.Error.BUILDS OM.Incomplete.STREAMING) input result }
     ensures kept { C.state binary.new ≡ C.state binary.old }
 {
     let (rest, read) = binary.process::<OutputM<Emit, OM::Error, OM::Incomplete>>(input)?;
@@ -81,16 +73,11 @@ fn pair<
     requires postfix { (Q.grammar (Q.state postfix.old)).meaning.Runs }
     requires binary { (C.grammar (C.state binary.old)).meaning.Runs }
     requires fold { (x : Operation P.Output Q.Output B F.Output) → G.pre fold.now x }
-    ensures shown { ShowsRead I.model (IsPairOf (C.grammar (C.state binary.old)).IsOutput
-        (IsTerm (P.grammar (P.state prefix.old)).IsOutput (λ p x y. G.post fold.now (Prefix p x) y) (F.grammar (F.state operand.old)).IsOutput
-        (Q.grammar (Q.state postfix.old)).IsOutput (λ x c y. G.post fold.now (Postfix x c) y)))
-        (pair_meaning I.model (operator_meaning F.Error.errors (HasLevel (C.grammar (C.state binary.old)).IsOutput (λ o. o.0)) (length levels.now)
-        (C.grammar (C.state binary.old)).meaning) (term_meaning I.model (P.grammar (P.state prefix.old)).meaning (F.grammar (F.state operand.old)).meaning
-        (Q.grammar (Q.state postfix.old)).meaning)) OM.Output.BUILDS OM.Error.BUILDS OM.Incomplete.STREAMING input result }
-    ensures prefix_kept { P.state prefix.new ≡ P.state prefix.old }
-    ensures operand_kept { F.state operand.new ≡ F.state operand.old }
-    ensures postfix_kept { Q.state postfix.new ≡ Q.state postfix.old }
-    ensures binary_kept { C.state binary.new ≡ C.state binary.old }
+    ensures shown { ShowsRead I.model (pair_by I.model F.Error.errors (length levels.now) (C.grammar (C.state binary.old)) (term_by I.model
+        (P.grammar (P.state prefix.old)) (F.grammar (F.state operand.old)) (Q.grammar (Q.state postfix.old)) (G.post fold.now)))
+        (modes OM.Output.BUILDS OM.Error.BUILDS OM.Incomplete.STREAMING) input result }
+    ensures kept { AreKept (P.state prefix.new) (P.state prefix.old) (F.state operand.new) (F.state operand.old) (Q.state postfix.new) (Q.state postfix.old)
+        (C.state binary.new) (C.state binary.old) }
 {
     let (rest, read) = operator::<OM, I, B, C>(binary, levels, input)?;
     let own = emitted(read);
@@ -196,17 +183,11 @@ pub fn pairs<
     requires binary { (C.grammar (C.state binary.old)).meaning.Runs }
     requires fold { (x : Operation P.Output Q.Output B F.Output) → G.pre fold.now x }
     requires before { Built OM.Output.BUILDS (λ _. Unit {0}) before }
-    ensures shown { ShowsRead I.model (IsMade (groups_left levels.now) (λ c. c.0) (λ x c y z. G.post fold.now (Binary x c.1 y) z)
-        (IsPairOf (C.grammar (C.state binary.old)).IsOutput (IsTerm (P.grammar (P.state prefix.old)).IsOutput (λ p x y. G.post fold.now (Prefix p x) y)
-        (F.grammar (F.state operand.old)).IsOutput (Q.grammar (Q.state postfix.old)).IsOutput (λ x c y. G.post fold.now (Postfix x c) y))) before)
-        (chain_meaning I.model (Unit {0}) (pair_meaning I.model (operator_meaning F.Error.errors
-        (HasLevel (C.grammar (C.state binary.old)).IsOutput (λ o. o.0)) (length levels.now) (C.grammar (C.state binary.old)).meaning)
-        (term_meaning I.model (P.grammar (P.state prefix.old)).meaning (F.grammar (F.state operand.old)).meaning (Q.grammar (Q.state postfix.old)).meaning)))
-        OM.Output.BUILDS OM.Error.BUILDS OM.Incomplete.STREAMING input result }
-    ensures prefix_kept { P.state prefix.new ≡ P.state prefix.old }
-    ensures operand_kept { F.state operand.new ≡ F.state operand.old }
-    ensures postfix_kept { Q.state postfix.new ≡ Q.state postfix.old }
-    ensures binary_kept { C.state binary.new ≡ C.state binary.old }
+    ensures shown { ShowsRead I.model (pairs_by I.model (groups_left levels.now) (G.post fold.now) before (pair_by I.model F.Error.errors (length levels.now)
+        (C.grammar (C.state binary.old)) (term_by I.model (P.grammar (P.state prefix.old)) (F.grammar (F.state operand.old))
+        (Q.grammar (Q.state postfix.old)) (G.post fold.now)))) (modes OM.Output.BUILDS OM.Error.BUILDS OM.Incomplete.STREAMING) input result }
+    ensures kept { AreKept (P.state prefix.new) (P.state prefix.old) (F.state operand.new) (F.state operand.old) (Q.state postfix.new) (Q.state postfix.old)
+        (C.state binary.new) (C.state binary.old) }
 {
     input.prove_known();
     let mut rest = input;

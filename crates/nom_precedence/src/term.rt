@@ -1,9 +1,7 @@
 //! Terms: prefixes, an operand, postfixes.
-ghost use Rattle.std.specs.Prelude.{◌≡◌, IsSome, None, true, MatchOption};
-ghost use Rattle.nom.specs.Prelude.{BuiltFrom};
-ghost use Rattle.nom_precedence.specs.Expressions.{tail_meaning, term_meaning};
-ghost use Rattle.nom_precedence.specs.Steps.{AppliedPushes, Before};
-ghost use Rattle.nom_precedence.specs.Told.{ShowsRead, IsHeld, IsTail, IsTerm};
+ghost use Rattle.std.specs.Prelude.{◌≡◌, IsSome, None, Some, true, MatchOption};
+ghost use Rattle.nom.specs.Prelude.{BuiltFrom, modes};
+ghost use Rattle.nom_precedence.specs.Told.{AppliedPushes, Before, ShowsRead, tail_by, term_by};
 ghost use Rattle.nom_operators.specs.declared.operation.Operation.{Operation};
 ghost use Rattle.nom_operators.specs.declared.operation.Operation.TheVariants.{Postfix, Prefix};
 
@@ -49,7 +47,7 @@ impl<'a, P: Drop, Q: Drop, B: Drop, O: Drop, G: Fn(Operation<P, Q, B, O>) -> O> 
 /// Returns the operand's value under postfixes to come, if it is built.
 #[inline(always)]
 fn held<'a, P, B, O, G>(operand: Option<O>, fold: &'a G) -> Option<Applied<'a, P, B, O, G>>
-    ensures { BuiltFrom true (IsHeld (λ k. k.value) (λ k. k.fold.now) fold.now) operand result }
+    ensures { BuiltFrom true (λ x k. (k.value ≡ Some x) × (k.fold.now ≡ fold.now)) operand result }
 {
     match operand {
         Some(value) => Some(Applied {
@@ -122,9 +120,8 @@ fn tail<
     requires operand { (F.grammar (F.state operand.old)).meaning.Runs }
     requires postfix { (Q.grammar (Q.state postfix.old)).meaning.Runs }
     requires fold { (x : Operation P Q.Output B F.Output) → G.pre fold.now x }
-    ensures shown { ShowsRead I.model (IsTail (F.grammar (F.state operand.old)).IsOutput (Q.grammar (Q.state postfix.old)).IsOutput
-        (λ x c y. G.post fold.now (Postfix x c) y)) (tail_meaning I.model (F.grammar (F.state operand.old)).meaning (Q.grammar (Q.state postfix.old)).meaning)
-        OM.Output.BUILDS OM.Error.BUILDS OM.Incomplete.STREAMING input result }
+    ensures shown { ShowsRead I.model (tail_by I.model (F.grammar (F.state operand.old)) (Q.grammar (Q.state postfix.old))
+        (λ x c. G.post fold.now (Postfix x c))) (modes OM.Output.BUILDS OM.Error.BUILDS OM.Incomplete.STREAMING) input result }
     ensures operand_kept { F.state operand.new ≡ F.state operand.old }
     ensures postfix_kept { Q.state postfix.new ≡ Q.state postfix.old }
 {
@@ -159,10 +156,8 @@ pub fn term<
     requires operand { (F.grammar (F.state operand.old)).meaning.Runs }
     requires postfix { (Q.grammar (Q.state postfix.old)).meaning.Runs }
     requires fold { (x : Operation P.Output Q.Output B F.Output) → G.pre fold.now x }
-    ensures shown { ShowsRead I.model (IsTerm (P.grammar (P.state prefix.old)).IsOutput (λ p x y. G.post fold.now (Prefix p x) y)
-        (F.grammar (F.state operand.old)).IsOutput (Q.grammar (Q.state postfix.old)).IsOutput (λ x c y. G.post fold.now (Postfix x c) y))
-        (term_meaning I.model (P.grammar (P.state prefix.old)).meaning (F.grammar (F.state operand.old)).meaning (Q.grammar (Q.state postfix.old)).meaning)
-        OM.Output.BUILDS OM.Error.BUILDS OM.Incomplete.STREAMING input result }
+    ensures shown { ShowsRead I.model (term_by I.model (P.grammar (P.state prefix.old)) (F.grammar (F.state operand.old)) (Q.grammar (Q.state postfix.old))
+        (G.post fold.now)) (modes OM.Output.BUILDS OM.Error.BUILDS OM.Incomplete.STREAMING) input result }
     ensures prefix_kept { P.state prefix.new ≡ P.state prefix.old }
     ensures operand_kept { F.state operand.new ≡ F.state operand.old }
     ensures postfix_kept { Q.state postfix.new ≡ Q.state postfix.old }

@@ -1,4 +1,4 @@
--- What a first item and those after it accept.
+-- Lemmas on the acceptances of a first item and those after it.
 use Rattle.std.proofs.Common.{◌≡◌, ◌∙◌, Bool, ℕ, ◌+◌, ◌<◌, ◌≤◌, ◌⊎◌, Some, None, List, [], ◌∷◌, ◌++◌, refl, arith, ap, subst, inl, inr}
 use Rattle.nom_internal.specs.Prelude.{Errors, ErrorKind, Model, IsSuffixOf, Outcome, Accept, Refuse, Stop, Meaning, after, GoesOn, Then, sequence_meaning}
 use Rattle.nom_repeat.specs.Items.{items_meaning}

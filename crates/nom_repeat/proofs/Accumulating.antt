@@ -1,4 +1,4 @@
--- What is accumulated of items, as they come.
+-- Lemmas on the accumulation of items, as they come.
 use Rattle.std.proofs.Common.{◌≡◌, ◌++◌, ◌∷◌, [], List, Option, Some, None, Bool, true, false, refl, sym, ◌∙◌, subst}
 use Rattle.std.specs.List.{AllZip}
 use Rattle.nom_internal.specs.Prelude.{Built}

@@ -1,9 +1,9 @@
 -- How many items there are, and how many may come.
 use Rattle.std.proofs.Common.{◌≡◌, ℕ, ◌+◌, ◌-◌, ◌<◌, ◌≤◌, true, false, Option, Some, None, ◌⊎◌, List, [], ◌∷◌, ◌++◌, length, refl, arith, inl, inr, subst, sym}
-use Rattle.std.specs.Prelude.{ltb}
+use Rattle.std.specs.Prelude.{ltb, unwrap_or}
 use Rattle.std.proofs.lemmas.Bool.{lt-ltb, le-ltb}
 use Rattle.nom_internal.specs.Prelude.{ErrorKind}
-use Rattle.nom_repeat.specs.Repeat.{IsBelow}
+use Rattle.nom_repeat.specs.Repeat.{IsBelow, AreBelow}
 use Rattle.nom_repeat.specs.Items.{IsBounded, NeedsNone, IsOneMore}
 
 -- the number of items taken, where there is a bound; else nothing asks for it
@@ -20,6 +20,15 @@ left None None count rest = 0
 pub counts_none : (V : Type 0) (most : Option ℕ) → Counts {V = V} most 0 []
 counts_none V (Some n) = refl
 counts_none V None = tt
+
+pub counts_all : {V : Type 0} (most : Option ℕ) (count : ℕ) (vs : List V) → count ≡ length vs → Counts most count vs
+counts_all (Some n) count vs e = e
+counts_all None count vs e = tt
+
+-- where no more are taken than may come, each is below the bound
+pub are_below : (most : Option ℕ) {count : ℕ} (other : ℕ) → count ≤ unwrap_or most other → AreBelow most count
+are_below (Some n) other h k z = omega (arith, h, z)
+are_below None other h k z = tt
 
 length_more : {V : Type 0} (vs : List V) (v : V) → length (vs ++ v ∷ []) ≡ length vs + 1
 length_more [] v = refl

@@ -1,4 +1,4 @@
--- What bounds that don't fit each other show.
+-- Lemmas on inverted bounds, which don't fit each other.
 use Rattle.std.proofs.Common.{◌≡◌, Bool, true, false, Err, Option, inl, inr, refl, ap}
 use Rattle.nom_internal.specs.Prelude.{Errors, PResult, Modes, ErrorKind, Needed, Model, Stop, Fails, Outright, RanOut, Shown, Meaning}
 use Rattle.nom_internal.specs.Prelude.{ShowsMeaning}

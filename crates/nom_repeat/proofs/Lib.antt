@@ -1,6 +1,7 @@
 pub mod AcceptedItems
 pub mod AcceptedMore
 pub mod CountAccumulated
+pub mod CertainShown
 pub mod Counted
 pub mod Few
 pub mod InvertedShown

@@ -1,4 +1,4 @@
--- What the answer of a part tells.
+-- Lemmas on the answer of a part.
 use Rattle.std.proofs.Common.{◌≡◌, ℕ, Err, Option, subst, sym}
 use Rattle.nom_internal.specs.Prelude.{Needed, Incomplete, Error, Failure, OutOfMemory, PResult, size_of, Built, Modes, Model, Outcome, Accept, Refuse}
 use Rattle.nom_internal.specs.Prelude.{Stop, Grammar, Shows}

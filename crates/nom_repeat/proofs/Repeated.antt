@@ -1,19 +1,12 @@
--- What a repetition shows.
+-- Lemmas on the answers of a repetition.
 use Rattle.std.proofs.Common.{◌≡◌, ℕ, ◌+◌, ◌<◌, Bool, Ok, Err, Option, ◌⊎◌, List, [], ◌∷◌, ◌++◌, length, refl, zero, suc, arith, inl, inr, subst, sym}
 use Rattle.nom_internal.specs.Prelude.{Needed, Incomplete, Error, Failure, OutOfMemory, Built, Modes, size_of, Model, InputLaws, IsSuffixOf, input_len}
 use Rattle.nom_internal.specs.Prelude.{rest_rest, Outcome, Accept, Refuse, Stop, Fails, Needs, RanOut, Shown, ShowsMeaning, Family, after, Cause}
 use Rattle.nom_internal.proofs.Consumed.{rest_length}
 use Rattle.nom_internal.proofs.Shown.{built_error}
+pub use Rattle.nom_repeat.specs.Repeat.{Collected}
 use Rattle.nom_repeat.specs.Repeat.{Turn, Pieces, Reaches, Repeats, IsBelow, Replies, OnReply, TurnsBy, Rule, repeat_meaning}
 use Rattle.nom_repeat.specs.Repeat.Turn.{Takes, Ends}
-
--- items were taken from i to j, and of their trees the fact holds
-pub record Collected {I A V T : Type 0} (w : Model I A) (Turns : ℕ → I → Turn V T → Type 0) (Held : List V → Type 0) (i j : I) : Type 0 where
-  pub trees : List V
-  pub taken : ℕ
-  pub pieces : Pieces w Turns (λ _ x. x ≡ j) 0 i trees taken
-  pub rest_is : IsSuffixOf w i taken j
-  pub held : Held trees
 
 module _ {I A V T : Type 0} (w : Model I A) (Turns : ℕ → I → Turn V T → Type 0) where
   -- what holds at the place reached
@@ -36,6 +29,10 @@ module _ {I A V T : Type 0} (w : Model I A) (Turns : ℕ → I → Turn V T → 
   )
   pieces_more h j a v c r t k i (u ∷ vs) n e p =
       (p.0, p.1 + a, p.2, p.3, p.4, pieces_more h j a v c r t (k + 1) p.2 vs p.1 (omega (arith, e)) p.5, omega (arith, p.6))
+
+  -- of the trees another fact holds
+  pub collected_as : {Held More : List V → Type 0} {i j : I} → ((vs : List V) → Held vs → More vs) → Collected w Turns Held i j → Collected w Turns More i j
+  collected_as f c = record { trees = c.trees; taken = c.taken; pieces = c.pieces; rest_is = c.rest_is; held = f c.trees c.held }
 
 module _ {I A V T : Type 0} {w : Model I A} (l : InputLaws w) where
   pub collected_none : {Turns : ℕ → I → Turn V T → Type 0} {Held : List V → Type 0} {i : I} → w.IsKnown i → Held [] → Collected w Turns Held i i

@@ -1,4 +1,4 @@
--- What a repetition accepts, said of what its part accepts.
+-- The acceptances of a repetition, by those of its part.
 use Rattle.std.specs.Prelude.{◌≡◌, ℕ, ◌+◌, ◌<◌, ◌≤◌, ◌⊎◌, ◌↔◌, Bool, Option, Some, None, List, ◌∷◌}
 use Rattle.nom_internal.specs.Prelude.{ErrorKind, Model, IsSuffixOf, Outcome, Accept, Refuse, Meaning}
 use Rattle.nom_repeat.specs.Repeat.{Turn, Pieces, IsBelow}

@@ -1,5 +1,5 @@
--- What is accumulated of items.
-use Rattle.std.specs.Prelude.{◌≡◌, List, [], ◌∷◌, Option, Some, None}
+-- Accumulators, and the items that they hold.
+use Rattle.std.specs.Prelude.{◌≡◌, ℕ, ◌+◌, List, [], ◌∷◌, Option, Some, None, Result, Ok, Err}
 use Rattle.std.specs.List.{AllZip}
 
 -- one more item, where both are built; and what is called for the next may be called
@@ -13,6 +13,16 @@ PushesBoth Pushes CanPush None x new = new ≡ None
 abbrev pub LacksRoom : {K : Type 0} → (K → Type 0) → Option K → Type 0
 LacksRoom IsFull (Some k) = IsFull k
 LacksRoom IsFull None = ⊥
+
+-- Where there was room for an item, it was pushed, and there is room for the others.
+abbrev pub KeepsRoom : {K X F : Type 0} → (K → ℕ → Type 0) → K → K → Result X F → Type 0
+KeepsRoom HasRoom old new (Ok x) = (n : ℕ) → HasRoom old (n + 1) → HasRoom new n
+KeepsRoom HasRoom old new (Err e) = (n : ℕ) → HasRoom old (n + 1) → ⊥
+
+-- room for a number of items, where there is an accumulator
+abbrev pub HasRoomFor : {K : Type 0} → (K → ℕ → Type 0) → Option K → ℕ → Type 0
+HasRoomFor HasRoom (Some k) n = HasRoom k n
+HasRoomFor HasRoom None n = Unit {0}
 
 -- that many items more, in their order
 abbrev pub Adds : {T K : Type 0} → (K → T → K → Type 0) → K → List T → K → Type 0

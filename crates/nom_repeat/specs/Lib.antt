@@ -1,5 +1,6 @@
 pub mod Accepted
 pub mod Bounds
+pub mod Certain
 pub mod Inverted
 pub mod Items
 pub mod Accumulated

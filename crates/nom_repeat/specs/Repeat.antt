@@ -39,10 +39,22 @@ module _ {I A V T : Type 0} (w : Model I A) (Turns : ℕ → I → Turn V T → 
     pub pieces : Pieces (λ k j. Turns k j (Ends ending)) 0 i trees taken
     pub outcome_is : o ≡ after taken (tree trees) ending
 
+-- items were taken from i to j, and of their trees the fact holds
+pub record Collected {I A V T : Type 0} (w : Model I A) (Turns : ℕ → I → Turn V T → Type 0) (Held : List V → Type 0) (i j : I) : Type 0 where
+  pub trees : List V
+  pub taken : ℕ
+  pub pieces : Pieces w Turns (λ _ x. x ≡ j) 0 i trees taken
+  pub rest_is : IsSuffixOf w i taken j
+  pub held : Held trees
+
 -- below a bound, where there is one
 abbrev pub IsBelow : Option ℕ → ℕ → Type 0
 IsBelow None k = Unit {0}
 IsBelow (Some bound) k = k < bound
+
+-- each number below n is below the bound
+abbrev pub AreBelow : Option ℕ → ℕ → Type 0
+AreBelow bound n = (k : ℕ) → k < n → IsBelow bound k
 
 -- what the part for a count replies after that many items: its outcome, or nothing at the bound, where it doesn't run
 abbrev pub Replies : {I P : Type 0} → Option ℕ → (ℕ → I → Outcome P → Type 0) → ℕ → I → Option (Outcome P) → Type 0

@@ -1,7 +1,7 @@
 //! Accumulators of items.
-ghost use Rattle.std.specs.Prelude.{◌≡◌, ◌+◌, ◌%◌, ◌^◌, ◌<◌, ◌≤◌, ◌++◌, ◌∷◌, [], OnOk, OnErr, vec_len, vec_capacity};
+ghost use Rattle.std.specs.Prelude.{◌≡◌, ◌+◌, ◌%◌, ◌^◌, ◌<◌, ◌≤◌, ◌++◌, ◌∷◌, [], ℕ, IsTrue, OnOk, OnErr, false, vec_len, vec_capacity};
 ghost use Rattle.nom_internal.specs.Prelude.{Built};
-ghost use Rattle.nom_repeat.specs.Accumulated.{PushesBoth, LacksRoom};
+ghost use Rattle.nom_repeat.specs.Accumulated.{PushesBoth, LacksRoom, KeepsRoom, HasRoomFor};
 
 use core::mem::replace_with;
 use nom_error::answer::OutOfMemory;
@@ -39,12 +39,32 @@ pub trait Accumulator<T> {
 
     ghost fills: { (k : Self) → IsFull k → Grows };
 
+    /// There is room for a number of items.
+    ghost HasRoom: { Self → ℕ → Type 0 } = { λ _ _. ⊥ };
+
+    /// Returns whether there is room for `count` items, as far as this is known.
+    #[inline(always)]
+    fn has_room(&self, count: usize) -> bool
+        ensures { IsTrue result → HasRoom self.now count }
+    {
+        false
+    }
+
+    /// Returns false if there is room for no item. It may return true in any case.
+    #[inline(always)]
+    fn is_open(&self) -> bool
+        ensures { result ≡ false → (n : ℕ) → HasRoom self.now (n + 1) → ⊥ }
+    {
+        true
+    }
+
     /// Pushes an item. Memory may run out only if there is no room.
     fn push(&mut self, item: T) -> Result<(), OutOfMemory>
         requires { CanPush self.old }
         ensures kept { OnOk result (Pushes self.old item self.new) }
         ensures next { OnOk result (CanPush self.new) }
-        ensures full { OnErr result (IsFull self.old) };
+        ensures full { OnErr result (IsFull self.old) }
+        ensures room { KeepsRoom HasRoom self.old self.new result };
 }
 
 /// Collects the items in a list, in their order.
@@ -58,6 +78,18 @@ impl<T: Drop, A: Allocator> Accumulator<T> for Vec<T, A> {
     ghost Grows = { Unit {0} };
 
     ghost fills = { λ _ _. tt };
+
+    ghost HasRoom = { λ list n. vec_len list + n ≤ vec_capacity list };
+
+    #[inline(always)]
+    fn has_room(&self, count: usize) -> bool {
+        self.len() <= self.capacity() && count <= self.capacity() - self.len()
+    }
+
+    #[inline(always)]
+    fn is_open(&self) -> bool {
+        self.len() < self.capacity()
+    }
 
     #[inline(always)]
     fn push(&mut self, item: T) -> Result<(), OutOfMemory> {
@@ -84,6 +116,13 @@ impl<T: Drop> Accumulator<T> for usize {
     ghost Grows = { ⊥ };
 
     ghost fills = { λ _ h. h };
+
+    ghost HasRoom = { λ _ _. Unit {0} };
+
+    #[inline(always)]
+    fn has_room(&self, _count: usize) -> bool {
+        true
+    }
 
     #[inline(always)]
     fn push(&mut self, _item: T) -> Result<(), OutOfMemory> {
@@ -145,6 +184,44 @@ pub fn push_item<M: Mode, T: Drop, K: Accumulator<T>>(
     }
 }
 
+/// Pushes an item into an accumulator that has room for it, if outputs are built.
+#[inline(always)]
+pub fn push_within<M: Mode, T: Drop, K: Accumulator<T>>(kept: &mut Option<K>, item: Option<T>)
+    requires kept { Built M.BUILDS K.CanPush kept.old }
+    requires item { Built M.BUILDS (λ _. Unit {0}) item }
+    requires room { (n : ℕ) × HasRoomFor K.HasRoom kept.old (n + 1) }
+    ensures kept { PushesBoth K.Pushes K.CanPush kept.old item kept.new }
+    ensures room { (n : ℕ) → HasRoomFor K.HasRoom kept.old (n + 1) → HasRoomFor K.HasRoom kept.new n }
+{
+    if !M::BUILDS {
+        return;
+    }
+    match (kept, item) {
+        (Some(kept), Some(item)) => {
+            // The compiler then takes the test for room out of `push`.
+            if !kept.is_open() {
+                unreachable!();
+            }
+            match kept.push(item) {
+                Ok(()) => {}
+                Err(_) => unreachable!(),
+            }
+        }
+        _ => unreachable!(),
+    }
+}
+
+/// Returns whether an accumulator has room for `count` items. If there is no accumulator, it returns true.
+#[inline(always)]
+pub fn has_room_for<T, K: Accumulator<T>>(kept: &Option<K>, count: usize) -> bool
+    ensures { IsTrue result → HasRoomFor K.HasRoom kept.now count }
+{
+    match kept {
+        Some(kept) => kept.has_room(count),
+        None => true,
+    }
+}
+
 /// Returns an empty list if outputs are built. It takes no memory.
 #[inline(always)]
 pub fn none_yet<M: Mode, T, A: Allocator>(alloc: A) -> Option<Vec<T, A>>
@@ -158,18 +235,33 @@ pub fn none_yet<M: Mode, T, A: Allocator>(alloc: A) -> Option<Vec<T, A>>
     }
 }
 
-/// Returns an empty list if outputs are built, with room for `count` items, but at most for `MOST_AHEAD`.
+/// Returns an empty list with room for `room` items, if there is memory for it.
+#[inline(always)]
+fn empty_list<T: Drop, A: Allocator>(alloc: A, room: usize) -> Vec<T, A>
+    ensures { result.items ≡ [] }
+{
+    let mut list = Vec::new(alloc);
+    if room > 0 {
+        let _ = list.reserve_exact(room);
+    }
+    list
+}
+
+/// Returns an empty list if outputs are built, with room for the items that are certain, or for `claimed` items,
+/// but for those at most for `MOST_AHEAD`.
 ///
 /// If there is no memory for this room, the list grows with its items.
 #[inline(always)]
-pub fn with_room<M: Mode, T: Drop, A: Allocator>(alloc: A, count: usize) -> Option<Vec<T, A>>
+pub fn with_room<M: Mode, T: Drop, A: Allocator>(
+    alloc: A,
+    certain: usize,
+    claimed: usize,
+) -> Option<Vec<T, A>>
     ensures empty { Built M.BUILDS (λ list. list.items ≡ []) result }
     ensures ready { Built M.BUILDS (λ _. Unit {0}) result }
 {
     if M::BUILDS {
-        let mut list = Vec::new(alloc);
-        let _ = list.reserve_exact(count.min(MOST_AHEAD));
-        Some(list)
+        Some(empty_list(alloc, certain.max(claimed.min(MOST_AHEAD))))
     } else {
         None
     }

@@ -6,6 +6,7 @@ ghost use Rattle.nom_repeat.specs.Items.{items_meaning};
 ghost use Rattle.nom_repeat.specs.Accumulated.{Accumulated};
 
 use crate::accumulator::{Accumulator, push_item};
+use crate::ahead::items_ahead;
 use nom_error::answer::{Err, PResult};
 use nom_error::kind::ErrorKind;
 use nom_error::mode::{Mode, OutputM, OutputMode};
@@ -32,9 +33,7 @@ pub fn items_exactly<OM: OutputMode, I: Items, F: Parser<I>, K: Accumulator<F::O
     ensures kept { F.state parser.new ≡ F.state parser.old }
 {
     input.prove_known();
-    let mut rest = input;
-    let mut kept = before;
-    let mut done = 0usize;
+    let (mut rest, mut kept, mut done) = items_ahead::<OM, I, F, K>(parser, input, before, count);
     while done < count {
         match parser.process::<OutputM<OM::Output, OM::Error, OM::Incomplete>>(rest) {
             Ok((next, item)) => {

@@ -6,6 +6,7 @@ ghost use Rattle.nom_repeat.specs.Accumulated.{Accumulated};
 ghost use Rattle.nom_repeat.specs.Repeat.{IsBelow};
 
 use crate::accumulator::{Accumulator, push_item};
+use crate::ahead::items_ahead;
 use nom_error::answer::{Err, PResult};
 use nom_error::kind::ErrorKind;
 use nom_error::mode::{Mode, OutputM, OutputMode};
@@ -62,9 +63,8 @@ pub fn items<OM: OutputMode, EM: Mode, I: Input, F: Parser<I>, K: Accumulator<F:
     ensures kept { F.state parser.new ≡ F.state parser.old }
 {
     input.prove_known();
-    let mut rest = input;
-    let mut kept = before;
-    let mut count = 0usize;
+    let most = limits.most.unwrap_or(usize::MAX);
+    let (mut rest, mut kept, mut count) = items_ahead::<OM, I, F, K>(parser, input, before, most);
     loop {
         if is_full(limits.most, count) {
             return Ok((rest, kept));

@@ -5,6 +5,7 @@
 #![tactic(auto)]
 
 pub mod accumulator;
+pub mod ahead;
 pub mod bounds;
 pub mod exact;
 pub mod inverted;

@@ -1,4 +1,4 @@
--- What `process` shows where the errors of refusals aren't built, as `parse` shows it: all but refusals.
+-- Lemmas on `process` where the errors of refusals aren't built: it shows what `parse` does, all but refusals.
 use Rattle.std.proofs.Common.{◌≡◌, Bool, true, false, Ok, Err, Option, Some, refl, sym, ◌∙◌, ap, subst}
 use Rattle.nom_internal.specs.Prelude.{Needed, Incomplete, Failure, modes, size_of, Model, Outcome, Accept, Refuse, Stop, Fails, Needs}
 use Rattle.nom_internal.specs.Prelude.{ShowsAnswer, ParsesAnswer, Shown, RanOut, Parsed}

@@ -1,4 +1,4 @@
--- What is among a list, by its places.
+-- Lemmas on the members of a list, by their places.
 use Rattle.std.proofs.Common.{◌≡◌, ℕ, ◌<◌, Bool, false, IsTrue, List, map, length, get_or, sym, ◌∙◌, true≢false}
 use Rattle.std.proofs.lemmas.List.{get_or-map}
 

@@ -1,4 +1,4 @@
--- What a choice among the parsers of a list tells of its branches.
+-- Lemmas on a choice among the parsers of a list, and what it tells of its branches.
 use Rattle.std.proofs.Common.{ℕ, ◌+◌, Bool, List, [], ◌∷◌, ◌++◌, sym, subst, append-nil, append_assoc}
 use Rattle.nom_internal.specs.Prelude.{Model, Meaning, IsLawful, or_meaning}
 use Rattle.nom_internal.specs.laws.CaseLaws.{labelled_lawful}

@@ -1,4 +1,4 @@
--- What a choice tells of its branches: the furthest place that any of them reached, and all that was expected there.
+-- Reports of a choice on its branches: the furthest place that any of them reached, and all that was expected there.
 use Rattle.std.specs.Prelude.{◌≡◌, ℕ, ◌≤◌, Bool, IsTrue, ◌⊎◌, List, [], ◌∷◌}
 use Rattle.std.specs.List.{IsAmong}
 use Rattle.nom_internal.specs.Prelude.{Meaning, Model, Refuse}

@@ -1,5 +1,6 @@
 pub mod Around
 pub mod Furthest
+pub mod InTurn
 pub mod Kept
 pub mod Left
 pub mod Named

@@ -1,4 +1,4 @@
--- What a report says, and what the functions of an error type make of reports.
+-- Reports: what they say, and what the functions of an error type make of them.
 use Rattle.std.specs.Prelude.{◌≡◌, ℕ, ◌<◌, ◌≤◌, ◌⊎◌, List, [], false}
 use Rattle.nom_error.specs.Errors.{Errors, Contexts, Externals}
 use Rattle.nom_report.specs.Wanted.{Wanted, WantedChar, WantedKind, WantedLabel}

@@ -1,4 +1,4 @@
--- What was expected at a place: expectations as contracts see them, and how they are joined.
+-- The expectations at a place, as contracts see them, and how they are joined.
 use Rattle.std.specs.Prelude.{ℕ, List}
 use Rattle.nom_error.specs.declared.kind.ErrorKind.{ErrorKind}
 use Rattle.nom_report.specs.declared.expectation.Expected.{Expected}

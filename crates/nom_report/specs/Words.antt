@@ -1,4 +1,4 @@
--- What is expected, in words.
+-- Expectations in words.
 use Rattle.std.specs.Prelude.{ℕ, ◌+◌, Bool, ◌&&◌, not, nat_eq, if◌then◌else◌, List, [], ◌∷◌, ◌++◌, length, codes, encode_utf8}
 use Rattle.std.specs.Char.{is_control}
 use Rattle.nom_error.specs.Kinds.{description_of}

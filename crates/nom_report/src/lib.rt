@@ -27,5 +27,5 @@ pub use crate::octets::render_bytes;
 pub use crate::place::Placed;
 pub use crate::several::MOST_EXPECTED;
 pub use crate::text::{render, render_from};
-pub use crate::twice::{parse_complete_twice, parse_twice};
+pub use crate::twice::{parse_complete_in_turn, parse_complete_twice, parse_in_turn, parse_twice};
 pub use crate::value::Report;

@@ -1,4 +1,4 @@
--- What is told of a text that was written, and of one that was built whole.
+-- Lemmas on a text that was written, and on one that was built whole.
 use Rattle.std.proofs.Common.{◌≡◌, ℕ, List, [], Result, Ok, Err, IfOk, ap, refl, sym, subst}
 use Rattle.std.specs.Prelude.{String, string_bytes}
 use Rattle.nom_io.specs.Account.{Account}
@@ -23,9 +23,9 @@ module _ {T : Type 0} {IsText : (text : List ℕ) → T → Type 0} {a b : Accou
   told (Added e w) = Whole text x refl is (wrote_all w)
   told (Broken e w) = absurd (cc (e))
 
-  pub untold : {left : List ℕ} {e : RunError} → Puts a b [] text left (Err e) → Tells IsText a b Lacks (Err e)
-  untold (Added d w) = absurd (cc (d))
-  untold (Broken d w) = Cut text x (ap Err (cc (d))) is w
+  pub pending : {left : List ℕ} {e : RunError} → Puts a b [] text left (Err e) → Tells IsText a b Lacks (Err e)
+  pending (Added d w) = absurd (cc (d))
+  pending (Broken d w) = Cut text x (ap Err (cc (d))) is w
 
 -- a text that was built is such a text
 pub built_is : {A E : Type 0} (P : (text : List ℕ) → (status : ℕ) → Type 0) (built : Result (String A × ℕ) E) →

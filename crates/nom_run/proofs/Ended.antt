@@ -1,4 +1,4 @@
--- What a program wrote, for the words that it was given.
+-- Lemmas on the output of a program, for the words that it was given.
 use Rattle.std.proofs.Common.{arith, ◌≡◌, ℕ, ◌⊎◌, List, [], Result, Ok, Err, IfErr, IfOk, refl, sym, subst, inl, inr}
 use Rattle.nom_io.specs.Account.{Account, one_more}
 use Rattle.nom_run.specs.declared.error.RunError.{RunError}

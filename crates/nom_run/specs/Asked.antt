@@ -1,4 +1,4 @@
--- What the words of a command line ask for. The first is the program's name.
+-- The words of a command line, and what they ask for. The first is the program's name.
 use Rattle.std.specs.Prelude.{◌≡◌, ℕ, ◌<◌, ◌⊎◌, List, [], length, drop, slice_index_or}
 use Rattle.nom_io.specs.Account.{Account, one_more}
 use Rattle.nom_run.specs.declared.error.RunError.{RunError}

@@ -1,4 +1,4 @@
--- What a whole run does to its source and its sink.
+-- The effect of a whole run on its source and its sink.
 use Rattle.std.specs.Prelude.{◌≡◌, ℕ, ◌+◌, ◌<◌, ◌≤◌, ◌⊎◌, List, length, Result, Ok, Err, slice_index}
 use Rattle.std.specs.Io.KnownBytes.{Consumes, IsAtEnd}
 use Rattle.nom_io.specs.Account.{Account, NoneFailed}

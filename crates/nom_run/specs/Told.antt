@@ -1,4 +1,4 @@
--- What the program writes where there is no report, and what it writes at all.
+-- The output of the program: where there is no report, and in all cases.
 use Rattle.std.specs.Prelude.{◌≡◌, ℕ, ◌⊎◌, List, [], codes}
 use Rattle.nom_io.specs.Account.{Account}
 use Rattle.nom_io.specs.Written.{Wrote, WroteFront}

@@ -1,4 +1,4 @@
--- What the words of a command line give as cuts.
+-- The words of a command line, as cuts.
 use Rattle.std.specs.Prelude.{◌≡◌, ℕ, ◌+◌, ◌-◌, ◌^◌, ◌<◌, ◌≤◌, ◌⊎◌, List, [], length, slice_index_or, slice_index}
 use Rattle.nom_run.specs.Runs.{NeverFalls}
 use Rattle.std.specs.Str.Parse.{IsNumeral, digits_value}

@@ -1,4 +1,4 @@
--- What lists with a separator between their items accept.
+-- Lemmas on the acceptances of lists with a separator between their items.
 use Rattle.std.proofs.Common.{◌≡◌, ◌∙◌, Bool, false, ℕ, ◌+◌, ◌<◌, ◌⊎◌, Some, None, List, [], ◌∷◌, ◌++◌, refl, arith, ap, subst, sym, inl, inr}
 use Rattle.nom_internal.specs.Prelude.{Errors, Model, InputLaws, IsSuffixOf, Accept, Refuse, Meaning}
 use Rattle.nom_error.specs.declared.kind.ErrorKind.TheVariants as Kind

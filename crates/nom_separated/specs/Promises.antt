@@ -1,4 +1,4 @@
--- What lists with a separator promise, said of their meanings.
+-- The promises of lists with a separator, on their meanings.
 use Rattle.std.specs.Prelude.{◌≡◌, ℕ, ◌<◌, ◌⊎◌, ◌↔◌, Bool, None, List, []}
 use Rattle.nom_internal.specs.Prelude.{Model, Accept, Refuse, Meaning}
 use Rattle.nom_repeat.specs.Accepted.{InTurn, OneAndMore}

@@ -1,6 +1,6 @@
 //! The parsers that run two parts in sequence.
 ghost use Rattle.std.specs.Prelude.{false};
-ghost use Rattle.nom_internal.specs.Prelude.{with_outputs, ThenBesides};
+ghost use Rattle.nom_internal.specs.Prelude.{with_outputs, ThenSideCondition};
 ghost use Rattle.nom_sequence.specs.Sequences.{preceded_of, terminated_of};
 ghost use Rattle.nom_sequence.specs.laws.SequenceLaws.{preceded_lawful, preceded_steady, terminated_lawful, terminated_steady};
 ghost use Rattle.nom_sequence.specs.Words as Words;
@@ -35,7 +35,8 @@ impl<I: Items, F: Parser<I> + Drop, G: Parser<I, Error = F::Error> + Drop> Parse
 
     ghost worded = { λ s. Words.preceded_worded I.model (F.worded s.0) (G.worded s.1) };
 
-    ghost Besides = { λ mode old new i. ThenBesides (F.Besides (with_outputs false mode) old.first new.first i) (G.Besides mode old.second new.second) };
+    ghost SideCondition = { λ mode old new i. ThenSideCondition (F.SideCondition (with_outputs false mode) old.first new.first i) (G.SideCondition mode
+        old.second new.second) };
 
     #[inline(always)]
     fn process<OM: OutputMode>(&mut self, input: I) -> PResult<I, Self::Output, Self::Error> {
@@ -83,7 +84,8 @@ impl<I: Items, F: Parser<I> + Drop, G: Parser<I, Error = F::Error> + Drop> Parse
 
     ghost worded = { λ s. Words.terminated_worded I.model (F.worded s.0) (G.worded s.1) };
 
-    ghost Besides = { λ mode old new i. ThenBesides (F.Besides mode old.first new.first i) (G.Besides (with_outputs false mode) old.second new.second) };
+    ghost SideCondition = { λ mode old new i. ThenSideCondition (F.SideCondition mode old.first new.first i) (G.SideCondition (with_outputs false mode)
+        old.second new.second) };
 
     #[inline(always)]
     fn process<OM: OutputMode>(&mut self, input: I) -> PResult<I, Self::Output, Self::Error> {

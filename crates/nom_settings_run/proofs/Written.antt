@@ -1,4 +1,4 @@
--- What holds of the grammar by the characters and sets of its parts holds of the grammar.
+-- Lemmas on the grammar of settings: what holds of it by the characters and sets of its parts holds of it.
 use Rattle.std.proofs.Common.{◌≡◌, ℕ, List, chars, codes, subst, ◌↔◌}
 use Rattle.std.specs.Prelude.{not, Contains, IsTrue, Vec}
 use Rattle.nom_error.specs.declared.kind.ErrorKind.TheVariants.{IsNot}

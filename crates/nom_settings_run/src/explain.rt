@@ -1,4 +1,4 @@
-//! What is wrong in a file of settings, for people.
+//! Reports for people on what is wrong in a file of settings.
 use crate::settings::is_value;
 use nom::bytes::{is_not, take_while};
 use nom::character::char;

@@ -1,4 +1,4 @@
--- What is added, under other words.
+-- Lemmas on what is added to a sink, under other words.
 use Rattle.std.proofs.Common.{List, Result, Ok, Err}
 use Rattle.nom_sink.specs.declared.error.WriteError.{WriteError}
 use Rattle.nom_sink.specs.Written.{SinkModel, Space, Written}

@@ -1,4 +1,4 @@
--- What is added of a list's values, one after another.
+-- Lemmas on the values of a list that are added, one after another.
 use Rattle.std.proofs.Common.{◌≡◌, ℕ, ◌+◌, ◌<◌, ◌≤◌, List, [], ◌∷◌, ◌++◌, length, drop, get_or, zero, suc, refl, sym, ◌∙◌, ap, subst}
 use Rattle.std.proofs.Common.{append_assoc, append-nil, length-append, arith, inl, inr}
 use Rattle.std.proofs.Common.{take}

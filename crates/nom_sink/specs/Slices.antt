@@ -1,4 +1,4 @@
--- What was written into a slice.
+-- Slices as sinks, and what was written into them.
 use Rattle.std.specs.Prelude.{ℕ, List, length, take, drop}
 use Rattle.nom_sink.specs.Written.{SinkModel}
 use Rattle.nom_sink.specs.Written.Lack.{OfSpace}

@@ -1,4 +1,4 @@
--- What was written into a text.
+-- Texts as sinks, and what was written into them.
 use Rattle.std.specs.Prelude.{ℕ, ◌/◌, List, chars, vec_capacity}
 use Rattle.nom_sink.specs.declared.text.TextSink.{TextSink}
 

@@ -1,4 +1,4 @@
--- What was written into a list.
+-- Lists as sinks, and what was written into them.
 use Rattle.std.specs.Prelude.{Vec, vec_capacity}
 use Rattle.nom_sink.specs.Written.{SinkModel, no_loan}
 use Rattle.nom_sink.specs.Written.Lack.{OfMemory}

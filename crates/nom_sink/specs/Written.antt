@@ -1,4 +1,4 @@
--- What a call of a writer does to what a sink holds.
+-- Sinks, and the effect of a writer's call on what they hold.
 use Rattle.std.specs.Prelude.{◌≡◌, ℕ, ◌+◌, ◌-◌, ◌<◌, ◌≤◌, List, ◌++◌, length, take, drop, Result, Ok, Err}
 use Rattle.nom_sink.specs.declared.error.WriteError.{WriteError}
 use Rattle.nom_sink.specs.declared.error.WriteError.TheVariants.{OutOfMemory, Full, TooLong, Mismatch}

@@ -1,4 +1,4 @@
-//! What items are written into, and what is ready to be written, without a parser.
+//! Sinks that items are written into, and pieces that are ready to be written, without a parser.
 #![tactic(auto)]
 
 pub mod bits;

@@ -1,4 +1,4 @@
-//! What is ready to be written.
+//! Pieces that are ready to be written.
 ghost use Rattle.std.specs.Prelude.{◌≤◌, ◌≡◌, ℕ, IfErr, IfOk, List, length, take};
 ghost use Rattle.nom_sink.specs.Choices.{Either, EitherFails};
 ghost use Rattle.nom_sink.specs.Parts.{Both, BothFail};

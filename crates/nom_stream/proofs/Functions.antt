@@ -1,4 +1,4 @@
--- What an item's function shows.
+-- Lemmas on the answers of an item's function.
 use Rattle.std.proofs.Common.{Ok, Err, refl, inl, inr}
 use Rattle.nom_internal.specs.Prelude.{Errors, Failure, Incomplete, Needed, OutOfMemory, View, bytes_model, size_of, same_self}
 use Rattle.nom_internal.specs.Prelude.{Accept, Fails, Needs, Outcome, Outright, Refuse, Stop}
@@ -18,7 +18,7 @@ use Rattle.nom_stream.specs.Items.{Answered, Bytes}
 module _ {O : Type 0} {view : View O} {Gives : Bytes → Answered O → Type 0} {i : Bytes} where
   answered : (o : Outcome view.Value) (r : Answered O) → bytes_model.IsKnown i → Gives i r → TakenAs bytes_model view i r o →
       FuncAnswers bytes_model view Gives i o
-  answered o r h g t = record { at = i; known = h; alike = same_self bytes_model i; outcome = record { answer = r; given = g; told = t } }
+  answered o r h g t = record { at = i; known = h; consistent = same_self bytes_model i; outcome = record { answer = r; given = g; told = t } }
 
 module _ {O : Type 0} {view : View O} {errs : Errors Bytes (Error Bytes)} {Gives : Bytes → Answered O → Type 0} {i : Bytes} where
   pub item_cut : {left : Bytes} {v : O} {r : Answered O} → ((j : Bytes) → errs.of_kind j Kind.Fail (record { input = j; code = Kind.Fail })) →

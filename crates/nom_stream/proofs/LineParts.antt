@@ -1,4 +1,4 @@
--- What holds of the grammar of lines by its parts holds of the grammar.
+-- Lemmas on the grammar of lines: what holds of it by its parts holds of it.
 use Rattle.std.proofs.Common.{◌≡◌, ℕ, List, [], ◌∷◌, Option, subst}
 use Rattle.nom_error.specs.declared.kind.ErrorKind.TheVariants as Kind
 use Rattle.nom_error.specs.declared.value.Error.{Error}

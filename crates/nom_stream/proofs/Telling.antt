@@ -1,4 +1,4 @@
--- What is told of what is held.
+-- Lemmas on what is told of the bytes that are held.
 use Rattle.std.proofs.Common.{arith, ◌≡◌, ℕ, zero, suc, ◌+◌, ◌-◌, ◌<◌, ◌≤◌, ◌⊎◌, Bool, true, false, List, [], ◌++◌, length, Option}
 use Rattle.std.proofs.Common.{None, Some, Result, Ok, Err, refl, sym, ◌∙◌, ap, subst}
 use Rattle.std.proofs.Common.{append-nil, length-append, vec_len, inl, inr}
@@ -53,13 +53,13 @@ module _ {R A : Type 0} (s u t : Stream R A) where
   fault_then : (e : Io.Error) → OneFault s.source u.source e → NoFault u.source t.source → OneFault s.source t.source e
   fault_then e f g = (g.0 ∙ f.0, g.1 ∙ f.1)
 
-  pub none_told : TellsNoFault s u → u.untold ≡ None → TellsNoFault u t → TellsNoFault s t
+  pub none_told : TellsNoFault s u → u.pending ≡ None → TellsNoFault u t → TellsNoFault s t
   none_told (inl f) e (inl g) = inl (same_faults f.0 g.0, g.1 ∙ f.1)
   none_told (inl f) e (inr g) = inr (sym f.1 ∙ g.0, ((g.1).0, one_fault (g.1).0 f.0 (g.1).1, (g.1).2))
   none_told (inr f) e g = let h = (f.1).2 in absurd (cc (e, h))
 
-  told_after : (e : Io.Error) → TellsNoFault s u → t.untold ≡ None →
-      ((u.untold ≡ None) × OneFault u.source t.source e) ⊎ ((u.untold ≡ Some e) × NoFault u.source t.source) → TellsFault s t e
+  told_after : (e : Io.Error) → TellsNoFault s u → t.pending ≡ None →
+      ((u.pending ≡ None) × OneFault u.source t.source e) ⊎ ((u.pending ≡ Some e) × NoFault u.source t.source) → TellsFault s t e
   told_after e (inl f) n (inl g) = (n, inl (sym f.1 ∙ g.0, one_fault e f.0 g.1))
   told_after e (inl f) n (inr g) = (n, inr (sym f.1 ∙ g.0, same_faults f.0 g.1))
   told_after e (inr f) n (inl g) = let h = (f.1).2 in let k = g.0 in absurd (cc (k, h))
@@ -72,8 +72,8 @@ module _ {R A : Type 0} (s u t : Stream R A) where
   pub one_told : (e : Io.Error) → TellsNoFault s u → TellsFault u t e → TellsFault s t e
   one_told e f g = told_after e f g.0 g.1
 
--- where the reader and what is untold stay, so do the faults
-still_none : {R A : Type 0} (s u t : Stream R A) → t.source ≡ u.source → t.untold ≡ u.untold → TellsNoFault s u → TellsNoFault s t
+-- where the reader and what is pending stay, so do the faults
+still_none : {R A : Type 0} (s u t : Stream R A) → t.source ≡ u.source → t.pending ≡ u.pending → TellsNoFault s u → TellsNoFault s t
 still_none s u t a b (inl f) = inl (subst (NoFault s.source) (sym a) f.0, b ∙ f.1)
 still_none s u t a b (inr f) = inr (f.0, ((f.1).0, subst (λ z. OneFault s.source z (f.1).0) (sym a) (f.1).1, b ∙ (f.1).2))
 
@@ -137,7 +137,7 @@ module _ {R A V O : Type 0} (left : R → Option (List ℕ)) (grammar : Grammar 
 
   -- where more may be read, each filling gave as many bytes as were wanted
   all_filled : (given : List ℕ) → held_of u.held ≡ held_of s.held ++ given → u.ended ≡ false → length (held_of u.held) < u.settings.most →
-      u.untold ≡ None → lacks ≡ false → ReadAsNeeded grammar s u (IsUntold u ⊎ (lacks ≡ true)) given →
+      u.pending ≡ None → lacks ≡ false → ReadAsNeeded grammar s u (IsUntold u ⊎ (lacks ≡ true)) given →
       AreFillings grammar s.settings (held_of s.held) given
   all_filled given added goes_on few told enough (NoneRead e f) = NoFilling e
   all_filled given added goes_on few told enough (MoreRead earlier last e all f (inl a)) =
@@ -152,7 +152,7 @@ module _ {R A V O : Type 0} (left : R → Option (List ℕ)) (grammar : Grammar 
   -- it is decided, and told
   pub decides_item : (t : Stream R A) (h : Held A) (taken : Taken O) (r : Told O) → (IsUndecided taken → ⊥) →
       Takes grammar true (held_of u.held) (held_of h) taken → HoldsLast (held_of u.held) h taken → Tells taken r → t.offset ≡ counted u.offset r →
-      (t.source ≡ u.source) × (t.held ≡ h) × (t.settings ≡ u.settings) × (t.ended ≡ u.ended) × (t.untold ≡ u.untold) → Decides left grammar s t r
+      (t.source ≡ u.source) × (t.held ≡ h) × (t.settings ≡ u.settings) × (t.ended ≡ u.ended) × (t.pending ≡ u.pending) → Decides left grammar s t r
   decides_item t h taken r d g l tells count o = record {
     filled = u;
     reads = reads_so_far r;
@@ -176,7 +176,7 @@ module _ {R A V O : Type 0} {left : R → Option (List ℕ)} {grammar : Grammar 
       record {
         filled = u;
         reads = reads_so_far left grammar s u lacks i r;
-        faults = counts_end grammar s u t k r ends (still_none s u t o.source o.untold i.faults);
+        faults = counts_end grammar s u t k r ends (still_none s u t o.source o.pending i.faults);
         at_end = i.at_end;
         answers = AtEnd e k there.waits ends;
         no_read = i.no_read;
@@ -216,7 +216,7 @@ module _ {R A V O : Type 0} {left : R → Option (List ℕ)} {grammar : Grammar 
   goes_on_from goes_on e = let h = (there.so_far.no_read e).1 in cc (goes_on, h)
 
   -- more is read, since what is held doesn't decide
-  reads_on : u.ended ≡ false → length (held_of u.held) < u.settings.most → u.untold ≡ None → lacks ≡ false → (wants : ℕ) →
+  reads_on : u.ended ≡ false → length (held_of u.held) < u.settings.most → u.pending ≡ None → lacks ≡ false → (wants : ℕ) →
       wants ≡ wanted_of u.settings k (length (held_of u.held)) → (Unreadable : Type 0) (t : Stream R A) → Fills left u t →
       length (held_of t.held) < wants + length (held_of u.held) + most_read u.settings →
       IsEnough (wants + length (held_of u.held)) t Unreadable → Reads left grammar s t Unreadable
@@ -292,7 +292,7 @@ module _ {R A V O : Type 0} {left : R → Option (List ℕ)} {grammar : Grammar 
       }
 
   -- so it is of a stream after more was waited for, which told no fault
-  further : (t : Stream R A) (wants : ℕ) (r : Result (Unit {0}) Unread) (lack : Bool) → u.ended ≡ false → Waited left u t wants r → u.untold ≡ None →
+  further : (t : Stream R A) (wants : ℕ) (r : Result (Unit {0}) Unread) (lack : Bool) → u.ended ≡ false → Waited left u t wants r → u.pending ≡ None →
       TellsNoFault u t → (lack ≡ true → LacksRoom t) → Reads left grammar s t (IsUntold t ⊎ (lack ≡ true)) → SoFar left grammar s t lack
   further t wants r lack goes_on d told faults room reads =
       let i = there.so_far in

@@ -73,7 +73,7 @@ module _ {V : Type 0} (m : Meaning Bytes V (Error Bytes)) (lawful : IsLawful byt
 
   -- what is needed at an input is needed at each that is equal as models
   lacking_alike : i.now ≡ x.now → (k : Option ℕ) → m.answers true x (Stop (Needs k)) → m.answers true i (Stop (Needs k))
-  lacking_alike e k a = lawful.alike true x i (Stop (Needs k)) kx ki (record { elements_are = sym e; mark_is = refl }) a tt
+  lacking_alike e k a = lawful.consistent true x i (Stop (Needs k)) kx ki (record { elements_are = sym e; mark_is = refl }) a tt
 
 module _ {R A V O : Type 0} (grammar : Grammar Bytes V O (Error Bytes)) (t : Stream R A) (i : Bytes) (p : Outcome V) where
   abbrev Tellings : Told O → Type 0

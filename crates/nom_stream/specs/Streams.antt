@@ -74,24 +74,24 @@ CountsOnce old new (Err Unread.OutOfMemory) = NoFault old new
 
 -- an error is yet to be told
 abbrev pub IsUntold : {R A : Type 0} → Stream R A → Type 0
-IsUntold t = (e : Io.Error) × (t.untold ≡ Some e)
+IsUntold t = (e : Io.Error) × (t.pending ≡ Some e)
 
 -- The faults of a reader, from one state of a stream to another.
 module _ {R A : Type 0} (s t : Stream R A) where
   -- None is told. No read failed; or one did after others had given bytes, and its error is yet to be told.
   abbrev pub TellsNoFault : Type 0
-  TellsNoFault = (NoFault s.source t.source × (t.untold ≡ s.untold)) ⊎ ((s.untold ≡ None) ×
-      ((e : Io.Error) × OneFault s.source t.source e × (t.untold ≡ Some e)))
+  TellsNoFault = (NoFault s.source t.source × (t.pending ≡ s.pending)) ⊎ ((s.pending ≡ None) ×
+      ((e : Io.Error) × OneFault s.source t.source e × (t.pending ≡ Some e)))
 
   -- One is told: of a read that failed just now, or of one before.
   abbrev pub TellsFault : Io.Error → Type 0
-  TellsFault e = (t.untold ≡ None) × (((s.untold ≡ None) × OneFault s.source t.source e) ⊎ ((s.untold ≡ Some e) × NoFault s.source t.source))
+  TellsFault e = (t.pending ≡ None) × (((s.pending ≡ None) × OneFault s.source t.source e) ⊎ ((s.pending ≡ Some e) × NoFault s.source t.source))
 
   -- an error that is yet to be told is told before anything is read
   abbrev pub CountsUnread : {T : Type 0} → Result T Unread → Type 0
-  CountsUnread (Ok x) = (s.untold ≡ None) × TellsNoFault
+  CountsUnread (Ok x) = (s.pending ≡ None) × TellsNoFault
   CountsUnread (Err (Unread.Fault e)) = TellsFault e
-  CountsUnread (Err Unread.OutOfMemory) = (s.untold ≡ None) × TellsNoFault
+  CountsUnread (Err Unread.OutOfMemory) = (s.pending ≡ None) × TellsNoFault
 
   abbrev pub CountsFaults : {O : Type 0} → Told O → Type 0
   CountsFaults (Ok x) = TellsNoFault
@@ -188,7 +188,7 @@ pub record ReadsNothing {R A O : Type 0} (s t : Stream R A) (r : Told O) : Type 
   pub source : t.source ≡ s.source
   pub settings : t.settings ≡ s.settings
   pub ended : t.ended ≡ s.ended
-  pub untold : t.untold ≡ s.untold
+  pub pending : t.pending ≡ s.pending
 
 module _ {R A V O : Type 0} (left : R → Option (List ℕ)) (grammar : Grammar Bytes V O (Error Bytes)) (s t : Stream R A) where
   -- bytes were read as they were needed

@@ -1,4 +1,4 @@
--- What the items of a stream are of the whole of its data.
+-- The items of a stream, as items of the whole of its data.
 use Rattle.std.specs.Prelude.{◌≡◌, ℕ, ◌+◌, ◌-◌, ◌^◌, ◌≤◌, min, ◌⊎◌, Bool, true, false, List, [], ◌∷◌, ◌++◌, length, take, Option, Some, None, Ok, Err}
 use Rattle.std.specs.List.{AllZip}
 use Rattle.nom_internal.specs.Prelude.{size_of, bytes_model, IsSuffixOf, Outcome, Accept, Refuse, Stop, Fails, Needs, Outright, TooLarge, Meaning, Grammar}

@@ -58,7 +58,7 @@ pub struct Stream<R, A: Allocator> {
     ///
     /// The read failed after others had given bytes, and these decided. The error is reported before anything
     /// else is read.
-    pub untold: Option<io::Error>,
+    pub pending: Option<io::Error>,
     /// The buffer, with the bytes that are used and the room for more, is never longer than the most bytes that may be held.
     pub ghost bounded: { vec_len held.bytes ≤ settings.most },
 }
@@ -73,7 +73,7 @@ impl<R: Read, A: Allocator + Copy> Stream<R, A> {
     pub fn new(alloc: A, source: R, settings: Settings) -> Self
         ensures starts { result.ended ≡ false }
         ensures source { (result.source.inner ≡ source) × (result.source.faults ≡ 0) }
-        ensures told { result.untold ≡ None }
+        ensures told { result.pending ≡ None }
         ensures none { held_of result.held ≡ [] }
         ensures offset { result.offset ≡ 0 }
         ensures settings { result.settings ≡ settings }
@@ -84,7 +84,7 @@ impl<R: Read, A: Allocator + Copy> Stream<R, A> {
             settings,
             offset: 0,
             ended: false,
-            untold: None,
+            pending: None,
         }
     }
 
@@ -99,7 +99,7 @@ impl<R: Read, A: Allocator + Copy> Stream<R, A> {
         ensures memory { result ≡ Err Unread.OutOfMemory → vec_capacity self.new.held.bytes < length (held_of self.new.held) + count }
         ensures counts { CountsOnce self.old.source self.new.source result }
         ensures others { (self.new.settings ≡ self.old.settings) × (self.new.offset ≡ self.old.offset) × (self.new.ended ≡ false)
-            × (self.new.untold ≡ self.old.untold) }
+            × (self.new.pending ≡ self.old.pending) }
     {
         match self.held.find_room(count, self.settings.most) {
             Ok(()) => {}
@@ -118,9 +118,9 @@ impl<R: Read, A: Allocator + Copy> Stream<R, A> {
         requires { MayWait self.old wants }
         ensures { Waited R.remaining self.old self.new wants result }
     {
-        match self.untold {
+        match self.pending {
             Some(error) => {
-                self.untold = None;
+                self.pending = None;
                 return Err(Unread::Fault(error));
             }
             None => {}
@@ -141,7 +141,7 @@ impl<R: Read, A: Allocator + Copy> Stream<R, A> {
                     if wanted == wants {
                         return Err(Unread::Fault(error));
                     }
-                    self.untold = Some(error);
+                    self.pending = Some(error);
                     return Ok(());
                 }
                 Err(Unread::OutOfMemory) => return Err(Unread::OutOfMemory),
@@ -165,7 +165,7 @@ impl<R: Read, A: Allocator + Copy> Stream<R, A> {
         ensures tells { Tells taken result }
         ensures offset { self.new.offset ≡ counted self.old.offset result }
         ensures others { (self.new.source ≡ self.old.source) × (self.new.held ≡ self.old.held)
-            × (self.new.settings ≡ self.old.settings) × (self.new.ended ≡ self.old.ended) × (self.new.untold ≡ self.old.untold) }
+            × (self.new.settings ≡ self.old.settings) × (self.new.ended ≡ self.old.ended) × (self.new.pending ≡ self.old.pending) }
     {
         match taken {
             Taken::Item(used, item) => {

@@ -1,4 +1,4 @@
--- What a comparison of bytes finds.
+-- Lemmas on the comparison of bytes.
 use Rattle.std.proofs.Common.{◌≡◌, ℕ, ◌≤◌, ◌<◌, ◌+◌, ◌++◌, ◌∷◌, List, length, get_or, take, drop, min, sym, ◌∙◌, ap, subst, arith, length-drop}
 use Rattle.std.specs.Char.{to_ascii_lowercase}
 use Rattle.std.specs.Str.{str_to_ascii_lowercase}

@@ -1,4 +1,4 @@
--- What a comparison of a text finds, from that of its bytes.
+-- Lemmas on the comparison of a text, from that of its bytes.
 use Rattle.std.proofs.Common.{◌≡◌, ℕ, ◌++◌, ◌∷◌, List, Bor, length, take, sym, ◌∙◌, ap, subst}
 use Rattle.std.specs.Prelude.{chars, encode_utf8_all, IsUtf8, IsCharBoundary}
 use Rattle.std.proofs.Math.Seq.{take-append_seam}

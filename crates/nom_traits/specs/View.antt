@@ -1,4 +1,4 @@
--- What values are compared by.
+-- Views, by which values are compared.
 use Rattle.std.specs.Prelude.{ℕ, List, map, Option, Some, None, Result, Ok, Err, Vec, Box, box_value, String, string_bytes, chars}
 use Rattle.std.specs.Borrow.{Bor}
 use Rattle.std.specs.VecDeque.{deque_items}

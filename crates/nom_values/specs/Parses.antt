@@ -1,4 +1,4 @@
--- What bytes and texts are read as.
+-- The values that bytes and texts are read as.
 use Rattle.std.specs.Prelude.{◌≡◌, ◌≢◌, ℕ, ◌<◌, ◌^◌, Bool, ℤ, List, Result, Ok, Err, Option, Some, None, SomeIff, MatchOption, FitsSigned, codes}
 use Rattle.std.specs.Bool.{MatchBool}
 use Rattle.std.specs.Char.{encode_utf8, IsScalar}

@@ -1,4 +1,4 @@
--- What is written is read back.
+-- Lemmas on reading back what is written.
 use Rattle.std.proofs.Common.{◌≡◌, Bool, List, ◌++◌, subst, inl, inr}
 use Rattle.nom_internal.specs.Prelude.{IResult, Model, InputLaws, items_len, View, IsPinned, Grammar, Outcome, Accept, ParseRanOut, Parsed}
 use Rattle.nom_internal.specs.Prelude.{ParsesOutcome, ParsesMeaning}

@@ -1,4 +1,4 @@
--- What is told apart from the forms of another branch, and what several branches write.
+-- Kinds of items that are told apart from the forms of another branch, and the forms that several branches write.
 use Rattle.std.specs.Prelude.{List, ◌++◌}
 use Rattle.nom_internal.specs.Prelude.{Grammar, Model, Meaning}
 use Rattle.nom_sink.specs.declared.error.WriteError.{WriteError}

@@ -1,4 +1,4 @@
--- What forms begin with, in codes: first sets. The code of a byte is the byte, that of a character its code point, and that of a bit
+-- First sets: the codes that forms begin with. The code of a byte is the byte, that of a character its code point, and that of a bit
 -- 1 or 0.
 use Rattle.std.specs.Prelude.{◌≡◌, ℕ, Bool, true, false, cond, eqb, ◌&&◌, ◌⊎◌, List, [], ◌∷◌, ◌++◌, map, Option, Some, None}
 use Rattle.nom_internal.specs.Prelude.{Errors, Model, Grammar, Meaning, either_of}

@@ -1,4 +1,4 @@
--- What written bytes are to a grammar: on every input that begins with them and goes on as it may, it accepts exactly them.
+-- Written bytes, as a grammar reads them: on every input that begins with them and goes on as it may, it accepts exactly them.
 use Rattle.std.specs.Prelude.{◌≡◌, ℕ, Bool, false, ◌⊎◌, List, [], ◌++◌}
 use Rattle.nom_internal.specs.Prelude.{IResult, Model, items_len, IsSuffixOf, View, Grammar, Meaning, Outcome, Accept, Refuse, ParsesMeaning}
 use Rattle.nom_error.specs.declared.answer.Err.TheVariants.{OutOfMemory}

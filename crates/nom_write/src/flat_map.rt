@@ -5,7 +5,7 @@ ghost use Rattle.std.specs.Fn.{FnReturnsAt};
 ghost use Rattle.nom_error.specs.Modes.{with_outputs};
 ghost use Rattle.nom_internal.specs.FlatMap.{OfEachGiven, flat_map_by, maker};
 ghost use Rattle.nom_internal.specs.Grammar.{GivesAt};
-ghost use Rattle.nom_internal.specs.Results.{MadeBesides, ThenBesides};
+ghost use Rattle.nom_internal.specs.Results.{MadeSideCondition, ThenSideCondition};
 ghost use Rattle.nom_sink.specs.Parts.{Meets};
 ghost use Rattle.nom_write.specs.FlatMaps.{FlatMapFails, FlatMapForm, OfEachSecond};
 ghost use Rattle.nom_internal.specs.Word.{keyed};
@@ -73,8 +73,8 @@ impl<
 
     ghost worded = { λ s. Words.flat_map_worded I.model (maker (G.pre s.1) (G.post s.1) H.state) (keyed H.grammar) (F.worded s.0) };
 
-    ghost Besides = { λ mode old new i. ThenBesides (F.Besides (with_outputs true mode) old.flat.first new.flat.first i)
-        (MadeBesides (GivesAt (F.grammar (F.state old.flat.first)) mode.streaming i) (G.post old.flat.make) (H.Besides mode)) };
+    ghost SideCondition = { λ mode old new i. ThenSideCondition (F.SideCondition (with_outputs true mode) old.flat.first new.flat.first i)
+        (MadeSideCondition (GivesAt (F.grammar (F.state old.flat.first)) mode.streaming i) (G.post old.flat.make) (H.SideCondition mode)) };
 
     #[inline(always)]
     fn process<OM: OutputMode>(&mut self, input: I) -> PResult<I, H::Output, F::Error> {

@@ -58,7 +58,7 @@ impl<I: Items, F: Parser<I> + Drop, O: Drop, G: Fn(F::Output) -> O, H> Parser<I>
 
     ghost worded = { λ s. Words.map_worded (G.pre s.1) (G.post s.1) (F.worded s.0) };
 
-    ghost Besides = { λ mode old new. F.Besides mode old.map.parser new.map.parser };
+    ghost SideCondition = { λ mode old new. F.SideCondition mode old.map.parser new.map.parser };
 
     #[inline(always)]
     fn process<OM: OutputMode>(&mut self, input: I) -> PResult<I, O, F::Error> {

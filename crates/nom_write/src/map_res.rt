@@ -5,7 +5,7 @@ ghost use Rattle.std.specs.Fn.{FnReturnsAt};
 ghost use Rattle.nom_error.specs.Modes.{with_outputs};
 ghost use Rattle.nom_internal.specs.Judged.{map_res_by};
 ghost use Rattle.nom_internal.specs.Prelude.{SeesAlike};
-ghost use Rattle.nom_internal.specs.Results.{JudgedBesides};
+ghost use Rattle.nom_internal.specs.Results.{JudgedSideCondition};
 ghost use Rattle.nom_internal.specs.laws.JudgedLaws.{judged_lawful, judged_steady};
 ghost use Rattle.nom_internal.specs.laws.MappedLaws.{given_pinned};
 ghost use Rattle.nom_sink.specs.declared.error.WriteError.{WriteError};
@@ -66,7 +66,7 @@ where
 
     ghost worded = { λ s. Words.map_res_worded F.Error.externals (G.pre s.1) (G.post s.1) (F.worded s.0) };
 
-    ghost Besides = { λ mode old new i. JudgedBesides (F.Besides (with_outputs true mode) old.map.parser new.map.parser i) };
+    ghost SideCondition = { λ mode old new i. JudgedSideCondition (F.SideCondition (with_outputs true mode) old.map.parser new.map.parser i) };
 
     #[inline(always)]
     fn process<OM: OutputMode>(&mut self, input: I) -> PResult<I, O, F::Error> {

@@ -1,4 +1,4 @@
-//! What a writer and its parser promise together.
+//! The promises of a writer and its parser together.
 ghost use Rattle.std.specs.Prelude.{◌≡◌, ℕ, List, ◌++◌, true};
 ghost use Rattle.nom_internal.specs.Prelude.{Parses};
 ghost use Rattle.nom_write.specs.Reads.{IsReadBack, ReadsBack};

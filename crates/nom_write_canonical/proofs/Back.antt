@@ -1,4 +1,4 @@
--- What was accepted and is written again is the same.
+-- Lemmas on items that were accepted and are written again: they are the same.
 use Rattle.std.proofs.Common.{◌≡◌, ℕ, Bool, List, ◌++◌, Ok, sym, ◌∙◌, ap, subst}
 use Rattle.nom_internal.specs.Prelude.{Accept, AreValues, Grammar, InputLaws, IsSuffixOf, Model, Outcome, ParseRanOut, Parsed, ParsesOutcome}
 use Rattle.nom_internal.specs.Prelude.{Fails, Needs, Refuse, Stop}

@@ -1,4 +1,4 @@
-//! What a canonical writer is.
+//! Canonical writers.
 ghost use Rattle.std.specs.Prelude.{◌≡◌};
 ghost use Rattle.nom_write_canonical.specs.Forms.{AcceptsForms, AcceptsItems, IsOneForm};
 

@@ -1,4 +1,4 @@
-//! What stands after a length.
+//! Canonical writers of a length and what stands after it.
 ghost use Rattle.std.specs.Prelude.{◌≡◌, false, length};
 ghost use Rattle.nom_write_canonical.specs.laws.ListForms.{each_one, held_one, length_count_accepts, length_data_accepts, size_one};
 ghost use Rattle.nom_write_canonical.specs.laws.SequenceForms.{both_one};

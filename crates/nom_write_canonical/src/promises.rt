@@ -1,4 +1,4 @@
-//! What a canonical writer promises.
+//! The promises of a canonical writer.
 ghost use Rattle.nom_write_canonical.specs.Forms.{HasOneForm, WritesBack};
 
 use crate::canonical::Canonical;

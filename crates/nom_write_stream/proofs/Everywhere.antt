@@ -1,4 +1,4 @@
--- What has an outcome at every input: parts in turn, a part whose outcome becomes another, items that are taken.
+-- Lemmas on parsers with an outcome at every input: parts in turn, a part whose outcome becomes another, items that are taken.
 use Rattle.std.specs.Prelude.{◌≡◌, ℕ, ◌<◌, ◌≤◌, ◌⊎◌, true, List, [], ◌∷◌, ◌++◌, length, take, drop, Option, refl}
 use Rattle.std.proofs.Common.{arith, ap, sym, subst, length-append, inl, inr}
 use Rattle.std.proofs.lemmas.Bool.{cases_lt}

@@ -1,4 +1,4 @@
--- What a stream answers where the bytes that no item had begin with a form of an item, and where there are none.
+-- Lemmas on the answers of a stream where the bytes that no item had begin with a form of an item, and where there are none.
 use Rattle.std.proofs.Common.{arith, ◌≡◌, ℕ, ◌<◌, ◌⊎◌, true, List, [], ◌∷◌, ◌++◌, length, Option, Some, None, Ok, Err, refl}
 use Rattle.std.proofs.Common.{sym, ◌∙◌, ap, subst, append_assoc, append-nil, inl, inr, length-append}
 use Rattle.std.specs.Io.KnownBytes.{Appends, Consumes, IsAtEnd}

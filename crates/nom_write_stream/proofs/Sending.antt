@@ -1,4 +1,4 @@
--- What was held is written, and an item is added, one step after another.
+-- Lemmas on sending: what was held is written, and an item is added, one step after another.
 use Rattle.std.proofs.Common.{◌≡◌, ℕ, List, [], ◌++◌, Option, sym, ◌∙◌, ap, subst, append_assoc, append-nil}
 use Rattle.std.specs.Io.KnownBytes.{Appends}
 use Rattle.nom_write_stream.specs.declared.outgoing.Outgoing.{Outgoing}

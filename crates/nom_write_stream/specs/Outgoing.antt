@@ -1,4 +1,4 @@
--- What becomes of items: each is held or written, whole and in its turn.
+-- Items that go out: each is held or written, whole and in its turn.
 use Rattle.std.specs.Prelude.{◌≡◌, ℕ, ◌+◌, ◌-◌, ◌^◌, ◌<◌, ◌≤◌, ◌⊎◌, Bool, true, false, List, [], ◌++◌, length, take}
 use Rattle.std.specs.Prelude.{Option, Result, Ok, Err}
 use Rattle.std.specs.Prelude.{get_or}

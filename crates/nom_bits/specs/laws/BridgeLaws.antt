@@ -73,7 +73,7 @@ module _ {I : Type 0} (w : Model I ℕ) (l : InputLaws w) {T : Type 0} where
       at_alike = λ x y j r a. ((y, 0), (refl, subst AreBytes r.elements_are a.1));
       keeps = λ only. bits_keeps;
       same = λ longer stays x y a o p kx ky r s k u. bits_same longer x y a o p r s u;
-      alike = λ x y a o kx ky r s. bits_alike x y a o r s;
+      consistent = λ x y a o kx ky r s. bits_alike x y a o r s;
       place = λ i j a n t h e place s. bits_place_of i a n t s;
       never_fails = λ Part cause i a g s. (g, bits_fails cause i a s);
       blames = λ i a X Y f h b. (b.0, b.1, h b.0 b.2, b.3);
@@ -181,7 +181,7 @@ module _ {I : Type 0} (w : Model I ℕ) (l : InputLaws w) {T : Type 0} where
         );
         keeps = λ only. bytes_keeps;
         same = λ longer stays x y a o p kx ky r s k u. bytes_same longer x y a o p r s u;
-        alike = λ x y a o kx ky r s. bytes_alike x y a o r s;
+        consistent = λ x y a o kx ky r s. bytes_alike x y a o r s;
         place = λ i j a n t h e place s. bytes_place i a n t s;
         never_fails = only_fails;
         blames = blames_more;

@@ -60,19 +60,20 @@ module _ {I A : Type 0} (w : Model I A) where
       -- what the function's outcomes at an input keep, those at inputs of its model keep
       agrees_alike : (longer : Bool) → Agree w longer (FuncOutcome w view Gives) (FuncOutcome w view Gives) →
           Agree w longer (FuncAnswers w view Gives) (FuncAnswers w view Gives)
-      agrees_alike longer f x y o p kx ky r a k b = f a.at b.at o p a.known b.known (related_alike longer x y a.at b.at a.alike b.alike r) a.outcome k b.outcome
+      agrees_alike longer f x y o p kx ky r a k b = f a.at b.at o p a.known b.known (related_alike longer x y a.at b.at a.consistent b.consistent r)
+          a.outcome k b.outcome
 
-      alike : (x y : I) (o : Outcome view.Value) → IsSame w x y → FuncAnswers w view Gives x o → FuncAnswers w view Gives y o
-      alike x y o r a = record { at = a.at; known = a.known; alike = same_then w a.at x y a.alike r; outcome = a.outcome }
+      consistent : (x y : I) (o : Outcome view.Value) → IsSame w x y → FuncAnswers w view Gives x o → FuncAnswers w view Gives y o
+      consistent x y o r a = record { at = a.at; known = a.known; consistent = same_then w a.at x y a.consistent r; outcome = a.outcome }
 
       lawful_under : (errs : Errors I E) (Runs IsSound : Type 0) → Agree w false (FuncOutcome w view Gives) (FuncOutcome w view Gives) →
           IsLawful w (func_meaning w view Gives errs Runs IsSound)
       lawful_under errs Runs IsSound one = record {
-        within = λ s i n t h a. place_alike a.at i n a.alike (accepts_within a.at a.outcome.answer n t a.outcome.told);
+        within = λ s i n t h a. place_alike a.at i n a.consistent (accepts_within a.at a.outcome.answer n t a.outcome.told);
         one_outcome = λ s. agrees_alike false one;
-        alike = λ s x y o kx ky r a k. alike x y o r a;
+        consistent = λ s x y o kx ky r a k. consistent x y o r a;
         frugal = λ mode i h f g. f i h g;
-        settles = λ t x y o kx ky r a k. alike x y o r a;
+        settles = λ t x y o kx ky r a k. consistent x y o r a;
         blames_alike = λ t s i o e h a b d z. z;
         never_fails = λ cause h s i k a. never_fails cause h i a;
       }
@@ -87,11 +88,11 @@ module _ {I A : Type 0} (w : Model I A) where
       module _ (errs : Errors I E) (Takes : I → Type 0) where
         pub func_lawful : (let IsSound : Type 0 = IsParser w view Gives in IsSound →
             IsLawful w (func_meaning w view Gives errs (TakesAll w Takes) IsSound))
-        func_lawful p = lawful_under errs (TakesAll w Takes) (IsParser w view Gives) (agrees false p.alike)
+        func_lawful p = lawful_under errs (TakesAll w Takes) (IsParser w view Gives) (agrees false p.consistent)
 
         pub stream_func_lawful : (let IsSound : Type 0 = IsStreamParser w view Gives in IsSound →
             IsLawful w (func_meaning w view Gives errs (TakesAll w Takes) IsSound))
-        stream_func_lawful p = lawful_under errs (TakesAll w Takes) (IsStreamParser w view Gives) (agrees false p.parser.alike)
+        stream_func_lawful p = lawful_under errs (TakesAll w Takes) (IsStreamParser w view Gives) (agrees false p.parser.consistent)
 
         pub stream_func_steady : (let IsSound : Type 0 = IsStreamParser w view Gives in IsSound →
             IsSteady w (func_meaning w view Gives errs (TakesAll w Takes) IsSound))

@@ -40,7 +40,7 @@ module _ {I A V : Type 0} (w : Model I A) (Accepts : I → ℕ → V → Type 0)
     plain_lawful = record {
       within = λ s i n v h a. l.place i n v a;
       one_outcome = λ s x y o p kx ky r a d b. one_answer s y o p (answers_alike s s x y o r a) b;
-      alike = λ s x y o kx ky r a d. answers_alike s s x y o r a;
+      consistent = λ s x y o kx ky r a d. answers_alike s s x y o r a;
       frugal = λ mode i h f r. f r.1 r.2;
       settles = λ t x y o kx ky r a d. answers_alike true false x y o r a;
       blames_alike = λ t s i o e h a b d z. z;

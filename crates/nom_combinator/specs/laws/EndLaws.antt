@@ -9,7 +9,7 @@ clone_lawful E w v IsSure =
     record {
       within = l.within;
       one_outcome = l.one_outcome;
-      alike = l.alike;
+      consistent = l.consistent;
       frugal = λ mode i h g r. r.1 (g r.0);
       settles = l.settles;
       blames_alike = l.blames_alike;

@@ -21,7 +21,7 @@ module _ {I A V P R : Type 0} (w : Model I A) (IsOutput : V → P → Type 0) (T
         at_alike = l.at_alike;
         keeps = l.keeps;
         same = l.same;
-        alike = l.alike;
+        consistent = l.consistent;
         place = l.place;
         never_fails = l.never_fails;
         blames = l.blames;

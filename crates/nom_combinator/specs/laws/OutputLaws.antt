@@ -17,7 +17,7 @@ module _ {I A P T : Type 0} (w : Model I A) (v : T) where
   given_laws : AcceptLaws w (λ i. GivesValue {P = P} v)
   given_laws = record {
     same = λ longer x y n u o p kx ky r s k t. s ∙ sym t;
-    alike = λ x y n u o kx ky r s. s;
+    consistent = λ x y n u o kx ky r s. s;
     place = λ i m n u t h p s. let same : m ≡ n = cc (s) in subst (λ k. IsBoundary w i k) same p;
     never_fails = λ cause i n u s. never_given cause n v s;
   }
@@ -32,7 +32,7 @@ module _ {I A P T E : Type 0} {w : Model I A} {v : T} {IsSure : Type 0} where
         at_alike = l.at_alike;
         keeps = l.keeps;
         same = l.same;
-        alike = l.alike;
+        consistent = l.consistent;
         place = l.place;
         never_fails = l.never_fails;
         blames = l.blames;

@@ -5,4 +5,4 @@ use Rattle.nom_combinator.specs.ValueAlloc.{MakesAlike}
 -- whatever the outputs of the part
 pub made_pinned : {V P R : Type 0} {view : View R} {IsOutput : V → P → Type 0} {Makes : R → Type 0} → MakesAlike view Makes →
     IsPinned view (GivesFor IsOutput (λ _. Makes))
-made_pinned alike = record { one_view = λ t a b p q. alike.same a b p.given q.given }
+made_pinned consistent = record { one_view = λ t a b p q. consistent.same a b p.given q.given }

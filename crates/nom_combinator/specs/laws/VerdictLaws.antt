@@ -36,7 +36,7 @@ module _ {I A P T : Type 0} (w : Model I A) (becomes : Outcome P → Outcome T) 
     at_alike = here_alike w;
     keeps = λ only i a o. verdict_keeps a o;
     same = λ longer stays x y a o p kx ky r s k t. s ∙ sym t;
-    alike = λ x y a o kx ky r b. b;
+    consistent = λ x y a o kx ky r b. b;
     place = λ i j a n t h e place b. accepted_place w i j a n e place (is.accepts a n t b);
     never_fails = λ Part cause i a g e. is.never Part cause a g e;
     blames = λ i a X Y e f. f e;
@@ -115,7 +115,7 @@ module _ {I A P : Type 0} (w : Model I A) where
   looks_laws : AcceptLaws {P = P} w (λ i. Looks)
   looks_laws = record {
     same = λ longer x y n u o p kx ky r s k t. s ∙ sym t;
-    alike = λ x y n u o kx ky r s. s;
+    consistent = λ x y n u o kx ky r s. s;
     place = λ i m n u t h p s. let none : n ≡ 0 = cc in subst (λ k. IsBoundary w i k) (sym none) (no_place w i);
     never_fails = never;
   }
@@ -131,7 +131,7 @@ module _ {I A P : Type 0} (w : Model I A) where
       at_alike = here_alike w;
       keeps = λ only i a o. verdict_keeps w not_outcome (λ Part. Part) not_is a o;
       same = λ longer stays x y a o p kx ky r s k t. s ∙ sym t;
-      alike = λ x y a o kx ky r b. b;
+      consistent = λ x y a o kx ky r b. b;
       place = λ i j a n t h e place b. accepted_place w i j a n e place (not_is.accepts a n t b);
       never_fails = λ Part cause i a g e. not_is.never Part cause a g e;
       blames = λ i. blames_more IsAcceptance IsFailure (Own i);
@@ -160,7 +160,7 @@ module _ {I A P : Type 0} (w : Model I A) where
       at_alike = here_alike w;
       keeps = λ only i a o b d. absurd (cc (only));
       same = λ longer stays x y a o p kx ky r s k t. s ∙ sym t;
-      alike = λ x y a o kx ky r b. b;
+      consistent = λ x y a o kx ky r b. b;
       place = λ i j a n t h e place b. accepted_place w i j a n e place (complete_accepts a n t b);
       never_fails = λ Part cause i a g e. (g, complete_fails cause a e);
       blames = λ i. blames_more IsWant IsFault (Own i);
@@ -183,7 +183,7 @@ module _ {I A P : Type 0} (w : Model I A) (l : InputLaws w) where
   kept_laws : AcceptLaws w (λ i. WithSlice {P = P} w i)
   kept_laws = record {
     same = λ longer x y n u o p kx ky r s k t. kept_same longer x y n u o p r s t;
-    alike = λ x y n u o kx ky r s. (s.0, first_related w false x y n s.0 r s.1, s.2);
+    consistent = λ x y n u o kx ky r s. (s.0, first_related w false x y n s.0 r s.1, s.2);
     place = λ i m n u t h p s. kept_place i m n u t s;
     never_fails = never_kept;
   }

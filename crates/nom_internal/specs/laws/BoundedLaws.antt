@@ -27,7 +27,7 @@ module _ {I A J B P Q E : Type 0} (w : Model I A) (v : Model J B) (IsOutput : P 
     at_alike = λ x y j r b. (j, b);
     keeps = λ only i a o b d. keeps_mapped true (λ _. 0) (λ t. t) a (subst (λ z. IsDecided z) b d);
     same = λ longer stays x y a o p kx ky r s k t. s ∙ sym t;
-    alike = λ x y a o kx ky r b. b;
+    consistent = λ x y a o kx ky r b. b;
     place = λ i j a n t h b place e. held_place w i a n t e;
     never_fails = λ Part cause i a g e. (g, failure_mapped cause (λ _. 0) (λ t. t) a e);
     blames = λ i a X Y e f. f e;

@@ -23,7 +23,7 @@ pub record CaseLaws {I A J B P T E F : Type 0} (stays : Bool) (w : Model I A) (v
   -- an outcome of the part becomes one outcome, on related inputs too
   pub same : (longer : Bool) → (longer ≡ true → stays ≡ true) → (x y : I) (a : Outcome P) (o p : Outcome T) → w.IsKnown x → w.IsKnown y →
       Related w longer x y → c.Becomes x a o → Keeps longer o → c.Becomes y a p → o ≡ p
-  pub alike : (x y : I) (a : Outcome P) (o : Outcome T) → w.IsKnown x → w.IsKnown y → IsSame w x y → c.Becomes x a o → c.Becomes y a o
+  pub consistent : (x y : I) (a : Outcome P) (o : Outcome T) → w.IsKnown x → w.IsKnown y → IsSame w x y → c.Becomes x a o → c.Becomes y a o
   -- what is accepted is a front, where what the part accepts is one
   pub place : (i : I) (j : J) (a : Outcome P) (n : ℕ) (t : T) → w.IsKnown i → c.At i j → ((m : ℕ) (u : P) → a ≡ Accept m u → IsBoundary v j m) →
       c.Becomes i a (Accept n t) → IsBoundary w i n
@@ -56,7 +56,7 @@ module _ {I A J B P T E F : Type 0} {stays : Bool} (w : Model I A) (v : Model J 
         outcome = s.outcome;
         answered = f s.at there.0 s.outcome (l.at_known x s.at kx s.at_is) (l.at_known y there.0 ky there.1)
             (l.at_related false (λ e. cc) x y s.at there.0 r s.at_is there.1) s.answered (keeps_part decided only x s.outcome o s.fact k);
-        fact = l.alike x y s.outcome o kx ky r s.fact;
+        fact = l.consistent x y s.outcome o kx ky r s.fact;
       }
 
   case_within : (R : J → Outcome P → Type 0) → Within v R → Within w (λ i o. OnPart c.At R (λ _ a. c.Becomes i a o) i)
@@ -102,7 +102,7 @@ module _ {I A J B P T E F : Type 0} {stays : Bool} {w : Model I A} {v : Model J 
   Errors s i e = OnPart c.At (m.answers s) (λ j a. c.Blames i a (m.blames s j) e) i
 
   decided_alike : (s : Bool) → Carries w true (Answers s) (Answers s)
-  decided_alike s x y o kx ky r a d = case_carries w v c l false (λ e. cc) (m.answers s) (m.answers s) (p.alike s) x y o kx ky r a tt
+  decided_alike s x y o kx ky r a d = case_carries w v c l false (λ e. cc) (m.answers s) (m.answers s) (p.consistent s) x y o kx ky r a tt
 
   case_settles : (mode : PartMode) → c.mode ≡ mode → SettlesIn mode m.Settles → Carries w true (Answers (mode_of mode true)) (Answers (mode_of mode false))
   case_settles AsAsked e t = case_carries w v c l true (λ _. ap (λ z. mode_of z true) e) (m.answers true) (m.answers false) (p.settles t)
@@ -119,7 +119,7 @@ module _ {I A J B P T E F : Type 0} {stays : Bool} {w : Model I A} {v : Model J 
     within = λ s. case_within w v c l (m.answers (mode_of c.mode s)) (p.within (mode_of c.mode s));
     one_outcome = λ s. case_agree w v c l false (λ e. cc) (λ e. cc) (m.answers (mode_of c.mode s)) (m.answers (mode_of c.mode s))
         (p.one_outcome (mode_of c.mode s));
-    alike = λ s. case_carries w v c l false (λ e. cc) (m.answers (mode_of c.mode s)) (m.answers (mode_of c.mode s)) (p.alike (mode_of c.mode s));
+    consistent = λ s. case_carries w v c l false (λ e. cc) (m.answers (mode_of c.mode s)) (m.answers (mode_of c.mode s)) (p.consistent (mode_of c.mode s));
     frugal = case_frugal w v c l m p;
     settles = case_settles c.mode refl;
     blames_alike = case_blames_alike c.mode refl;
@@ -188,7 +188,7 @@ module _ {I A P : Type 0} (w : Model I A) where
     at_alike = here_alike w;
     keeps = λ only i a o. map_keeps w (labelled label) (labels label) a o;
     same = λ longer stays x y a o p kx ky r s k t. s ∙ sym t;
-    alike = λ x y a o kx ky r b. b;
+    consistent = λ x y a o kx ky r b. b;
     place = λ i j a n t h e place b. map_place w (labelled label) (labels label) i j a n t e place b;
     never_fails = λ Part cause i a g e. (g, (labels label).fails cause a e);
     blames = λ i a X Y e f. f e;
@@ -203,7 +203,7 @@ module _ {I A P : Type 0} (w : Model I A) where
     at_alike = here_alike w;
     keeps = λ only i a o. map_keeps w (λ a. a) passes_all a o;
     same = λ longer stays x y a o p kx ky r s k t. s ∙ sym t;
-    alike = λ x y a o kx ky r b. b;
+    consistent = λ x y a o kx ky r b. b;
     place = λ i j a n t h e place b. map_place w (λ a. a) passes_all i j a n t e place b;
     never_fails = λ Part cause i a g e. (g, sym e);
     blames = λ i a X Y e f. f e;
@@ -230,7 +230,7 @@ module _ {I A P : Type 0} (w : Model I A) where
     at_alike = here_alike w;
     keeps = λ only i a o. map_keeps w (λ a. a) passes_all a o;
     same = λ longer stays x y a o p kx ky r s k t. s ∙ sym t;
-    alike = λ x y a o kx ky r b. b;
+    consistent = λ x y a o kx ky r b. b;
     place = λ i j a n t h e place b. map_place w (λ a. a) passes_all i j a n t e place b;
     never_fails = λ Part cause i a g e. (g, sym e);
     blames = λ i a X Y e f. closed_more (Closes i) a X Y e f;

@@ -128,7 +128,7 @@ module _ {I A V E : Type 0} {w : Model I A} {a b : Meaning I V E} (p : IsLawful 
   or_lawful {Joins} {Grows} = record {
     within = λ s. or_within w (a.answers s) (b.answers s) (p.within s) (q.within s);
     one_outcome = λ s. or_agree w (a.answers s) (a.answers s) (b.answers s) (b.answers s) false (p.one_outcome s) (q.one_outcome s);
-    alike = λ s. or_carries w (a.answers s) (a.answers s) (b.answers s) (b.answers s) false (p.alike s) (q.alike s);
+    consistent = λ s. or_carries w (a.answers s) (a.answers s) (b.answers s) (b.answers s) false (p.consistent s) (q.consistent s);
     frugal = or_frugal Joins Grows;
     settles = λ t. or_carries w (a.answers true) (a.answers false) (b.answers true) (b.answers false) true (p.settles t.0) (q.settles t.1);
     blames_alike = λ t s i o e h c c' d. or_blames_too t s i o h c c' d Joins e;
@@ -139,7 +139,7 @@ module _ {I A V E : Type 0} {w : Model I A} {a b : Meaning I V E} (p : IsLawful 
   otherwise_lawful = record {
     within = λ s. or_within w (a.answers s) (b.answers s) (p.within s) (q.within s);
     one_outcome = λ s. or_agree w (a.answers s) (a.answers s) (b.answers s) (b.answers s) false (p.one_outcome s) (q.one_outcome s);
-    alike = λ s. or_carries w (a.answers s) (a.answers s) (b.answers s) (b.answers s) false (p.alike s) (q.alike s);
+    consistent = λ s. or_carries w (a.answers s) (a.answers s) (b.answers s) (b.answers s) false (p.consistent s) (q.consistent s);
     frugal = otherwise_frugal;
     settles = λ t. or_carries w (a.answers true) (a.answers false) (b.answers true) (b.answers false) true (p.settles t.0) (q.settles t.1);
     blames_alike = λ t s i o e h c c' d. otherwise_blames_too t s i o h c c' d e;

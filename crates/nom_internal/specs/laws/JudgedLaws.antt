@@ -19,7 +19,7 @@ module _ {V R : Type 0} (Says : V → R → Type 0) (fits : R → Bool) where
   judged_accepts : {I A : Type 0} (w : Model I A) → ((t : V) (r x : R) → Says t r → Says t x → fits r ≡ fits x) → AcceptLaws w (λ i. Judged Says fits)
   judged_accepts w one = record {
     same = λ longer x y n u o p kx ky r s k t. s.2 ∙ (ap (λ b. kept_if b (Accept n u)) (one u s.0 t.0 s.1 t.1) ∙ sym t.2);
-    alike = λ x y n u o kx ky r s. s;
+    consistent = λ x y n u o kx ky r s. s;
     place = λ i m n u t h p s. subst (λ k. IsBoundary w i k) (kept_accepts (fits s.0) n m t u s.2) p;
     never_fails = λ cause i n u s. never_kept cause (fits s.0) n u s.2;
   }
@@ -49,7 +49,7 @@ module _ {I A V P R E : Type 0} {w : Model I A} {IsOutput : V → P → Type 0} 
         at_alike = l.at_alike;
         keeps = l.keeps;
         same = l.same;
-        alike = l.alike;
+        consistent = l.consistent;
         place = l.place;
         never_fails = l.never_fails;
         blames = λ i a X Y e f. blames_more (GivesFor IsOutput Gives) fits (Makes i) a X Y e f;

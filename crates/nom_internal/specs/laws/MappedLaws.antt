@@ -8,7 +8,7 @@ use Rattle.nom_internal.specs.laws.CaseLaws.{CaseLaws, fixed_laws, case_lawful, 
 pub given_pinned : {V P R : Type 0} {argument : View P} {result : View R} {IsOutput : V → P → Type 0} {Gives : P → R → Type 0} →
     IsPinned argument IsOutput → SeesAlike argument result Gives → IsPinned result (GivesFor IsOutput Gives)
 given_pinned f s = record {
-  one_view = λ t a b g h. s.alike g.output h.output a b (f.one_view t g.output h.output g.is_output h.is_output) g.given h.given;
+  one_view = λ t a b g h. s.consistent g.output h.output a b (f.one_view t g.output h.output g.is_output h.is_output) g.given h.given;
 }
 
 module _ {I A V P : Type 0} {w : Model I A} {IsOutput : V → P → Type 0} {Takes : P → Type 0} where
@@ -21,7 +21,7 @@ module _ {I A V P : Type 0} {w : Model I A} {IsOutput : V → P → Type 0} {Tak
         at_alike = l.at_alike;
         keeps = l.keeps;
         same = l.same;
-        alike = l.alike;
+        consistent = l.consistent;
         place = l.place;
         never_fails = l.never_fails;
         blames = l.blames;
@@ -46,7 +46,7 @@ module _ {I A V E F : Type 0} {w : Model I A} {Makes : I → E → F → Type 0}
         at_alike = l.at_alike;
         keeps = l.keeps;
         same = l.same;
-        alike = l.alike;
+        consistent = l.consistent;
         place = l.place;
         never_fails = l.never_fails;
         blames = λ i a X Y e f h. (h.0, h.1, f h.0 h.2, h.3);

@@ -1,4 +1,4 @@
--- What the laws of a part give at one input, and from one mode to the other.
+-- Consequences of the laws of a part, at one input and from one mode to the other.
 use Rattle.std.specs.Prelude.{◌≡◌, ℕ, Bool, true, false, not}
 use Rattle.std.proofs.Common.{sym, subst}
 use Rattle.nom_internal.specs.Prelude.{Model, IsSame, same_self, same_sym, Outcome, Cause, Accept, Refuse, Stop, Fails, mapped, IsDecided, OnOutcome, Meaning}
@@ -19,7 +19,7 @@ failure_mapped cause l f (Stop why) e = cc (e)
 -- two modes of a part, of which the second's decided outcomes are the first's: what is said of the one, said of the other
 pub record Transfers {I A V E : Type 0} (w : Model I A) (P Q : I → Outcome V → Type 0) (B C : I → E → Type 0) : Type 0 where
   pub one : Agree w false P P
-  pub alike : Carries w false Q Q
+  pub consistent : Carries w false Q Q
   -- two decided outcomes are one
   pub meets : (x y : I) (o p : Outcome V) → w.IsKnown x → w.IsKnown y → IsSame w x y → P x o → Q y p → IsDecided o → IsDecided p → o ≡ p
   pub blames : SameBlame w P Q B C
@@ -37,7 +37,7 @@ module _ {I A V E : Type 0} (w : Model I A) (m : Meaning I V E) (l : IsLawful w 
   pub transfers : m.Settles → (s : Bool) → Transfers w (m.answers s) (m.answers (not s)) (m.blames s) (m.blames (not s))
   transfers t s = record {
     one = l.one_outcome s;
-    alike = l.alike (not s);
+    consistent = l.consistent (not s);
     meets = modes_meet t s;
     blames = l.blames_alike t s;
   }
@@ -49,7 +49,7 @@ module _ {I A V E : Type 0} (w : Model I A) (P Q : I → Outcome V → Type 0) (
   transferred i x y b a c ki kx ky r s p f q d e =
       let same : b ≡ a = t.one i x b a ki kx r p tt f in
       let decided : IsDecided b = subst (λ o. IsDecided o) (sym same) d in
-      let moved : Q i c = t.alike y i c ky ki s q tt in
+      let moved : Q i c = t.consistent y i c ky ki s q tt in
       let equal : b ≡ c = t.meets i i b c ki ki (same_self w i) p moved decided e in
       (subst (λ o. Q i o) (sym equal) moved, decided)
 

@@ -10,7 +10,7 @@ use Rattle.nom_internal.specs.laws.CaseLaws.{CaseLaws, here_known, here_related,
 pub record AcceptLaws {I A P T : Type 0} (w : Model I A) (OnAccept : I → ℕ → P → Outcome T → Type 0) : Type 0 where
   pub same : (longer : Bool) (x y : I) (n : ℕ) (u : P) (o p : Outcome T) → w.IsKnown x → w.IsKnown y → Related w longer x y → OnAccept x n u o →
       Keeps longer o → OnAccept y n u p → o ≡ p
-  pub alike : (x y : I) (n : ℕ) (u : P) (o : Outcome T) → w.IsKnown x → w.IsKnown y → IsSame w x y → OnAccept x n u o → OnAccept y n u o
+  pub consistent : (x y : I) (n : ℕ) (u : P) (o : Outcome T) → w.IsKnown x → w.IsKnown y → IsSame w x y → OnAccept x n u o → OnAccept y n u o
   pub place : (i : I) (m n : ℕ) (u : P) (t : T) → w.IsKnown i → IsBoundary w i m → OnAccept i m u (Accept n t) → IsBoundary w i n
   pub never_fails : (cause : Cause) (i : I) (n : ℕ) (u : P) → OnAccept i n u (Stop (Fails cause)) → ⊥
 
@@ -27,7 +27,7 @@ module _ {I A P T : Type 0} (w : Model I A) (OnAccept : I → ℕ → P → Outc
   passes_same longer x y (Stop why) o p kx ky r s k t = s ∙ sym t
 
   passes_alike : (x y : I) (a : Outcome P) (o : Outcome T) → w.IsKnown x → w.IsKnown y → IsSame w x y → Passes (OnAccept x) a o → Passes (OnAccept y) a o
-  passes_alike x y (Accept n u) o kx ky r s = l.alike x y n u o kx ky r s
+  passes_alike x y (Accept n u) o kx ky r s = l.consistent x y n u o kx ky r s
   passes_alike x y Refuse o kx ky r s = s
   passes_alike x y (Stop why) o kx ky r s = s
 
@@ -49,7 +49,7 @@ module _ {I A P T : Type 0} (w : Model I A) (OnAccept : I → ℕ → P → Outc
     at_alike = here_alike w;
     keeps = λ only. passes_keeps;
     same = λ longer stays. passes_same longer;
-    alike = passes_alike;
+    consistent = passes_alike;
     place = passes_place;
     never_fails = λ Part cause i a g e. (g, passes_fails cause i a e);
     blames = λ i a X Y e f. f e;
@@ -74,7 +74,7 @@ module _ {I A V : Type 0} (w : Model I A) (l : InputLaws w) where
   pub sliced_laws : AcceptLaws w (λ i n (u : V). IsSliced w i n)
   sliced_laws = record {
     same = λ longer x y n u o p kx ky r s k t. sliced w l longer x y n o p r s t;
-    alike = λ x y n u o kx ky r s. (s.0, first_related w false x y n s.0 r s.1, s.2);
+    consistent = λ x y n u o kx ky r s. (s.0, first_related w false x y n s.0 r s.1, s.2);
     place = λ i m n u t h p s. sliced_place w i m n s.0 t s.1 s.2;
     never_fails = λ cause i n u s. never_sliced w cause i n s;
   }

@@ -119,8 +119,8 @@ module _ {I A P Q T E : Type 0} {w : Model I A} (l : InputLaws w) {tree : P → 
     within = λ s. then_within w tree (a.answers s) (λ u. (f.at u).answers s) (λ u. (q.lawful u tt).within s);
     one_outcome = λ s. then_agree w l tree false (a.answers s) (a.answers s) (λ u. (f.at u).answers s) (λ u. (f.at u).answers s) (p.one_outcome s)
         (λ u. (q.lawful u tt).one_outcome s);
-    alike = λ s. then_carries w tree false (a.answers s) (a.answers s) (λ u. (f.at u).answers s) (λ u. (f.at u).answers s) (p.alike s)
-        (λ u. (q.lawful u tt).alike s);
+    consistent = λ s. then_carries w tree false (a.answers s) (a.answers s) (λ u. (f.at u).answers s) (λ u. (f.at u).answers s) (p.consistent s)
+        (λ u. (q.lawful u tt).consistent s);
     frugal = then_frugal w tree first_mode next_mode a f p q;
     settles = λ t. then_carries w tree true (a.answers true) (a.answers false) (λ u. (f.at u).answers true) (λ u. (f.at u).answers false)
         (p.settles t.0) (λ u. (q.lawful u tt).settles (q.settles t.1 u tt));

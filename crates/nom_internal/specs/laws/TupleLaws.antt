@@ -11,7 +11,7 @@ module _ {I A V E : Type 0} {w : Model I A} {m : Meaning I V E} where
   built_lawful l = record {
     within = l.within;
     one_outcome = l.one_outcome;
-    alike = l.alike;
+    consistent = l.consistent;
     frugal = λ mode. l.frugal (with_outputs true mode);
     settles = l.settles;
     blames_alike = l.blames_alike;

@@ -1,4 +1,4 @@
--- What accumulators make of the pairs that are read.
+-- Accumulators of the pairs that are read.
 use Rattle.std.specs.Prelude.{◌≡◌, List, ◌∷◌, ◌++◌, Option, Some, None, Result}
 use Rattle.nom_operators.specs.OperatorTrees.{Symbol}
 use Rattle.nom_operators.specs.OperatorTrees.Symbol.{OfBinary}

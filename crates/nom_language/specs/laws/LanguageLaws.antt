@@ -26,7 +26,7 @@ module _ {I A V W E : Type 0} {w : Model I A} {Lacks : V → Type 0} {part : Mea
   lacking_lawful l = record {
     within = l.within;
     one_outcome = l.one_outcome;
-    alike = l.alike;
+    consistent = l.consistent;
     frugal = lacking_frugal l;
     settles = l.settles;
     blames_alike = l.blames_alike;

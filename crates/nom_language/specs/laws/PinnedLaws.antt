@@ -71,10 +71,10 @@ module _ {P Q B O : Type 0} (prefix : View P) (postfix : View Q) (binary : View 
     -- the values of one tree
     pub expression_pinned : {X : Type 0} {Gives : Operation P Q B O → Result O X → Type 0} → OperatesAlike Gives prefix postfix binary value →
         IsPinned value (λ e y. IsEvaluated IsTerm IsBinary Gives e (Ok y))
-    expression_pinned alike = record {
+    expression_pinned consistent = record {
       one_view = λ e a b g h.
           let see = viewed_symbol prefix postfix binary value in
-          values_alike prefix postfix binary value _ alike _ _ a b
+          values_alike prefix postfix binary value _ consistent _ _ a b
           (map-append see (symbols_of_term g.first) (symbols_of_pairs g.pairs)
           ∙ (ap (λ z. z ++ map see (symbols_of_pairs g.pairs)) (one_term e.0 g.first h.first g.is_first h.is_first)
           ∙ (ap (λ z. map see (symbols_of_term h.first) ++ z) (pairs_alike e.1 g.pairs h.pairs g.are_pairs h.are_pairs)
@@ -88,7 +88,7 @@ pub record BuildsAlike {H O : Type 0} (Gives : O → H → O → O → Type 0) (
       Gives x a z u → Gives y b w v → value.value u ≡ value.value v
 
 module _ {T C H O : Type 0} {IsItem : T → O → Type 0} {IsOperator : C → H → Type 0} {Gives : O → H → O → O → Type 0} {operator : View H} {value : View O}
-    (items : IsPinned value IsItem) (operators : IsPinned operator IsOperator) (alike : BuildsAlike Gives operator value) where
+    (items : IsPinned value IsItem) (operators : IsPinned operator IsOperator) (consistent : BuildsAlike Gives operator value) where
   folds_alike : (us : List (C × T)) (xs ys : List (H × O)) (a b u v : O) → value.value a ≡ value.value b →
       AllZip (λ t o. IsOperator t.0 o.0 × IsItem t.1 o.1) us xs → AllZip (λ t o. IsOperator t.0 o.0 × IsItem t.1 o.1) us ys →
       FoldsTo (λ x p z. Gives x p.0 p.1 z) a xs u → FoldsTo (λ x p z. Gives x p.0 p.1 z) b ys v → value.value u ≡ value.value v
@@ -98,7 +98,7 @@ module _ {T C H O : Type 0} {IsItem : T → O → Type 0} {IsOperator : C → H 
   folds_alike (t ∷ us) [] ys a b u v e h k f g = absurd h
   folds_alike (t ∷ us) (x ∷ xs) [] a b u v e h k f g = absurd k
   folds_alike (t ∷ us) (x ∷ xs) (y ∷ ys) a b u v e h k f g = folds_alike us xs ys f.0 g.0 u v
-      (alike.on_pair x.0 y.0 a b x.1 y.1 f.0 g.0 (operators.one_view t.0 x.0 y.0 h.0.0 k.0.0) e (items.one_view t.1 x.1 y.1 h.0.1 k.0.1) f.1 g.1)
+      (consistent.on_pair x.0 y.0 a b x.1 y.1 f.0 g.0 (operators.one_view t.0 x.0 y.0 h.0.0 k.0.0) e (items.one_view t.1 x.1 y.1 h.0.1 k.0.1) f.1 g.1)
       h.1 k.1 f.2 g.2
 
   pub left_assoc_pinned : IsPinned value (IsFolded IsItem IsOperator Gives)

@@ -85,7 +85,7 @@ module _ {I A V E : Type 0} (w : Model I A) (errs : Errors I E) (m : Meaning I V
   settled_lawful = record {
     within = λ s i n v h a. l.within s i n v h (subst (λ z. m.answers s i z) (settled_accepts n v a.0 a.2) a.1);
     one_outcome = λ s x y o p kx ky r a k b. a.2 ∙ (ap settled (l.one_outcome s x y a.0 b.0 kx ky r a.1 tt b.1) ∙ sym b.2);
-    alike = λ s x y o kx ky r a k. (a.0, l.alike s x y a.0 kx ky r a.1 tt, a.2);
+    consistent = λ s x y o kx ky r a k. (a.0, l.consistent s x y a.0 kx ky r a.1 tt, a.2);
     frugal = settled_frugal;
     settles = λ t. absurd t;
     blames_alike = λ t. absurd t;

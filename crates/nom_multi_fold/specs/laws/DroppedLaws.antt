@@ -13,7 +13,7 @@ module _ {I A V : Type 0} (w : Model I A) where
   accept_laws : AcceptLaws w (λ (i : I) n (v : V) o. o ≡ Accept n v)
   accept_laws = record {
     same = λ longer x y n u o p kx ky r s k t. s ∙ sym t;
-    alike = λ x y n u o kx ky r s. s;
+    consistent = λ x y n u o kx ky r s. s;
     place = λ i m n u t h p s. let same : m ≡ n = cc (s) in subst (λ z. IsBoundary w i z) same p;
     never_fails = λ cause i n u s. never_dropped cause n u s;
   }

@@ -20,7 +20,7 @@ module _ {I A V E : Type 0} {w : Model I A} {Lacks : Modes → I → Type 0} {Ne
   beside_lawful never p = record {
     within = p.within;
     one_outcome = p.one_outcome;
-    alike = p.alike;
+    consistent = p.consistent;
     frugal = frugal;
     settles = p.settles;
     blames_alike = p.blames_alike;

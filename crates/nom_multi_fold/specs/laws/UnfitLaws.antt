@@ -25,7 +25,7 @@ module _ {I A V E : Type 0} {w : Model I A} (errs : Errors I E) (kind : ErrorKin
   unfit_lawful p = record {
     within = within;
     one_outcome = λ s. where_agree w IsUnfit fails false (m.answers s) (p.one_outcome s);
-    alike = λ s. where_carries w IsUnfit fails false (m.answers s) (m.answers s) (p.alike s);
+    consistent = λ s. where_carries w IsUnfit fails false (m.answers s) (m.answers s) (p.consistent s);
     frugal = frugal;
     settles = λ t. where_carries w IsUnfit fails true (m.answers true) (m.answers false) (p.settles t);
     blames_alike = blames;

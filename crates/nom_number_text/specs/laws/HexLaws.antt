@@ -31,7 +31,7 @@ module _ {I A : Type 0} (w : Model I A) (code : A → ℕ) where
   eight_laws : AcceptLaws w (FirstEight w code)
   eight_laws = record {
     same = λ longer x y n t o p kx ky r s k u. s.1 ∙ sym u.1;
-    alike = λ x y n t o kx ky r s. (first_related w false x y n t r s.0, s.1);
+    consistent = λ x y n t o kx ky r s. (first_related w false x y n t r s.0, s.1);
     place = λ i m n t v h p s. accepted_place i m n t v s;
     never_fails = λ cause i n t s. never_eight cause i n t s;
   }

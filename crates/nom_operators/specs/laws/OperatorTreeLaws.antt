@@ -1,4 +1,4 @@
--- What stands in an expression has one tree: a machine that reads it finds each tree again.
+-- Laws of operator trees. What stands in an expression has one tree: a machine that reads it finds each tree again.
 use Rattle.std.specs.Prelude.{◌≡◌, ℕ, Bool, true, false, List, [], ◌∷◌, ◌++◌, refl}
 use Rattle.std.proofs.Common.{sym, ◌∙◌, ap, append_assoc, append-nil}
 use Rattle.nom_operators.specs.OperatorTrees.{OperatorTree, Symbol, symbols, Binding, ends_operand, RightEdge, LeftEdge, IsGrouped, IsTreeOf}

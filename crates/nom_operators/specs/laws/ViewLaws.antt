@@ -84,18 +84,18 @@ module _ {P Q B O : Type 0} (prefix : View P) (postfix : View Q) (binary : View 
       ∙ (ap (λ z. map viewed_symbol (symbols x) ++ OfBinary ((binary_view binary).value b) ∷ z) (viewed_symbols y)
       ∙ sym (map-append viewed_symbol (symbols x) (OfBinary b ∷ symbols y)))
 
-  module _ {X : Type 0} (Gives : Operation P Q B O → Result O X → Type 0) (alike : OperatesAlike Gives prefix postfix binary value) where
+  module _ {X : Type 0} (Gives : Operation P Q B O → Result O X → Type 0) (consistent : OperatesAlike Gives prefix postfix binary value) where
     prefix_alike : (p q : Unary P) (r s : Result O X) (u v : O) → (unary_view prefix).value p ≡ (unary_view prefix).value q →
         ((x y : O) → r ≡ Ok x → s ≡ Ok y → value.value x ≡ value.value y) → OnValue r (λ x. Gives (Does.Prefix p.value x) (Ok u)) (Ok u) →
         OnValue s (λ x. Gives (Does.Prefix q.value x) (Ok v)) (Ok v) → value.value u ≡ value.value v
-    prefix_alike p q (Ok x) (Ok y) u v e f g h = alike.on_prefix p.value q.value x y u v (ap (λ z. z.0) e) (f x y refl refl) g h
+    prefix_alike p q (Ok x) (Ok y) u v e f g h = consistent.on_prefix p.value q.value x y u v (ap (λ z. z.0) e) (f x y refl refl) g h
     prefix_alike p q (Err x) s u v e f g h = absurd (cc (g))
     prefix_alike p q (Ok x) (Err y) u v e f g h = absurd (cc (h))
 
     postfix_alike : (p q : Unary Q) (r s : Result O X) (u v : O) → (unary_view postfix).value p ≡ (unary_view postfix).value q →
         ((x y : O) → r ≡ Ok x → s ≡ Ok y → value.value x ≡ value.value y) → OnValue r (λ x. Gives (Does.Postfix x p.value) (Ok u)) (Ok u) →
         OnValue s (λ x. Gives (Does.Postfix x q.value) (Ok v)) (Ok v) → value.value u ≡ value.value v
-    postfix_alike p q (Ok x) (Ok y) u v e f g h = alike.on_postfix p.value q.value x y u v (ap (λ z. z.0) e) (f x y refl refl) g h
+    postfix_alike p q (Ok x) (Ok y) u v e f g h = consistent.on_postfix p.value q.value x y u v (ap (λ z. z.0) e) (f x y refl refl) g h
     postfix_alike p q (Err x) s u v e f g h = absurd (cc (g))
     postfix_alike p q (Ok x) (Err y) u v e f g h = absurd (cc (h))
 
@@ -104,7 +104,7 @@ module _ {P Q B O : Type 0} (prefix : View P) (postfix : View Q) (binary : View 
         OnValue r (λ x. OnValue k (λ z. Gives (Does.Binary x p.value z) (Ok u)) (Ok u)) (Ok u) →
         OnValue s (λ x. OnValue l (λ z. Gives (Does.Binary x q.value z) (Ok v)) (Ok v)) (Ok v) → value.value u ≡ value.value v
     binary_alike p q (Ok x) (Ok y) (Ok z) (Ok w) u v e f d g h =
-        alike.on_binary p.value q.value x y z w u v (ap (λ t. t.0) e) (f x y refl refl) (d z w refl refl) g h
+        consistent.on_binary p.value q.value x y z w u v (ap (λ t. t.0) e) (f x y refl refl) (d z w refl refl) g h
     binary_alike p q (Err x) s k l u v e f d g h = absurd (cc (g))
     binary_alike p q (Ok x) (Err y) k l u v e f d g h = absurd (cc (h))
     binary_alike p q (Ok x) (Ok y) (Err z) l u v e f d g h = absurd (cc (g))

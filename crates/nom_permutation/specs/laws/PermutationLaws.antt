@@ -34,7 +34,7 @@ module _ {I A T W E : Type 0} (w : Model I A) (Grows : Type 0) (all : List (Memb
   good_lawful m h = record {
     within = h.lawful.within;
     one_outcome = h.lawful.one_outcome;
-    alike = h.lawful.alike;
+    consistent = h.lawful.consistent;
     frugal = λ mode i k f. h.lawful.frugal mode i k (h.promises.frugal mode f);
     settles = λ t. h.lawful.settles (h.promises.settles t);
     blames_alike = λ t. h.lawful.blames_alike (h.promises.settles t);
@@ -49,7 +49,7 @@ module _ {I A V : Type 0} (w : Model I A) (t : V) where
   done_lawful = record {
     within = λ s i n v h a. let none : 0 ≡ n = cc (a) in subst (λ m. IsBoundary w i m) none (no_place w i);
     one_outcome = λ s x y o q kx ky r a z b. a ∙ sym b;
-    alike = λ s x y o kx ky r a k. a;
+    consistent = λ s x y o kx ky r a k. a;
     frugal = λ mode i h f r. r;
     settles = λ k x y o kx ky r a d. a;
     blames_alike = λ k s i o e h a b d r. r;

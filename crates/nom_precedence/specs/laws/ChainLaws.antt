@@ -1,14 +1,13 @@
 -- The laws of items in turn, of which one may be stuck.
 use Rattle.std.specs.Prelude.{◌≡◌, ℕ, ◌⊎◌, true, Option, Some, None, zero, suc}
 use Rattle.std.proofs.Common.{inl, inr}
-use Rattle.nom.specs.Prelude.{Model, InputLaws, Outcome, Cause, Accept, Refuse, Stop, Fails, Needs, Meaning, IsLawful, IsSteady}
-use Rattle.nom.specs.Prelude.{always, always_lawful}
-use Rattle.nom.specs.Repeat.{Ran}
-use Rattle.nom.specs.Repeat.Turn.{Ends}
+use Rattle.nom.specs.Prelude.{Model, InputLaws, Outcome, Cause, Accept, Refuse, Stop, Fails, Meaning, IsLawful, IsSteady, always, always_lawful}
+use Rattle.nom.specs.Repeat.{Turn, Ran}
+use Rattle.nom.specs.Repeat.Turn.{Takes, Ends}
 use Rattle.nom.specs.RepeatLaws.{KeepsTurn, KeepsReply, EndsAt, RuleLaws, repeat_lawful, repeat_steady}
-use Rattle.nom_precedence.specs.Stuck.{Read}
-use Rattle.nom_precedence.specs.Stuck.Read.{Whole, Stuck}
-use Rattle.nom_precedence.specs.Chains.{read_turn, chain_turn, ChainBlames, IfTaken, ChainAsks, chain_rule, chain_meaning}
+use Rattle.nom_precedence.specs.declared.read.Read.{Read}
+use Rattle.nom_precedence.specs.declared.read.Read.TheVariants.{Whole, Stuck}
+use Rattle.nom_precedence.specs.Chains.{read_turn, chain_turn, ChainBlames, IfTakes, chain_rule, chain_meaning}
 
 chain_decided : {V : Type 0} (a : Option (Outcome (Read V))) → KeepsTurn true (chain_turn a) → KeepsReply true a
 chain_decided (Some (Accept n u)) h = tt
@@ -28,22 +27,12 @@ chain_ends (Some (Stop why)) n t e = absurd (cc (e))
 chain_ends None n t e = cc (e)
 
 chain_blames : {V E : Type 0} (a : Option (Outcome V)) (X Y : E → Type 0) (e : E) → (Ran a → (f : E) → X f → Y f) → ChainBlames a X e → ChainBlames a Y e
-chain_blames (Some (Accept n u)) X Y e f h = h
-chain_blames (Some Refuse) X Y e f h = h
-chain_blames (Some (Stop (Fails cause))) X Y e f h = f tt e h
-chain_blames (Some (Stop (Needs d))) X Y e f h = h
+chain_blames (Some o) X Y e f h = (h.0, f tt e h.1)
 chain_blames None X Y e f h = h
 
-taken_none : {V : Type 0} (Fact : Type 0) (u : Read V) (n : ℕ) → (Fact → ⊥) → IfTaken Fact u n → ⊥
-taken_none Fact Stuck n f h = h
-taken_none Fact (Whole v) zero f h = h
-taken_none Fact (Whole v) (suc n) f h = f h
-
-chain_asks_none : {V : Type 0} (Fact : Type 0) (a : Option (Outcome (Read V))) → (Fact → ⊥) → ChainAsks Fact a → ⊥
-chain_asks_none Fact (Some (Accept n u)) f h = taken_none Fact u n f h
-chain_asks_none Fact (Some Refuse) f h = h
-chain_asks_none Fact (Some (Stop why)) f h = h
-chain_asks_none Fact None f h = h
+takes_none : {V T : Type 0} (Fact : Type 0) (t : Turn V T) → (Fact → ⊥) → IfTakes Fact t → ⊥
+takes_none Fact (Takes n v) f h = f h
+takes_none Fact (Ends o) f h = h
 
 read_never_fails : {V : Type 0} (cause : Cause) (u : Read V) (n : ℕ) → Ends (Stop (Fails cause)) ≡ read_turn u n → ⊥
 read_never_fails cause Stuck n e = absurd (cc (e))
@@ -62,7 +51,7 @@ chain_rule_laws Grows = record {
   ends = λ k. chain_ends;
   blames = λ i k j a X Y e. chain_blames a X Y e;
   part_frugal = λ Part mode k h. h.0;
-  asks_none = λ Part mode k a h. chain_asks_none ((mode.outputs ≡ true) × Grows) a (λ p. h.1 p.0 p.1);
+  asks_none = λ Part mode k a h. takes_none ((mode.outputs ≡ true) × Grows) (chain_turn a) (λ p. h.1 p.0 p.1);
   never_fails = λ Part cause k a h e. (h, chain_fails cause a e);
 }
 

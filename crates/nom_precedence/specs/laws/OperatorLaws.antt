@@ -1,10 +1,11 @@
 -- The laws of operators with levels.
 use Rattle.std.specs.Prelude.{◌≡◌, ℕ, Bool, true, false, ltb, refl}
 use Rattle.std.proofs.Common.{sym, ◌∙◌, ap, subst}
-use Rattle.nom.specs.Prelude.{Errors, Model, IsBoundary, itself, Outcome, Cause, Accept, Refuse, Stop, Fails, Needs, Outright, TooLarge, IsDecided}
-use Rattle.nom.specs.Prelude.{Meaning, IsLawful, IsSteady, OfValue, IsOne, Passes, GivesFor, IsPinned}
+use Rattle.nom.specs.Prelude.{Errors, Model, IsBoundary, Outcome, Cause, Accept, Refuse, Stop, Fails, Outright, TooLarge, IsDecided}
+use Rattle.nom.specs.Prelude.{Meaning, IsLawful, IsSteady, OfValue, IsOne, Passes}
 use Rattle.nom.specs.CaseLaws.{CaseLaws, here_known, here_related, here_alike, here_place, case_lawful, case_steady}
-use Rattle.nom_precedence.specs.Operators.{HasLevel, if_level, OperatorBlames, OperatorAsks, operator_case, operator_meaning}
+use Rattle.nom_precedence.specs.Operators.{if_level, IfNoLevel, operator_case, operator_meaning}
+use Rattle.nom_precedence.specs.laws.StuckLaws.{either_more}
 
 level_accepts : {P : Type 0} (b : Bool) (n m k : ℕ) (t : ℕ × P) (u : P) → Accept n t ≡ if_level b m k u → m ≡ n
 level_accepts true n m k t u e = cc
@@ -42,14 +43,7 @@ module _ {P : Type 0} (IsLevel : P → ℕ → Type 0) (levels : ℕ) where
   fails TooLarge (Stop why) e b = cc (b)
   fails Outright a e b = absurd (cc)
 
-  operator_blames : {E : Type 0} (Makes : E → Type 0) (a : Outcome P) (X Y : E → Type 0) (e : E) → ((f : E) → X f → Y f) →
-      OperatorBlames IsLevel levels Makes a X e → OperatorBlames IsLevel levels Makes a Y e
-  operator_blames Makes (Accept n u) X Y e f h = h
-  operator_blames Makes Refuse X Y e f h = f e h
-  operator_blames Makes (Stop (Fails cause)) X Y e f h = f e h
-  operator_blames Makes (Stop (Needs k)) X Y e f h = h
-
-  asks_none : (Grows : Type 0) (a : Outcome P) → (Grows → ⊥) → OperatorAsks IsLevel levels Grows a → ⊥
+  asks_none : (Grows : Type 0) (a : Outcome P) → (Grows → ⊥) → IfNoLevel IsLevel levels Grows a → ⊥
   asks_none Grows (Accept n u) f h = f (h.fact).1
   asks_none Grows Refuse f h = h
   asks_none Grows (Stop why) f h = h
@@ -62,10 +56,10 @@ module _ {I A P E : Type 0} (w : Model I A) (errs : Errors I E) (IsLevel : P →
     at_alike = here_alike w;
     keeps = λ only i. keeps IsLevel levels;
     same = λ longer stays x y a o p kx ky r s k t. same IsLevel levels one a o p s t;
-    alike = λ x y a o kx ky r b. b;
+    consistent = λ x y a o kx ky r b. b;
     place = λ i j a n t h e f b. place IsLevel levels w i j a n t e f b;
     never_fails = λ Part cause i a g e. (g.0, fails IsLevel levels cause a g.1 e);
-    blames = λ i a X Y e f. operator_blames IsLevel levels (errs.of_kind i _) a X Y e f;
+    blames = λ i a X Y e f. either_more (λ h. (h.0, f e h.1));
     part_frugal = λ Part mode h. h.0;
     asks_none = λ Part mode i a h g. asks_none IsLevel levels errs.grows a h.1 g;
   }

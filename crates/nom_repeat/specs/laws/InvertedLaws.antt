@@ -13,7 +13,7 @@ module _ {I A V E : Type 0} {w : Model I A} (errs : Errors I E) (kind : ErrorKin
   error_if_lawful true p = record {
     within = λ s i n v h a. absurd (no_accept fails n v a);
     one_outcome = λ s x y o q kx ky r a d b. a ∙ sym b;
-    alike = λ s x y o kx ky r a d. a;
+    consistent = λ s x y o kx ky r a d. a;
     frugal = λ mode i h f r. f r.0 r.1;
     settles = λ t x y o kx ky r a d. a;
     blames_alike = λ t s i o e h a b d z. z;
@@ -22,7 +22,7 @@ module _ {I A V E : Type 0} {w : Model I A} (errs : Errors I E) (kind : ErrorKin
   error_if_lawful false p = record {
     within = p.within;
     one_outcome = p.one_outcome;
-    alike = p.alike;
+    consistent = p.consistent;
     frugal = p.frugal;
     settles = p.settles;
     blames_alike = p.blames_alike;

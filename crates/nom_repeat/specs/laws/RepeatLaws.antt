@@ -250,8 +250,8 @@ module _ {I A P V T R E : Type 0} (w : Model I A) (l : InputLaws w) (r : Rule I 
     agree : (s : Bool) → AgreeTurns w false (Turns s) (Turns s)
     agree s = turns_agree w r.bound r.turn rl.decided false (Part s) (Part s) (λ k. (q.lawful k tt).one_outcome s)
 
-    alike : (s : Bool) → CarriesTurns w false (Turns s) (Turns s)
-    alike s = turns_carry w r.bound r.turn rl.decided false (Part s) (Part s) (λ k. (q.lawful k tt).alike s)
+    consistent : (s : Bool) → CarriesTurns w false (Turns s) (Turns s)
+    consistent s = turns_carry w r.bound r.turn rl.decided false (Part s) (Part s) (λ k. (q.lawful k tt).consistent s)
 
     settle : f.Settles → CarriesTurns w true (Turns true) (Turns false)
     settle t = turns_carry w r.bound r.turn rl.decided true (Part true) (Part false) (λ k. (q.lawful k tt).settles (q.settles t k tt))
@@ -268,7 +268,7 @@ module _ {I A P V T R E : Type 0} (w : Model I A) (l : InputLaws w) (r : Rule I 
         let mine : Turns s k z (r.turn k b.reply) = record { reply = b.reply; replied = b.replied; fact = refl } in
         let is : turn ≡ r.turn k b.reply = agree s k x z turn (r.turn k b.reply) kx kz same both.0 (keeps_any turn) mine in
         let decided = rl.decided k b.reply (subst (λ y. KeepsTurn true y) is d) in
-        let yours = alike (not s) k x z turn kx kz same both.1 (keeps_any turn) in
+        let yours = consistent (not s) k x z turn kx kz same both.1 (keeps_any turn) in
         let there = meets t s k z b.reply yours.reply kz b.replied yours.replied decided
         (rl.decided k yours.reply (subst (λ y. KeepsTurn true y) yours.fact d)) in
         let replied : Replies r.bound (Part (not s)) k z b.reply = subst (λ y. Replies r.bound (Part (not s)) k z y) (sym there) yours.replied in
@@ -301,7 +301,7 @@ module _ {I A P V T R E : Type 0} (w : Model I A) (l : InputLaws w) (r : Rule I 
         (repeat_meaning w r tree f).blames s i e → (repeat_meaning w r tree f).blames (not s) i e
     blames_alike t s i o e h a d b =
         let decided = keeps_mapped true (λ m. a.taken + m) (tree a.trees) a.ending (subst (λ z. IsDecided z) a.outcome_is d) in
-        reaches_too w l (Turns s) (Turns (not s)) (agree s) (alike (not s)) (Blamed s i e) (Blamed (not s) i e)
+        reaches_too w l (Turns s) (Turns (not s)) (agree s) (consistent (not s)) (Blamed s i e) (Blamed (not s) i e)
         (blamed_too t s i e) i a.trees a.taken a.ending h decided (in_both t s i a.trees a.taken a.ending h decided a.pieces) b
 
     both_blames : f.Settles → (s : Bool) →
@@ -325,7 +325,7 @@ module _ {I A P V T R E : Type 0} (w : Model I A) (l : InputLaws w) (r : Rule I 
       within = λ s. repeats_within w (Turns s) tree
           (λ k j n t kj z. end_place s (λ c. (q.lawful c tt).within s) k j n z.reply kj z.replied (rl.ends k z.reply n t z.fact));
       one_outcome = λ s. repeats_agree w l false (Turns s) (Turns s) tree (agree s);
-      alike = λ s. repeats_carry w false (Turns s) (Turns s) tree (alike s);
+      consistent = λ s. repeats_carry w false (Turns s) (Turns s) tree (consistent s);
       frugal = λ mode i h g. reaches_never w (Turns mode.streaming)
           (λ k j. OnReply r.bound (Part mode.streaming) (r.Asks mode k) k j ⊎ (IsBelow r.bound k × (f.at k).may_run_out (r.part k mode) j))
           (never_asks mode g) i h;

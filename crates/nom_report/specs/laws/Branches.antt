@@ -1,4 +1,4 @@
--- What a choice tells of its branches, one branch after another.
+-- Laws of the reports of a choice on its branches, one branch after another.
 use Rattle.std.proofs.Common.{◌≡◌, ℕ, Bool, List, [], ◌∷◌, ◌++◌, refl, sym, subst, inl, inr, ◌⊎◌}
 use Rattle.nom_internal.specs.Prelude.{Model, Meaning, IsLawful, Outcome, Accept, Refuse, Stop, Fails, Needs, IsFailure, labelled, labelled_meaning, or_meaning}
 use Rattle.nom_internal.specs.Prelude.{FirstFails, FirstRefuses, NextFails, NextRefuses, GoesOnRefused, Closed, same_self}

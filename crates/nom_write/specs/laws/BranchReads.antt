@@ -1,4 +1,4 @@
--- What is read of branches, each of which stands apart from all before it.
+-- Laws of reading back branches, each of which stands apart from all before it.
 use Rattle.std.specs.Prelude.{ℕ, List, Option}
 use Rattle.nom_internal.specs.Prelude.{Errors, Grammar, Model, either_of}
 use Rattle.nom_sink.specs.declared.error.WriteError.{WriteError}

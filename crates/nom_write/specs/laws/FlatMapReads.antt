@@ -1,4 +1,4 @@
--- What is read of a first value, and then of one by the parser that is given for the first.
+-- Laws of reading back a first value, and then one by the parser that is given for the first.
 use Rattle.std.specs.Prelude.{ℕ, Bool, true, List, ◌++◌, Option, refl}
 use Rattle.std.proofs.Common.{sym, ◌∙◌}
 use Rattle.nom_error.specs.Modes.{with_outputs}

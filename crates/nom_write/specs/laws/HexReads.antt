@@ -1,4 +1,4 @@
--- What is read of hexadecimal digits.
+-- Laws of reading back hexadecimal digits.
 use Rattle.std.specs.Prelude.{◌≡◌, ℕ, ◌+◌, ◌*◌, ◌^◌, ◌<◌, ◌≤◌, Bool, true, false, ltb, List, [], ◌∷◌, length, map, take, Some, None, zero, suc, refl}
 use Rattle.std.specs.List.{All}
 use Rattle.std.proofs.Common.{arith, sym, ◌∙◌, ap, subst}

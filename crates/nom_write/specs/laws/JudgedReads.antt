@@ -1,4 +1,4 @@
--- What is read of parts whose outputs a closure maps or refuses, with a way back.
+-- Laws of reading back parts whose outputs a closure maps or refuses, with a way back.
 use Rattle.std.specs.Prelude.{◌≡◌, ℕ, Bool, true, List, Option, Some, is_some, Result, Ok, is_ok, refl}
 use Rattle.std.proofs.Common.{sym, ◌∙◌, ap, subst}
 use Rattle.nom_error.specs.Errors.{Externals}

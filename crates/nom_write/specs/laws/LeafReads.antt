@@ -1,4 +1,4 @@
--- What is read of leaves.
+-- Laws of reading back leaves.
 use Rattle.std.specs.Prelude.{◌≡◌, ℕ, Bool, List, [], ◌∷◌, ◌++◌, length, Option, refl}
 use Rattle.std.proofs.Common.{arith, sym, ◌∙◌, ap, subst}
 use Rattle.nom_internal.specs.Prelude.{Errors, Model, items_len, items_len-ones, same_self, Slice, IsFirst, Meaning, IsLawful, Outcome}

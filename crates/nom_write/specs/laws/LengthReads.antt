@@ -1,4 +1,4 @@
--- What is read of a length and what it counts.
+-- Laws of reading back a length and what it counts.
 use Rattle.std.specs.Prelude.{◌≡◌, ℕ, Bool, true, false, List, [], ◌∷◌, ◌++◌, length, Vec, Option, refl}
 use Rattle.std.specs.List.{AllZip}
 use Rattle.std.proofs.Common.{arith, sym, ◌∙◌, ap, subst, append-nil}

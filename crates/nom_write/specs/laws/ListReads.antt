@@ -1,4 +1,4 @@
--- What is read of lists: of just as many items as there are values, or of items up to what no item begins.
+-- Laws of reading back lists: of just as many items as there are values, or of items up to what no item begins.
 use Rattle.std.specs.Prelude.{◌≡◌, ℕ, ◌+◌, ◌<◌, Bool, true, false, List, [], ◌∷◌, ◌++◌, length, Option, Some, None, zero, suc, refl}
 use Rattle.std.specs.List.{AllZip}
 use Rattle.std.proofs.Common.{sym, ◌∙◌, ap, subst, append_assoc, arith}

@@ -1,4 +1,4 @@
--- What is read of values in the place of outputs, and of outputs that pass a test.
+-- Laws of reading back values in the place of outputs, and outputs that pass a test.
 use Rattle.std.specs.Prelude.{◌≡◌, ℕ, Bool, true, List, ◌++◌, Option}
 use Rattle.std.proofs.Common.{sym, ◌∙◌, ap, subst}
 use Rattle.nom_internal.specs.Prelude.{Accept, Errors, GivesFor, Grammar, IsJudge, Model, Passes, items_len, Judged, kept_if}

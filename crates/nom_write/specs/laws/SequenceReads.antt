@@ -1,4 +1,4 @@
--- What is read of parts in sequence: what is written of the second, with all that may follow it, may follow the first.
+-- Laws of reading back parts in sequence: what is written of the second, with all that may follow it, may follow the first.
 use Rattle.std.specs.Prelude.{◌≡◌, ℕ, List, [], ◌++◌, false, refl}
 use Rattle.std.proofs.Common.{sym, ◌∙◌, ap, subst, append_assoc, append-nil}
 use Rattle.nom_internal.specs.Prelude.{Model, InputLaws, items_len, items_len-append, IsSuffixOf, Grammar, Outcome, Accept, GoesOn, Then, after}

@@ -1,4 +1,4 @@
--- What is read of a value that nothing stands for.
+-- Laws of reading back a value that nothing stands for.
 use Rattle.std.specs.Prelude.{◌≡◌, []}
 use Rattle.nom_internal.specs.Prelude.{Model}
 use Rattle.nom_combinator.specs.Ends.{clone_meaning}

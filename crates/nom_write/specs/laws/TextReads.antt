@@ -1,4 +1,4 @@
--- What is read of tags over texts.
+-- Laws of reading back tags over texts.
 use Rattle.std.specs.Prelude.{◌≡◌, ℕ, ◌<◌, ◌⊎◌, Bool, true, false, cond, eqb, nat_lt, ◌&&◌, List, [], ◌∷◌, ◌++◌, length, refl}
 use Rattle.std.specs.Prelude.{chars, encode_utf8_all, IsUtf8}
 use Rattle.std.specs.Borrow.{Bor}

@@ -1,4 +1,4 @@
--- What is read of a form that is all of an input.
+-- Laws of reading back a form that is all of an input.
 use Rattle.std.specs.Prelude.{◌≡◌, Bool, false, List, [], refl}
 use Rattle.std.proofs.Common.{sym, ◌∙◌, subst, append-nil}
 use Rattle.nom_internal.specs.Prelude.{Accept, Errors, Grammar, InputLaws, Model, same_self}

@@ -6,7 +6,7 @@ pub returns-clause-shown : goal.returns-clause-shown
 returns-clause-shown g c = λ b. next_shown g.I.Items.model _ _ c.args.input _ g.P.Error.ParseError.errors.joined g.P.Error.ParseError.errors.grows
     c.args.error c.process.result c.join.result b c.process.ensures.shown c.join.ensures
 
-pub returns-clause-besides : goal.returns-clause-besides
-returns-clause-besides g c =
+pub returns-clause-side_condition : goal.returns-clause-side_condition
+returns-clause-side_condition g c =
     rw (join_rest g.P.Error.ParseError.errors.joined g.P.Error.ParseError.errors.grows c.args.error c.process.result c.join.result c.join.ensures)
-    c.process.ensures.besides
+    c.process.ensures.side_condition

@@ -1,4 +1,4 @@
-use Rattle.nom_run.proofs.Built.{told, untold}
+use Rattle.nom_run.proofs.Built.{told, pending}
 use Rattle.nom_run.proofs.Piecewise.{puts_same}
 use Rattle.nom_json_run.proofs.lines.list.Goals as goal
 
@@ -6,4 +6,4 @@ pub returns-in-Ok-write_all : goal.returns-in-Ok-write_all
 returns-in-Ok-write_all g c = told _ c.in-Ok.ensures (puts_same c.as_bytes.ensures.value c.in-Ok-write_all.ensures.puts)
 
 pub returns : goal.returns
-returns g c = untold _ c.in-Ok.ensures (puts_same c.as_bytes.ensures.value c.in-Err-write_all.ensures.puts)
+returns g c = pending _ c.in-Ok.ensures (puts_same c.as_bytes.ensures.value c.in-Err-write_all.ensures.puts)

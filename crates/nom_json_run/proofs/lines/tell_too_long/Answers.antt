@@ -1,5 +1,5 @@
 use Rattle.std.proofs.Common.{refl}
-use Rattle.nom_run.proofs.Built.{told, untold}
+use Rattle.nom_run.proofs.Built.{told, pending}
 use Rattle.nom_run.proofs.Piecewise.{puts_same}
 use Rattle.nom_json_run.proofs.lines.tell_too_long.Goals as goal
 
@@ -7,4 +7,4 @@ pub returns-in-Ok-write_all : goal.returns-in-Ok-write_all
 returns-in-Ok-write_all g c = told 3 (c.in-Ok.ensures, refl) (puts_same c.as_bytes.ensures.value c.in-Ok-write_all.ensures.puts)
 
 pub returns : goal.returns
-returns g c = untold 3 (c.in-Ok.ensures, refl) (puts_same c.as_bytes.ensures.value c.in-Err-write_all.ensures.puts)
+returns g c = pending 3 (c.in-Ok.ensures, refl) (puts_same c.as_bytes.ensures.value c.in-Err-write_all.ensures.puts)

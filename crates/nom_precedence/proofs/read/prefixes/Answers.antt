@@ -1,44 +1,30 @@
-use Rattle.std.proofs.Common.{refl, ◌∙◌, false, subst, sym, []}
-use Rattle.nom.specs.Prelude.{labelled_meaning}
+use Rattle.std.proofs.Common.{refl, ◌∙◌}
+use Rattle.nom.proofs.Parts.{shown_at}
+use Rattle.nom.proofs.Repeated.{collected_none, consumes, is_shorter}
 use Rattle.nom.proofs.Shown.{accepts, err_from_residual}
-use Rattle.std.specs.List.{AllZip}
-use Rattle.nom_precedence.proofs.HeldShown.{held_built}
-use Rattle.nom_precedence.proofs.ListShown.{listed, all_listed}
-use Rattle.nom.proofs.Parts.{part_refused, shown_at}
-use Rattle.nom.proofs.Repeated.{collected_none, is_empty, consumes, is_shorter}
-use Rattle.nom_precedence.specs.Stuck.Read.{Whole}
-use Rattle.nom_precedence.proofs.ReadShown.{whole_err}
-use Rattle.nom_precedence.proofs.ChainShown.{accepts_whole, refuses_whole, chain_ended, chain_stuck, chain_lacks_room, chain_failed, chain_lacks}
-use Rattle.nom_precedence.proofs.ChainShown.{chain_ran_out, chain_more}
+use Rattle.nom_precedence.proofs.ChainShown.{chain_ended, chain_failed, chain_lacks, chain_lacks_room, chain_more, chain_ran_out, chain_stuck}
+use Rattle.nom_precedence.proofs.HeldShown.{all_listed, held_built, listed}
+use Rattle.nom_precedence.proofs.ReadShown.{whole_err, whole_item}
 use Rattle.nom_precedence.proofs.read.prefixes.Goals as goal
 
 pub loop-next-init : goal.loop-next-init
 loop-next-init g c = record {
   state_kept = refl;
-  collected = collected_none g.met.I.Items.lawful c.prove_known.ensures
-      (λ _. subst (λ z. AllZip (g.F.Parser.grammar (g.F.Parser.state c.args.parser.now)).IsOutput [] z) (sym c.requires.empty) tt);
+  collected = collected_none g.met.I.Items.lawful c.prove_known.ensures (λ _. rw c.requires.empty tt);
 }
 
 pub returns-then-input_len-clause-shown : goal.returns-then-input_len-clause-shown
 returns-then-input_len-clause-shown g c =
     let i = c.loop-next.invariant in
-    let item = accepts (shown_at g.F.Parser.grammar i.state_kept c.in-Ok.ensures.shown) in
-    chain_stuck (Unit {0}) (labelled_meaning Whole (g.F.Parser.grammar (g.F.Parser.state c.args.parser.now)).meaning)
-    _ g.OM.Output.Mode.BUILDS
-    g.OM.Error.Mode.BUILDS g.OM.Incomplete.IsStreaming.STREAMING i.collected g.met.I.Items.lawful item.tree
-    (accepts_whole (g.F.Parser.grammar (g.F.Parser.state c.args.parser.now)).meaning item.answered)
-    (is_empty item.rest_is c.input_len.ensures c.input_len-in-Ok.ensures c.if-input_len.true) item.rest_is
+    chain_stuck i.collected (whole_item (shown_at g.F.Parser.grammar i.state_kept c.in-Ok.ensures.shown)) g.met.I.Items.lawful
+    c.input_len.ensures c.input_len-in-Ok.ensures c.if-input_len.true
 
 pub returns-in_err-put-in-Ok-clause-shown : goal.returns-in_err-put-in-Ok-clause-shown
 returns-in_err-put-in-Ok-clause-shown g c =
     let i = c.loop-next.invariant in
-    let item = accepts (shown_at g.F.Parser.grammar i.state_kept c.in-Ok.ensures.shown) in
-    rw (err_from_residual c.from_residual.ensures) (
-    chain_lacks_room (Unit {0}) (labelled_meaning Whole (g.F.Parser.grammar (g.F.Parser.state c.args.parser.now)).meaning)
-    _ g.OM.Output.Mode.BUILDS
-    g.OM.Error.Mode.BUILDS g.OM.Incomplete.IsStreaming.STREAMING i.collected item.tree
-    (accepts_whole (g.F.Parser.grammar (g.F.Parser.state c.args.parser.now)).meaning item.answered)
-    (consumes item.rest_is c.input_len.ensures c.input_len-in-Ok.ensures c.if-input_len.false)
+    let item = whole_item (shown_at g.F.Parser.grammar i.state_kept c.in-Ok.ensures.shown) in
+    rw (err_from_residual c.from_residual.ensures)
+    (chain_lacks_room i.collected item c.input_len.ensures c.input_len-in-Ok.ensures c.if-input_len.false
     (held_built _ _ _ item.built_is c.in_err-put-in-Ok.ensures.full) tt)
 
 pub loop-next-smaller : goal.loop-next-smaller
@@ -49,52 +35,30 @@ loop-next-smaller g c =
 pub loop-next-preserved : goal.loop-next-preserved
 loop-next-preserved g c =
     let i = c.loop-next.invariant in
-    let item = accepts (shown_at g.F.Parser.grammar i.state_kept c.in-Ok.ensures.shown) in
+    let item = whole_item (shown_at g.F.Parser.grammar i.state_kept c.in-Ok.ensures.shown) in
     record {
       state_kept = c.in-Ok.ensures.kept ∙ i.state_kept;
-      collected = chain_more g.met.I.Items.lawful ((labelled_meaning Whole (g.F.Parser.grammar (g.F.Parser.state c.args.parser.now)).meaning).answers
-          g.OM.Incomplete.IsStreaming.STREAMING) i.collected item.tree (accepts_whole (g.F.Parser.grammar (g.F.Parser.state c.args.parser.now)).meaning
-          item.answered) (consumes item.rest_is c.input_len.ensures c.input_len-in-Ok.ensures c.if-input_len.false) item.rest_is
-          (listed (g.F.Parser.grammar (g.F.Parser.state c.args.parser.now)).IsOutput g.OM.Output.Mode.BUILDS _ _ _ _ _ i.collected.held item.built_is
-          c.in_ok-put-in-Ok.ensures.put);
+      collected = chain_more g.met.I.Items.lawful i.collected item c.input_len.ensures c.input_len-in-Ok.ensures c.if-input_len.false
+          (listed _ _ _ _ _ _ _ i.collected.held item.built_is c.in_ok-put-in-Ok.ensures.put);
     }
 
 pub returns-in-Err-Error-clause-shown : goal.returns-in-Err-Error-clause-shown
 returns-in-Err-Error-clause-shown g c =
     let i = c.loop-next.invariant in
-    chain_ended (Unit {0}) (labelled_meaning Whole (g.F.Parser.grammar (g.F.Parser.state c.args.parser.now)).meaning)
-    _ g.OM.Output.Mode.BUILDS
-    g.OM.Error.Mode.BUILDS g.OM.Incomplete.IsStreaming.STREAMING i.collected
-    (refuses_whole (g.F.Parser.grammar (g.F.Parser.state c.args.parser.now)).meaning
-    (part_refused c.in-Err-Error.field-0-is (shown_at g.F.Parser.grammar i.state_kept c.in-Err-Error.ensures.shown))) _
-    (all_listed _ _ i.collected.held c.built.ensures)
+    chain_ended i.collected c.in-Err-Error.field-0-is (whole_err (shown_at g.F.Parser.grammar i.state_kept c.in-Err-Error.ensures.shown))
+    (all_listed _ _ _ i.collected.held c.built.ensures)
 
 pub returns-in-Err-Failure-clause-shown : goal.returns-in-Err-Failure-clause-shown
 returns-in-Err-Failure-clause-shown g c =
     let i = c.loop-next.invariant in
-    chain_failed (Unit {0}) (labelled_meaning Whole (g.F.Parser.grammar (g.F.Parser.state c.args.parser.now)).meaning)
-    _ g.OM.Output.Mode.BUILDS
-    g.OM.Error.Mode.BUILDS g.OM.Incomplete.IsStreaming.STREAMING i.collected
-    (whole_err (g.F.Parser.grammar (g.F.Parser.state c.args.parser.now)).IsOutput (g.F.Parser.grammar (g.F.Parser.state c.args.parser.now)).meaning
-    g.OM.Output.Mode.BUILDS false g.OM.Incomplete.IsStreaming.STREAMING
-    (shown_at g.F.Parser.grammar i.state_kept c.in-Err-Failure.ensures.shown)) c.in-Err-Failure.field-0-is
+    chain_failed i.collected c.in-Err-Failure.field-0-is (whole_err (shown_at g.F.Parser.grammar i.state_kept c.in-Err-Failure.ensures.shown))
 
 pub returns-in-Err-Incomplete-clause-shown : goal.returns-in-Err-Incomplete-clause-shown
 returns-in-Err-Incomplete-clause-shown g c =
     let i = c.loop-next.invariant in
-    chain_lacks (Unit {0}) (labelled_meaning Whole (g.F.Parser.grammar (g.F.Parser.state c.args.parser.now)).meaning)
-    _ g.OM.Output.Mode.BUILDS
-    g.OM.Error.Mode.BUILDS g.OM.Incomplete.IsStreaming.STREAMING i.collected
-    (whole_err (g.F.Parser.grammar (g.F.Parser.state c.args.parser.now)).IsOutput (g.F.Parser.grammar (g.F.Parser.state c.args.parser.now)).meaning
-    g.OM.Output.Mode.BUILDS false g.OM.Incomplete.IsStreaming.STREAMING
-    (shown_at g.F.Parser.grammar i.state_kept c.in-Err-Incomplete.ensures.shown)) c.in-Err-Incomplete.field-0-is
+    chain_lacks i.collected c.in-Err-Incomplete.field-0-is (whole_err (shown_at g.F.Parser.grammar i.state_kept c.in-Err-Incomplete.ensures.shown))
 
 pub returns-in-Err-OutOfMemory-clause-shown : goal.returns-in-Err-OutOfMemory-clause-shown
 returns-in-Err-OutOfMemory-clause-shown g c =
     let i = c.loop-next.invariant in
-    chain_ran_out (Unit {0}) (labelled_meaning Whole (g.F.Parser.grammar (g.F.Parser.state c.args.parser.now)).meaning)
-    _ g.OM.Output.Mode.BUILDS
-    g.OM.Error.Mode.BUILDS g.OM.Incomplete.IsStreaming.STREAMING i.collected
-    (whole_err (g.F.Parser.grammar (g.F.Parser.state c.args.parser.now)).IsOutput (g.F.Parser.grammar (g.F.Parser.state c.args.parser.now)).meaning
-    g.OM.Output.Mode.BUILDS false g.OM.Incomplete.IsStreaming.STREAMING
-    (shown_at g.F.Parser.grammar i.state_kept c.in-Err-OutOfMemory.ensures.shown)) c.in-Err-OutOfMemory.field-0-is
+    chain_ran_out i.collected c.in-Err-OutOfMemory.field-0-is (whole_err (shown_at g.F.Parser.grammar i.state_kept c.in-Err-OutOfMemory.ensures.shown))

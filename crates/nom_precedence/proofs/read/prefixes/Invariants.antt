@@ -1,7 +1,7 @@
 use Rattle.std.proofs.Common.{◌≡◌, true}
 use Rattle.std.specs.List.{AllZip}
 use Rattle.nom.specs.Prelude.{input_len, labelled_meaning}
-use Rattle.nom_precedence.specs.Stuck.Read.{Whole}
+use Rattle.nom_precedence.specs.declared.read.Read.TheVariants.{Whole}
 use Rattle.nom_precedence.proofs.ChainShown.{Chain}
 use Rattle.nom_precedence.proofs.read.prefixes.Given as goal
 

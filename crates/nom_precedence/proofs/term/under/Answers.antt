@@ -1,7 +1,5 @@
 use Rattle.nom_precedence.proofs.TermShown.{before_last}
-use Rattle.nom_operators.specs.declared.operation.Operation.TheVariants.{Prefix}
 use Rattle.nom_precedence.proofs.term.under.Goals as goal
 
 pub loop-prefix-preserved : goal.loop-prefix-preserved
-loop-prefix-preserved g c = λ z h. c.loop-prefix.invariant z (before_last (λ p x y. g.G.Fn.post c.args.fold.now (Prefix p x, tt) y) _ _ c.in-Some.prefix
-    _ _ z c.in-Some.ensures.items c.fold-value.ensures h)
+loop-prefix-preserved g c = λ z h. c.loop-prefix.invariant z (before_last _ _ _ _ _ _ z c.in-Some.ensures.items c.fold-value.ensures h)

@@ -3,8 +3,7 @@ use Rattle.nom_internal.proofs.Shown.{some_built}
 use Rattle.nom_repeat.proofs.accumulator.with_room.Goals as goal
 
 pub returns-then-BUILDS-clause-empty : goal.returns-then-BUILDS-clause-empty
-returns-then-BUILDS-clause-empty g c =
-    some_built _ _ _ (sym c.BUILDS.ensures ∙ c.if-BUILDS.true) (c.reserve_exact.ensures.items ∙ c.new-list.ensures.items)
+returns-then-BUILDS-clause-empty g c = some_built _ _ _ (sym c.BUILDS.ensures ∙ c.if-BUILDS.true) c.empty_list.ensures
 
 pub returns-then-BUILDS-clause-ready : goal.returns-then-BUILDS-clause-ready
 returns-then-BUILDS-clause-ready g c = some_built _ _ _ (sym c.BUILDS.ensures ∙ c.if-BUILDS.true) tt

@@ -1,21 +1,19 @@
-use Rattle.std.proofs.Common.{refl, inl}
+use Rattle.std.proofs.Common.{refl, inl, arith}
 use Rattle.std.proofs.lemmas.Bool.{lt-ltb}
 use Rattle.nom_error.specs.declared.kind.ErrorKind.TheVariants as Kind
 use Rattle.nom_internal.proofs.Shown.{accepts, err_from_residual}
 use Rattle.nom_repeat.specs.Bounds.{exact_limits}
 use Rattle.nom_repeat.specs.declared.items.TooFew.TheVariants.{Added}
 use Rattle.nom_repeat.proofs.Parts.{shown_at}
-use Rattle.nom_repeat.proofs.Repeated.{collected_none}
-use Rattle.nom_repeat.proofs.Accumulating.{kept_none, kept_ready, built_any, pushed, room_built, room_grows}
+use Rattle.nom_repeat.proofs.Accumulating.{kept_ready, built_any, pushed, room_built, room_grows}
 use Rattle.nom_repeat.proofs.ItemsShown.{items_full, items_too_few, items_failed, items_lack, items_part_ran_out, items_lack_room, items_more}
 use Rattle.nom_repeat.proofs.Places.{is_below, is_over, one_longer}
 use Rattle.nom_repeat.proofs.exact.items_exactly.Goals as goal
 
 pub loop-done-init : goal.loop-done-init
 loop-done-init g c = record {
-  state_kept = refl;
-  collected = collected_none g.met.I.Items.lawful c.prove_known.ensures
-      (kept_none g.K.Accumulator.Pushes g.K.Accumulator.CanPush (g.F.Parser.grammar (g.F.Parser.state c.args.parser.now)).IsOutput _ _ c.requires.built, refl);
+  state_kept = c.items_ahead-rest.ensures.kept;
+  collected = c.items_ahead-rest.ensures.collected (exact_limits c.args.count) (λ k h. omega (arith, h, c.items_ahead-rest.ensures.bounded));
 }
 
 pub loop-done-preserved : goal.loop-done-preserved

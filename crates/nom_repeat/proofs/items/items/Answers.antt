@@ -1,8 +1,8 @@
-use Rattle.std.proofs.Common.{rules, refl}
+use Rattle.std.proofs.Common.{◌≤◌, rules, refl, subst}
 use Rattle.nom_internal.proofs.Shown.{accepts, err_from_residual}
-use Rattle.nom_repeat.proofs.Repeated.{collected_none, is_empty}
-use Rattle.nom_repeat.proofs.Counted.{counts_none, counts_more, below, at_bound, few_items, enough_items, left_falls}
-use Rattle.nom_repeat.proofs.Accumulating.{kept_none, kept_ready, built_any, pushed, room_built, room_grows}
+use Rattle.nom_repeat.proofs.Repeated.{collected_as, is_empty}
+use Rattle.nom_repeat.proofs.Counted.{counts_all, counts_more, are_below, below, at_bound, few_items, enough_items, left_falls}
+use Rattle.nom_repeat.proofs.Accumulating.{kept_ready, built_any, pushed, room_built, room_grows}
 use Rattle.nom_repeat.proofs.ItemsShown.{items_full, items_refused, items_too_few, items_failed, items_lack, items_part_ran_out, items_stuck}
 use Rattle.nom_repeat.proofs.ItemsShown.{items_lack_room, items_more, moves, part_at, some_few}
 use Rattle.nom_internal.proofs.Consumed.{rest_length}
@@ -10,11 +10,9 @@ use Rattle.nom_repeat.proofs.items.items.Goals as goal
 
 pub loop-input-init : goal.loop-input-init
 loop-input-init g c = record {
-  state_kept = refl;
-  collected = collected_none g.met.I.Items.lawful c.prove_known.ensures (
-    kept_none g.K.Accumulator.Pushes g.K.Accumulator.CanPush (g.F.Parser.grammar (g.F.Parser.state c.args.parser.now)).IsOutput _ _ c.requires.built,
-    counts_none _ c.args.limits.most,
-  );
+  state_kept = c.items_ahead-rest.ensures.kept;
+  collected = collected_as _ _ (λ vs k. (k.0, counts_all c.args.limits.most _ vs k.1)) (c.items_ahead-rest.ensures.collected c.args.limits
+      (are_below c.args.limits.most _ (subst (λ z. c.items_ahead-rest.result.2 ≤ z) c.unwrap_or-most.ensures c.items_ahead-rest.ensures.bounded)));
 }
 
 pub returns-then-is_full-clause-shown : goal.returns-then-is_full-clause-shown

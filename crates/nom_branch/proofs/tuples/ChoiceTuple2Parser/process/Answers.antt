@@ -12,8 +12,8 @@ returns-clause-shown g c =
     let two = next_chosen one (g.B.Parser.grammar (g.B.Parser.state p.1)) c.next_branch-answer.result c.next_branch-answer.ensures.shown in
     all_chosen two c.close.result c.close.ensures
 
-pub returns-clause-besides : goal.returns-clause-besides
-returns-clause-besides g c =
-    let one = first_owed _ c.process-answer.result c.process-answer.ensures.besides in
-    let two = next_owed one _ c.next_branch-answer.result c.next_branch-answer.ensures.besides in
+pub returns-clause-side_condition : goal.returns-clause-side_condition
+returns-clause-side_condition g c =
+    let one = first_owed _ c.process-answer.result c.process-answer.ensures.side_condition in
+    let two = next_owed one _ c.next_branch-answer.result c.next_branch-answer.ensures.side_condition in
     all_owed two (g.A.Error.ParseError.errors.appended c.args.input Alt) g.A.Error.ParseError.errors.grows c.close.result c.close.ensures

@@ -13,9 +13,9 @@ returns-clause-shown g c =
     let three = next_chosen two (g.C.Parser.grammar (g.C.Parser.state p.2)) c.next_branch-answer-2.result c.next_branch-answer-2.ensures.shown in
     all_chosen three c.close.result c.close.ensures
 
-pub returns-clause-besides : goal.returns-clause-besides
-returns-clause-besides g c =
-    let one = first_owed _ c.process-answer.result c.process-answer.ensures.besides in
-    let two = next_owed one _ c.next_branch-answer.result c.next_branch-answer.ensures.besides in
-    let three = next_owed two _ c.next_branch-answer-2.result c.next_branch-answer-2.ensures.besides in
+pub returns-clause-side_condition : goal.returns-clause-side_condition
+returns-clause-side_condition g c =
+    let one = first_owed _ c.process-answer.result c.process-answer.ensures.side_condition in
+    let two = next_owed one _ c.next_branch-answer.result c.next_branch-answer.ensures.side_condition in
+    let three = next_owed two _ c.next_branch-answer-2.result c.next_branch-answer-2.ensures.side_condition in
     all_owed three (g.A.Error.ParseError.errors.appended c.args.input Alt) g.A.Error.ParseError.errors.grows c.close.result c.close.ensures

@@ -14,10 +14,10 @@ returns-clause-shown g c =
     let four = next_chosen three (g.D.Parser.grammar (g.D.Parser.state p.3)) c.next_branch-answer-3.result c.next_branch-answer-3.ensures.shown in
     all_chosen four c.close.result c.close.ensures
 
-pub returns-clause-besides : goal.returns-clause-besides
-returns-clause-besides g c =
-    let one = first_owed _ c.process-answer.result c.process-answer.ensures.besides in
-    let two = next_owed one _ c.next_branch-answer.result c.next_branch-answer.ensures.besides in
-    let three = next_owed two _ c.next_branch-answer-2.result c.next_branch-answer-2.ensures.besides in
-    let four = next_owed three _ c.next_branch-answer-3.result c.next_branch-answer-3.ensures.besides in
+pub returns-clause-side_condition : goal.returns-clause-side_condition
+returns-clause-side_condition g c =
+    let one = first_owed _ c.process-answer.result c.process-answer.ensures.side_condition in
+    let two = next_owed one _ c.next_branch-answer.result c.next_branch-answer.ensures.side_condition in
+    let three = next_owed two _ c.next_branch-answer-2.result c.next_branch-answer-2.ensures.side_condition in
+    let four = next_owed three _ c.next_branch-answer-3.result c.next_branch-answer-3.ensures.side_condition in
     all_owed four (g.A.Error.ParseError.errors.appended c.args.input Alt) g.A.Error.ParseError.errors.grows c.close.result c.close.ensures

@@ -16,12 +16,12 @@ returns-clause-shown g c =
     let six = next_chosen five (g.F.Parser.grammar (g.F.Parser.state p.5)) c.next_branch-answer-5.result c.next_branch-answer-5.ensures.shown in
     all_chosen six c.close.result c.close.ensures
 
-pub returns-clause-besides : goal.returns-clause-besides
-returns-clause-besides g c =
-    let one = first_owed _ c.process-answer.result c.process-answer.ensures.besides in
-    let two = next_owed one _ c.next_branch-answer.result c.next_branch-answer.ensures.besides in
-    let three = next_owed two _ c.next_branch-answer-2.result c.next_branch-answer-2.ensures.besides in
-    let four = next_owed three _ c.next_branch-answer-3.result c.next_branch-answer-3.ensures.besides in
-    let five = next_owed four _ c.next_branch-answer-4.result c.next_branch-answer-4.ensures.besides in
-    let six = next_owed five _ c.next_branch-answer-5.result c.next_branch-answer-5.ensures.besides in
+pub returns-clause-side_condition : goal.returns-clause-side_condition
+returns-clause-side_condition g c =
+    let one = first_owed _ c.process-answer.result c.process-answer.ensures.side_condition in
+    let two = next_owed one _ c.next_branch-answer.result c.next_branch-answer.ensures.side_condition in
+    let three = next_owed two _ c.next_branch-answer-2.result c.next_branch-answer-2.ensures.side_condition in
+    let four = next_owed three _ c.next_branch-answer-3.result c.next_branch-answer-3.ensures.side_condition in
+    let five = next_owed four _ c.next_branch-answer-4.result c.next_branch-answer-4.ensures.side_condition in
+    let six = next_owed five _ c.next_branch-answer-5.result c.next_branch-answer-5.ensures.side_condition in
     all_owed six (g.A.Error.ParseError.errors.appended c.args.input Alt) g.A.Error.ParseError.errors.grows c.close.result c.close.ensures

@@ -1,5 +1,5 @@
 use Rattle.std.proofs.Common.{refl}
-use Rattle.nom_internal.specs.Results.JudgedBesides.{Dropped}
+use Rattle.nom_internal.specs.Results.JudgedSideCondition.{Dropped}
 use Rattle.nom_internal.proofs.Shown.{err_from_residual}
 use Rattle.nom_combinator.proofs.MapsAlloc.{map_err, map_some, map_none, map_ran_out}
 use Rattle.nom_combinator.proofs.alloc_map.MapAllocParser.process.Goals as goal
@@ -23,5 +23,5 @@ pub returns-in-None-clause-shown : goal.returns-in-None-clause-shown
 returns-in-None-clause-shown g c =
     map_none (λ p. g.G.Fn.post c.args.self.now.map (p, tt)) (g.F.Parser.grammar _).meaning c.requires.runs.1 c.in-None.is c.in_ok-rest.ensures.shown
 
-pub returns-in-Err-clause-besides : goal.returns-in-Err-clause-besides
-returns-in-Err-clause-besides g c = Dropped _ c.in_ok-rest.ensures.besides refl
+pub returns-in-Err-clause-side_condition : goal.returns-in-Err-clause-side_condition
+returns-in-Err-clause-side_condition g c = Dropped _ c.in_ok-rest.ensures.side_condition refl

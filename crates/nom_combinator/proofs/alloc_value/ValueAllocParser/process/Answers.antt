@@ -1,5 +1,5 @@
 use Rattle.std.proofs.Common.{refl}
-use Rattle.nom_internal.specs.Results.JudgedBesides.{Dropped}
+use Rattle.nom_internal.specs.Results.JudgedSideCondition.{Dropped}
 use Rattle.nom_internal.proofs.Shown.{err_from_residual}
 use Rattle.nom_combinator.proofs.MapsAlloc.{map_err, map_some, map_none}
 use Rattle.nom_combinator.proofs.alloc_value.ValueAllocParser.process.Goals as goal
@@ -14,8 +14,8 @@ returns-in-Ok-clause-shown g c =
     map_some (λ _. g.G.Fn.post c.args.self.now.make tt) (g.F.Parser.grammar _).meaning c.requires.runs.1 c.in-Some.is c.in-Ok.is c.make.ensures
     c.in_ok-rest.ensures.shown
 
-pub returns-in-Some-clause-besides : goal.returns-in-Some-clause-besides
-returns-in-Some-clause-besides g c = Dropped _ c.in_ok-rest.ensures.besides refl
+pub returns-in-Some-clause-side_condition : goal.returns-in-Some-clause-side_condition
+returns-in-Some-clause-side_condition g c = Dropped _ c.in_ok-rest.ensures.side_condition refl
 
 pub returns-clause-shown : goal.returns-clause-shown
 returns-clause-shown g c =

@@ -1,6 +1,6 @@
 use Rattle.std.proofs.Common.{ap}
 use Rattle.nom_internal.specs.Prelude.{rest_of}
-use Rattle.nom_internal.specs.Results.JudgedBesides.{Kept, Dropped}
+use Rattle.nom_internal.specs.Results.JudgedSideCondition.{Kept, Dropped}
 use Rattle.nom_internal.proofs.Shown.{err_from_residual, then_err, then_ok, output_err, output_ok}
 use Rattle.nom_combinator.proofs.consuming.AllConsumingParser.process.Goals as goal
 
@@ -14,9 +14,9 @@ returns-in_err-rest-2-clause-shown g c =
 pub returns-clause-shown : goal.returns-clause-shown
 returns-clause-shown g c = then_ok g.met.I.Items.lawful c.in_ok-rest.ensures.shown (λ u b. output_ok c.in_ok-rest-2.ensures.shown (λ v d. b))
 
-pub returns-in_err-rest-2-clause-besides : goal.returns-in_err-rest-2-clause-besides
-returns-in_err-rest-2-clause-besides g c =
-    Dropped _ c.in_ok-rest.ensures.besides (ap rest_of (err_from_residual c.from_residual-in_err-rest-2.ensures))
+pub returns-in_err-rest-2-clause-side_condition : goal.returns-in_err-rest-2-clause-side_condition
+returns-in_err-rest-2-clause-side_condition g c =
+    Dropped _ c.in_ok-rest.ensures.side_condition (ap rest_of (err_from_residual c.from_residual-in_err-rest-2.ensures))
 
-pub returns-clause-besides : goal.returns-clause-besides
-returns-clause-besides g c = Kept (rw c.in_ok-rest-2.ensures.besides c.in_ok-rest.ensures.besides)
+pub returns-clause-side_condition : goal.returns-clause-side_condition
+returns-clause-side_condition g c = Kept (rw c.in_ok-rest-2.ensures.side_condition c.in_ok-rest.ensures.side_condition)

@@ -4,7 +4,7 @@ use Rattle.std.proofs.Common.{subst}
 use Rattle.nom_error.specs.declared.kind.ErrorKind.TheVariants as Kind
 use Rattle.nom_internal.proofs.Shown.{err_from_residual}
 use Rattle.nom_internal.proofs.Judges.{judged_err, judged_fit, judged_unfit, kept_output}
-use Rattle.nom_internal.specs.Results.JudgedBesides.{Dropped}
+use Rattle.nom_internal.specs.Results.JudgedSideCondition.{Dropped}
 use Rattle.nom_combinator.proofs.outputs.VerifyParser.process.Goals as goal
 
 pub returns-in_err-rest-clause-shown : goal.returns-in_err-rest-clause-shown
@@ -24,5 +24,5 @@ returns-else-fits-clause-shown g c =
     judged_unfit (λ i _. g.F.Error.ParseError.errors.of_kind i Kind.Verify) (g.F.Parser.grammar _).meaning
     {r = false} c.requires.runs.1 c.in-Some.is says refl c.in_ok-rest.ensures.shown c.refusal.ensures
 
-pub returns-else-fits-clause-besides : goal.returns-else-fits-clause-besides
-returns-else-fits-clause-besides g c = Dropped _ c.in_ok-rest.ensures.besides refl
+pub returns-else-fits-clause-side_condition : goal.returns-else-fits-clause-side_condition
+returns-else-fits-clause-side_condition g c = Dropped _ c.in_ok-rest.ensures.side_condition refl

@@ -1,7 +1,7 @@
 use Rattle.nom_combinator.proofs.Judged.{not_accepted, not_refused, not_passes}
 use Rattle.nom_error.specs.declared.kind.ErrorKind.TheVariants as Kind
 use Rattle.std.proofs.Common.{refl}
-use Rattle.nom_combinator.specs.Verdicts.NotBesides.{Unwanted}
+use Rattle.nom_combinator.specs.Verdicts.NotSideCondition.{Unwanted}
 use Rattle.nom_combinator.proofs.verdict.NotParser.process.Goals as goal
 
 pub returns-in-Ok-clause-shown : goal.returns-in-Ok-clause-shown
@@ -32,5 +32,5 @@ returns-clause-shown g c = not_passes _ g.met.I.Items.lawful _ (λ i. g.F.Error.
     (g.F.Parser.grammar (g.F.Parser.state c.args.self.now.parser)).meaning _ _ _ _ c.in-Err-OutOfMemory.field-0-is (λ x e. cc (e))
     c.in-Err-OutOfMemory.ensures.shown
 
-pub returns-in-Ok-clause-besides : goal.returns-in-Ok-clause-besides
-returns-in-Ok-clause-besides g c = Unwanted _ c.in-Ok.ensures.besides refl
+pub returns-in-Ok-clause-side_condition : goal.returns-in-Ok-clause-side_condition
+returns-in-Ok-clause-side_condition g c = Unwanted _ c.in-Ok.ensures.side_condition refl

@@ -1,7 +1,7 @@
 use Rattle.nom_combinator.proofs.Judged.{peek_ok, peek_err}
 use Rattle.nom_internal.proofs.Shown.{err_from_residual}
 use Rattle.std.proofs.Common.{refl}
-use Rattle.nom_internal.specs.Results.ThenBesides.{Both}
+use Rattle.nom_internal.specs.Results.ThenSideCondition.{Both}
 use Rattle.nom_combinator.proofs.verdict.PeekParser.process.Goals as goal
 
 pub returns-in_err-output-clause-shown : goal.returns-in_err-output-clause-shown
@@ -13,5 +13,5 @@ pub returns-clause-shown : goal.returns-clause-shown
 returns-clause-shown g c = peek_ok _ g.met.I.Items.lawful _ (g.F.Parser.grammar (g.F.Parser.state c.args.self.now.parser)).meaning _ _ c.prove_known.ensures _ _
     c.in_ok-output.ensures.shown
 
-pub returns-clause-besides : goal.returns-clause-besides
-returns-clause-besides g c = Both _ c.in_ok-output.ensures.besides refl
+pub returns-clause-side_condition : goal.returns-clause-side_condition
+returns-clause-side_condition g c = Both _ c.in_ok-output.ensures.side_condition refl

@@ -1,6 +1,6 @@
 use Rattle.std.proofs.Common.{ap, refl}
 use Rattle.nom_internal.specs.Prelude.{rest_of}
-use Rattle.nom_internal.specs.Results.BoundBesides.{Unbound, Bound}
+use Rattle.nom_internal.specs.Results.BoundSideCondition.{Unbound, Bound}
 use Rattle.nom_internal.proofs.Owed.{gives_at}
 use Rattle.nom_internal.proofs.Shown.{accepts, err_from_residual, then_err, then_ok}
 use Rattle.nom_internal.proofs.Bounded.{bound_of, bounded_err, bounded_ok}
@@ -22,15 +22,16 @@ returns-clause-shown g c = then_ok g.met.I.Items.lawful c.in_ok-rest.ensures.sho
     (bound_of _ (g.F.Parser.grammar (g.F.Parser.state c.args.self.now.first)).IsOutput u _ _ b c.in-Some.is c.prove_known.ensures) g.met.I.Items.lawful
     (accepts c.in_ok-rest.ensures.shown).rest_is.known _ _ c.in_ok-output.ensures.shown)
 
-pub returns-in_err-rest-clause-besides : goal.returns-in_err-rest-clause-besides
-returns-in_err-rest-clause-besides g c = Unbound c.in_err-rest.ensures.besides (ap rest_of (err_from_residual c.from_residual.ensures))
+pub returns-in_err-rest-clause-side_condition : goal.returns-in_err-rest-clause-side_condition
+returns-in_err-rest-clause-side_condition g c = Unbound c.in_err-rest.ensures.side_condition (ap rest_of (err_from_residual c.from_residual.ensures))
 
-pub returns-in_err-output-clause-besides : goal.returns-in_err-output-clause-besides
-returns-in_err-output-clause-besides g c =
+pub returns-in_err-output-clause-side_condition : goal.returns-in_err-output-clause-side_condition
+returns-in_err-output-clause-side_condition g c =
     let given = gives_at (g.F.Parser.grammar (g.F.Parser.state c.args.self.now.first)) c.in_ok-rest.ensures.shown refl c.in-Some.is in
-    Bound _ _ _ c.in_ok-rest.ensures.besides given c.in_err-output.ensures.besides (ap rest_of (err_from_residual c.from_residual-in_err-output.ensures))
+    Bound _ _ _ c.in_ok-rest.ensures.side_condition given c.in_err-output.ensures.side_condition (ap rest_of (err_from_residual
+    c.from_residual-in_err-output.ensures))
 
-pub returns-clause-besides : goal.returns-clause-besides
-returns-clause-besides g c =
+pub returns-clause-side_condition : goal.returns-clause-side_condition
+returns-clause-side_condition g c =
     let given = gives_at (g.F.Parser.grammar (g.F.Parser.state c.args.self.now.first)) c.in_ok-rest.ensures.shown refl c.in-Some.is in
-    Bound _ _ _ c.in_ok-rest.ensures.besides given c.in_ok-output.ensures.besides refl
+    Bound _ _ _ c.in_ok-rest.ensures.side_condition given c.in_ok-output.ensures.side_condition refl

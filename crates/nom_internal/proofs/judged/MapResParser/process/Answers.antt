@@ -2,7 +2,7 @@ use Rattle.std.specs.Prelude.{refl}
 use Rattle.std.proofs.Common.{ap}
 use Rattle.nom_error.specs.declared.kind.ErrorKind.TheVariants as Kind
 use Rattle.nom_internal.specs.Prelude.{OfError, rest_of}
-use Rattle.nom_internal.specs.Results.JudgedBesides.{Kept, Dropped}
+use Rattle.nom_internal.specs.Results.JudgedSideCondition.{Kept, Dropped}
 use Rattle.nom_internal.proofs.Shown.{err_from_residual}
 use Rattle.nom_internal.proofs.Judges.{judged_err, judged_fit, judged_unfit, kept_given}
 use Rattle.nom_internal.proofs.judged.MapResParser.process.Goals as goal
@@ -23,11 +23,11 @@ returns-in-Err-clause-shown g c =
     judged_unfit (λ i. OfError (g.F.Error.FromExternalError.externals.of_external i Kind.MapRes))
     (g.F.Parser.grammar _).meaning c.requires.runs.1 c.in-Some.is c.in-Err.ensures refl c.in_ok-rest.ensures.shown c.outside_refusal.ensures
 
-pub returns-in_err-rest-clause-besides : goal.returns-in_err-rest-clause-besides
-returns-in_err-rest-clause-besides g c = Kept (rw (ap rest_of (err_from_residual c.from_residual.ensures)) c.in_err-rest.ensures.besides)
+pub returns-in_err-rest-clause-side_condition : goal.returns-in_err-rest-clause-side_condition
+returns-in_err-rest-clause-side_condition g c = Kept (rw (ap rest_of (err_from_residual c.from_residual.ensures)) c.in_err-rest.ensures.side_condition)
 
-pub returns-in-Ok-clause-besides : goal.returns-in-Ok-clause-besides
-returns-in-Ok-clause-besides g c = Kept c.in_ok-rest.ensures.besides
+pub returns-in-Ok-clause-side_condition : goal.returns-in-Ok-clause-side_condition
+returns-in-Ok-clause-side_condition g c = Kept c.in_ok-rest.ensures.side_condition
 
-pub returns-in-Err-clause-besides : goal.returns-in-Err-clause-besides
-returns-in-Err-clause-besides g c = Dropped _ c.in_ok-rest.ensures.besides refl
+pub returns-in-Err-clause-side_condition : goal.returns-in-Err-clause-side_condition
+returns-in-Err-clause-side_condition g c = Dropped _ c.in_ok-rest.ensures.side_condition refl

@@ -8,5 +8,5 @@ returns-clause-shown g c = parsed c.full.ensures c.process.ensures.shown
 pub returns-clause-written : goal.returns-clause-written
 returns-clause-written g c = answers_by _ (g.Self.Parser.worded _) (parsed c.full.ensures c.process.ensures.shown)
 
-pub returns-clause-besides : goal.returns-clause-besides
-returns-clause-besides g c = rw (same_rest _ _ c.full.ensures) at c.process.ensures.besides
+pub returns-clause-side_condition : goal.returns-clause-side_condition
+returns-clause-side_condition g c = rw (same_rest _ _ c.full.ensures) at c.process.ensures.side_condition

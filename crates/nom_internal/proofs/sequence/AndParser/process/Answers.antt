@@ -1,6 +1,6 @@
 use Rattle.std.proofs.Common.{ap}
 use Rattle.nom_internal.specs.Prelude.{rest_of}
-use Rattle.nom_internal.specs.Results.ThenBesides.{Stopped, Both}
+use Rattle.nom_internal.specs.Results.ThenSideCondition.{Stopped, Both}
 use Rattle.nom_internal.proofs.Shown.{err_from_residual, then_err, then_ok, output_err, output_ok, both_built}
 use Rattle.nom_internal.proofs.sequence.AndParser.process.Goals as goal
 
@@ -16,12 +16,12 @@ returns-clause-shown g c = then_ok g.met.I.Items.lawful c.in_ok-rest.ensures.sho
     (λ u b. output_ok c.in_ok-rest-2.ensures.shown
     (λ v d. both_built ((g.F.Parser.grammar _).IsOutput u) ((g.G.Parser.grammar _).IsOutput v) _ _ _ _ b d c.combine.ensures.both c.combine.ensures.none))
 
-pub returns-in_err-rest-clause-besides : goal.returns-in_err-rest-clause-besides
-returns-in_err-rest-clause-besides g c = Stopped c.in_err-rest.ensures.besides (ap rest_of (err_from_residual c.from_residual.ensures))
+pub returns-in_err-rest-clause-side_condition : goal.returns-in_err-rest-clause-side_condition
+returns-in_err-rest-clause-side_condition g c = Stopped c.in_err-rest.ensures.side_condition (ap rest_of (err_from_residual c.from_residual.ensures))
 
-pub returns-in_err-rest-2-clause-besides : goal.returns-in_err-rest-2-clause-besides
-returns-in_err-rest-2-clause-besides g c = Both _ c.in_ok-rest.ensures.besides
-    (rw (ap rest_of (err_from_residual c.from_residual-in_err-rest-2.ensures)) c.in_err-rest-2.ensures.besides)
+pub returns-in_err-rest-2-clause-side_condition : goal.returns-in_err-rest-2-clause-side_condition
+returns-in_err-rest-2-clause-side_condition g c = Both _ c.in_ok-rest.ensures.side_condition
+    (rw (ap rest_of (err_from_residual c.from_residual-in_err-rest-2.ensures)) c.in_err-rest-2.ensures.side_condition)
 
-pub returns-clause-besides : goal.returns-clause-besides
-returns-clause-besides g c = Both _ c.in_ok-rest.ensures.besides c.in_ok-rest-2.ensures.besides
+pub returns-clause-side_condition : goal.returns-clause-side_condition
+returns-clause-side_condition g c = Both _ c.in_ok-rest.ensures.side_condition c.in_ok-rest-2.ensures.side_condition

@@ -11,8 +11,8 @@ pub returns-clause-shown : goal.returns-clause-shown
 returns-clause-shown g c =
     output_ok c.in_ok-rest.ensures.shown (λ t b. built_as _ _ _ c.built.ensures (some_fact ((g.A.Parser.grammar _).IsOutput t) _ b))
 
-pub returns-in_err-rest-clause-besides : goal.returns-in_err-rest-clause-besides
-returns-in_err-rest-clause-besides g c = rw (ap rest_of (err_from_residual c.from_residual.ensures)) c.in_err-rest.ensures.besides
+pub returns-in_err-rest-clause-side_condition : goal.returns-in_err-rest-clause-side_condition
+returns-in_err-rest-clause-side_condition g c = rw (ap rest_of (err_from_residual c.from_residual.ensures)) c.in_err-rest.ensures.side_condition
 
-pub returns-clause-besides : goal.returns-clause-besides
-returns-clause-besides g c = c.in_ok-rest.ensures.besides
+pub returns-clause-side_condition : goal.returns-clause-side_condition
+returns-clause-side_condition g c = c.in_ok-rest.ensures.side_condition

@@ -1,6 +1,6 @@
 use Rattle.std.proofs.Common.{ap}
 use Rattle.nom_internal.specs.Prelude.{rest_of}
-use Rattle.nom_internal.specs.Results.ThenBesides.{Stopped, Both}
+use Rattle.nom_internal.specs.Results.ThenSideCondition.{Stopped, Both}
 use Rattle.nom_internal.proofs.Shown.{err_from_residual, output_err, output_ok, then_err, then_ok}
 use Rattle.nom_internal.proofs.Tuples.{built_as, some_fact}
 use Rattle.nom_internal.proofs.wide_tuple.Tuple6Parser.process.Goals as goal
@@ -63,31 +63,35 @@ returns-clause-shown g c =
       ),
     )))))))
 
-pub returns-in_err-rest-clause-besides : goal.returns-in_err-rest-clause-besides
-returns-in_err-rest-clause-besides g c = Stopped c.in_err-rest.ensures.besides (ap rest_of (err_from_residual c.from_residual.ensures))
+pub returns-in_err-rest-clause-side_condition : goal.returns-in_err-rest-clause-side_condition
+returns-in_err-rest-clause-side_condition g c = Stopped c.in_err-rest.ensures.side_condition (ap rest_of (err_from_residual c.from_residual.ensures))
 
-pub returns-in_err-rest-2-clause-besides : goal.returns-in_err-rest-2-clause-besides
-returns-in_err-rest-2-clause-besides g c = Both _ c.in_ok-rest.ensures.besides (Stopped c.in_err-rest-2.ensures.besides (ap rest_of
+pub returns-in_err-rest-2-clause-side_condition : goal.returns-in_err-rest-2-clause-side_condition
+returns-in_err-rest-2-clause-side_condition g c = Both _ c.in_ok-rest.ensures.side_condition (Stopped c.in_err-rest-2.ensures.side_condition (ap rest_of
     (err_from_residual c.from_residual-in_err-rest-2.ensures)))
 
-pub returns-in_err-rest-3-clause-besides : goal.returns-in_err-rest-3-clause-besides
-returns-in_err-rest-3-clause-besides g c = Both _ c.in_ok-rest.ensures.besides (Both _ c.in_ok-rest-2.ensures.besides (Stopped
-    c.in_err-rest-3.ensures.besides (ap rest_of (err_from_residual c.from_residual-in_err-rest-3.ensures))))
+pub returns-in_err-rest-3-clause-side_condition : goal.returns-in_err-rest-3-clause-side_condition
+returns-in_err-rest-3-clause-side_condition g c = Both _ c.in_ok-rest.ensures.side_condition (Both _ c.in_ok-rest-2.ensures.side_condition (Stopped
+    c.in_err-rest-3.ensures.side_condition (ap rest_of (err_from_residual c.from_residual-in_err-rest-3.ensures))))
 
-pub returns-in_err-rest-4-clause-besides : goal.returns-in_err-rest-4-clause-besides
-returns-in_err-rest-4-clause-besides g c = Both _ c.in_ok-rest.ensures.besides (Both _ c.in_ok-rest-2.ensures.besides (Both _
-    c.in_ok-rest-3.ensures.besides (Stopped c.in_err-rest-4.ensures.besides (ap rest_of (err_from_residual c.from_residual-in_err-rest-4.ensures)))))
+pub returns-in_err-rest-4-clause-side_condition : goal.returns-in_err-rest-4-clause-side_condition
+returns-in_err-rest-4-clause-side_condition g c = Both _ c.in_ok-rest.ensures.side_condition (Both _ c.in_ok-rest-2.ensures.side_condition (Both _
+    c.in_ok-rest-3.ensures.side_condition (Stopped c.in_err-rest-4.ensures.side_condition (ap rest_of (err_from_residual
+    c.from_residual-in_err-rest-4.ensures)))))
 
-pub returns-in_err-rest-5-clause-besides : goal.returns-in_err-rest-5-clause-besides
-returns-in_err-rest-5-clause-besides g c = Both _ c.in_ok-rest.ensures.besides (Both _ c.in_ok-rest-2.ensures.besides (Both _
-    c.in_ok-rest-3.ensures.besides (Both _ c.in_ok-rest-4.ensures.besides (Stopped c.in_err-rest-5.ensures.besides (ap rest_of (err_from_residual
+pub returns-in_err-rest-5-clause-side_condition : goal.returns-in_err-rest-5-clause-side_condition
+returns-in_err-rest-5-clause-side_condition g c = Both _ c.in_ok-rest.ensures.side_condition (Both _ c.in_ok-rest-2.ensures.side_condition (Both _
+    c.in_ok-rest-3.ensures.side_condition (Both _ c.in_ok-rest-4.ensures.side_condition (Stopped c.in_err-rest-5.ensures.side_condition (ap rest_of
+    (err_from_residual
     c.from_residual-in_err-rest-5.ensures))))))
 
-pub returns-in_err-rest-6-clause-besides : goal.returns-in_err-rest-6-clause-besides
-returns-in_err-rest-6-clause-besides g c = Both _ c.in_ok-rest.ensures.besides (Both _ c.in_ok-rest-2.ensures.besides (Both _
-    c.in_ok-rest-3.ensures.besides (Both _ c.in_ok-rest-4.ensures.besides (Both _ c.in_ok-rest-5.ensures.besides (rw (ap rest_of (err_from_residual
-    c.from_residual-in_err-rest-6.ensures)) c.in_err-rest-6.ensures.besides)))))
+pub returns-in_err-rest-6-clause-side_condition : goal.returns-in_err-rest-6-clause-side_condition
+returns-in_err-rest-6-clause-side_condition g c = Both _ c.in_ok-rest.ensures.side_condition (Both _ c.in_ok-rest-2.ensures.side_condition (Both _
+    c.in_ok-rest-3.ensures.side_condition (Both _ c.in_ok-rest-4.ensures.side_condition (Both _ c.in_ok-rest-5.ensures.side_condition (rw (ap rest_of
+    (err_from_residual
+    c.from_residual-in_err-rest-6.ensures)) c.in_err-rest-6.ensures.side_condition)))))
 
-pub returns-clause-besides : goal.returns-clause-besides
-returns-clause-besides g c = Both _ c.in_ok-rest.ensures.besides (Both _ c.in_ok-rest-2.ensures.besides (Both _ c.in_ok-rest-3.ensures.besides (Both
-    _ c.in_ok-rest-4.ensures.besides (Both _ c.in_ok-rest-5.ensures.besides c.in_ok-rest-6.ensures.besides))))
+pub returns-clause-side_condition : goal.returns-clause-side_condition
+returns-clause-side_condition g c = Both _ c.in_ok-rest.ensures.side_condition (Both _ c.in_ok-rest-2.ensures.side_condition (Both _
+    c.in_ok-rest-3.ensures.side_condition (Both
+    _ c.in_ok-rest-4.ensures.side_condition (Both _ c.in_ok-rest-5.ensures.side_condition c.in_ok-rest-6.ensures.side_condition))))

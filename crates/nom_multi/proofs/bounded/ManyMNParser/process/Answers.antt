@@ -21,4 +21,4 @@ returns-clause-shown g c =
     not_inverted g.F.Error.ParseError.errors Kind.ManyMN
     (items_meaning g.I.Items.model g.F.Error.ParseError.errors (bounded_limits Kind.ManyMN s.min s.max) (Unit {0})
     (g.F.Parser.grammar (g.F.Parser.state s.parser)).meaning) true _ (le-ltb s.max s.min c.if-self.false)
-    (shown_as (list_of_none (g.F.Parser.grammar (g.F.Parser.state s.parser)).IsOutput _ c.none_yet-none.ensures.empty) c.bounded_items.ensures.shown)
+    (shown_as (list_of_none (g.F.Parser.grammar (g.F.Parser.state s.parser)).IsOutput _ c.list_ahead-none.ensures.empty) c.bounded_items.ensures.shown)

@@ -16,4 +16,4 @@ returns-clause-shown g c =
     (g.F.Parser.grammar (g.F.Parser.state c.args.self.now.length)).meaning
     (items_by_count g.I.Items.model g.F.Error.ParseError.errors (g.G.Parser.grammar (g.G.Parser.state c.args.self.now.parser)).meaning) _ c.args.input _ _
     c.in-Some.length c.to_usize-count.result _ c.in_ok-rest.ensures.shown c.in-Some.is c.to_usize-count.ensures
-    (λ u. shown_as (list_of_none is_item _ c.with_room-none.ensures.empty) c.items_exactly.ensures.shown)
+    (λ u. shown_as (list_of_none is_item _ c.list_ahead-none.ensures.empty) c.items_exactly.ensures.shown)

@@ -3,5 +3,5 @@ use Rattle.nom_repeat.proofs.ListAccumulated.{list_of_none}
 use Rattle.nom_multi.proofs.many.Many0Parser.process.Goals as goal
 
 pub returns-clause-shown : goal.returns-clause-shown
-returns-clause-shown g c = shown_as (list_of_none (g.F.Parser.grammar (g.F.Parser.state c.args.self.now.parser)).IsOutput _ c.none_yet-none.ensures.empty)
+returns-clause-shown g c = shown_as (list_of_none (g.F.Parser.grammar (g.F.Parser.state c.args.self.now.parser)).IsOutput _ c.list_ahead-none.ensures.empty)
     c.any_items.ensures.shown

@@ -22,5 +22,5 @@ returns-clause-shown g c =
       IsOutput = Accumulated ListPushes (λ _. Unit {0}) (g.F.Parser.grammar s).IsOutput c.in_ok-rest.first;
     }) c.in_ok-rest.ensures.kept c.any_items.ensures.shown in
     then_ok g.met.I.Items.lawful c.in_ok-rest.ensures.shown
-    (λ vs first. shown_as (λ us list kept. list_of_none is_output _ c.none_yet-none.ensures.empty _ list
+    (λ vs first. shown_as (λ us list kept. list_of_none is_output _ c.list_ahead-none.ensures.empty _ list
     (kept_both ListPushes (λ _. Unit {0}) is_output _ _ _ vs us list first kept)) more)

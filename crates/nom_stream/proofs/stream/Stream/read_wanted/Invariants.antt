@@ -9,7 +9,7 @@ abbrev pub invariant-loop-wanted : goal.invariant-loop-wanted
 invariant-loop-wanted g l = record {
   fills : Fills g.R.Read.remaining l.fn.self l.self;
   faults : NoFault l.fn.self.source l.self.source;
-  untold : (l.self.untold ≡ None) × (l.fn.self.untold ≡ None);
+  pending : (l.self.pending ≡ None) × (l.fn.self.pending ≡ None);
   goes_on : l.self.ended ≡ false;
   settings : l.self.settings ≡ l.fn.self.settings;
   offset : l.self.offset ≡ l.fn.self.offset;

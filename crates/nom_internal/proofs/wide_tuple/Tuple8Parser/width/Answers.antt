@@ -1,0 +1,12 @@
+use Rattle.nom_internal.proofs.Widths.{built_width, pair_width}
+use Rattle.nom_internal.proofs.wide_tuple.Tuple8Parser.width.Goals as goal
+
+pub returns : goal.returns
+returns g c =
+    let g_on = pair_width g.met.I.Items.lawful c.width-g.ensures c.width-h.ensures c.both_widths-g_on.ensures in
+    let f_on = pair_width g.met.I.Items.lawful c.width-f.ensures g_on c.both_widths-f_on.ensures in
+    let e_on = pair_width g.met.I.Items.lawful c.width-e.ensures f_on c.both_widths-e_on.ensures in
+    let d_on = pair_width g.met.I.Items.lawful c.width-d.ensures e_on c.both_widths-d_on.ensures in
+    let c_on = pair_width g.met.I.Items.lawful c.width-c.ensures d_on c.both_widths-c_on.ensures in
+    let b_on = pair_width g.met.I.Items.lawful c.width-b.ensures c_on c.both_widths-b_on.ensures in
+    built_width (pair_width g.met.I.Items.lawful c.width-a.ensures b_on c.both_widths.ensures)

@@ -1,0 +1,109 @@
+//! Items of which an input is certain: as many of a fixed width as it has.
+ghost use Rattle.std.specs.Prelude.{◌≡◌, ◌≤◌, [], length};
+ghost use Rattle.nom_internal.specs.Prelude.{Built};
+ghost use Rattle.nom_repeat.specs.Accumulated.{Accumulated, HasRoomFor};
+ghost use Rattle.nom_repeat.specs.Certain.{AreCertain};
+ghost use Rattle.nom_repeat.specs.Items.{item_turn};
+ghost use Rattle.nom_repeat.specs.Repeat.{AreBelow, Collected, TurnsBy};
+ghost use Rattle.nom_repeat.specs.declared.items.Limits.{Limits};
+
+use crate::accumulator::{Accumulator, has_room_for, push_within, with_room};
+use nom_error::answer::Err;
+use nom_error::mode::{Check, Mode, OutputM, OutputMode};
+use nom_internal::parser::Parser;
+use nom_traits::input::Items;
+use std::alloc::Allocator;
+
+/// Returns a number of items of which the input is certain, at most `most`.
+#[inline(always)]
+pub fn certain_count<I: Items, F: Parser<I>>(parser: &F, input: I, most: usize) -> usize
+    ensures bounded { result ≤ most }
+    ensures certain { AreCertain I.model (F.grammar (F.state parser.now)).meaning result input }
+{
+    input.prove_known();
+    let width = parser.width();
+    parser.groups(input, width, most)
+}
+
+/// Returns an empty list if outputs are built, with room for the items of which the input is certain, at most
+/// `most`, or for `claimed` items.
+///
+/// The items that are only claimed get little room: none of them has been read.
+#[inline(always)]
+pub fn list_ahead<M: Mode, I: Items, F: Parser<I>, A: Allocator>(
+    parser: &F,
+    input: I,
+    alloc: A,
+    most: usize,
+    claimed: usize,
+) -> Option<Vec<F::Output, A>>
+    ensures empty { Built M.BUILDS (λ list. list.items ≡ []) result }
+    ensures ready { Built M.BUILDS (λ _. Unit {0}) result }
+{
+    let certain = certain_count(parser, input, most);
+    with_room::<M, F::Output, A>(alloc, certain, claimed)
+}
+
+/// Parses `count` items of which the input is certain, and adds them to `before`, which has room for them.
+///
+/// Neither the input nor the room is tested for each item.
+#[inline(always)]
+pub fn certain_items<OM: OutputMode, I: Items, F: Parser<I>, K: Accumulator<F::Output> + Drop>(
+    parser: &mut F,
+    input: I,
+    before: Option<K>,
+    count: usize,
+) -> (I, Option<K>)
+    requires runs { (F.grammar (F.state parser.old)).meaning.Runs }
+    requires built { Built OM.Output.BUILDS K.CanPush before }
+    requires room { HasRoomFor K.HasRoom before count }
+    requires certain { AreCertain I.model (F.grammar (F.state parser.old)).meaning count input }
+    ensures collected { (b : Limits) → AreBelow b.most count → Collected I.model
+        (TurnsBy b.most (item_turn b) (λ _. (F.grammar (F.state parser.old)).meaning.answers OM.Incomplete.STREAMING))
+        (λ vs. Built OM.Output.BUILDS (Accumulated K.Pushes K.CanPush (F.grammar (F.state parser.old)).IsOutput before vs) result.1 × (count ≡ length vs))
+        input result.0 }
+    ensures kept { F.state parser.new ≡ F.state parser.old }
+{
+    input.prove_known();
+    let mut rest = input;
+    let mut kept = before;
+    let mut done = 0usize;
+    while done < count {
+        match parser.process::<OutputM<OM::Output, Check, OM::Incomplete>>(rest) {
+            Ok((next, item)) => {
+                push_within::<OM::Output, _, _>(&mut kept, item);
+                rest = next;
+                done += 1;
+            }
+            Err(_) => unreachable!(),
+        }
+    }
+    (rest, kept)
+}
+
+/// Parses the items of which the input is certain, at most `most`, and adds them to `before` if it has room for
+/// them all. It returns their number too.
+#[inline(always)]
+pub fn items_ahead<OM: OutputMode, I: Items, F: Parser<I>, K: Accumulator<F::Output> + Drop>(
+    parser: &mut F,
+    input: I,
+    before: Option<K>,
+    most: usize,
+) -> (I, Option<K>, usize)
+    requires runs { (F.grammar (F.state parser.old)).meaning.Runs }
+    requires built { Built OM.Output.BUILDS K.CanPush before }
+    ensures collected { (b : Limits) → AreBelow b.most result.2 → Collected I.model
+        (TurnsBy b.most (item_turn b) (λ _. (F.grammar (F.state parser.old)).meaning.answers OM.Incomplete.STREAMING))
+        (λ vs. Built OM.Output.BUILDS (Accumulated K.Pushes K.CanPush (F.grammar (F.state parser.old)).IsOutput before vs) result.1 × (result.2 ≡ length vs))
+        input result.0 }
+    ensures bounded { result.2 ≤ most }
+    ensures kept { F.state parser.new ≡ F.state parser.old }
+{
+    input.prove_known();
+    let count = certain_count(parser, input, most);
+    if count == 0 || !has_room_for(&before, count) {
+        return (input, before, 0);
+    }
+    let (rest, kept) = certain_items::<OM, I, F, K>(parser, input, before, count);
+    (rest, kept, count)
+}

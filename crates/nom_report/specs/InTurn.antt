@@ -1,0 +1,15 @@
+-- Two grammars in turn: the answer of the first if it accepts, and else the answer of the second.
+use Rattle.std.specs.Prelude.{◌≡◌, Bool, Ok, Err}
+use Rattle.nom_internal.specs.Prelude.{IResult, Model, Grammar, Parses}
+
+-- an acceptance is the result; of a result after another answer the fact holds
+abbrev pub TakesAccepted : {I O E F : Type 0} → IResult I O E → IResult I O F → Type 0 → Type 0
+TakesAccepted (Ok accepted) r Other = r ≡ Ok accepted
+TakesAccepted (Err e) r Other = Other
+
+-- what is returned at i for two grammars of the same outputs, streaming (true) or complete (false)
+pub record ParsesInTurn {I A V W O E F : Type 0} (w : Model I A) (first : Grammar I V O E) (second : Grammar I W O F) (s : Bool) (i : I)
+    (r : IResult I O F) : Type 0 where
+  pub answer : IResult I O E
+  pub answered : Parses w first s i answer
+  pub taken : TakesAccepted answer r (Parses w second s i r)
