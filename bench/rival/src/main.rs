@@ -3,14 +3,18 @@
 //!
 //! Parsers are composed of the functions of the modules `complete`, with nom's default error, and run by `parse`; only the
 //! first case and the items of readers are of the modules `streaming`, and `check` is of the parsers at the top of nom's
-//! modules, by `process`, since a function always builds. The two cases of nom_bench without a counterpart in nom are left
-//! out: settings with line and column, and expressions by `precedence`. Lists are written by cookie-factory.
+//! modules, by `process`, since a function always builds. What nom-language and nom_locate have stands in `language` and
+//! `located`. Lists are written by cookie-factory.
 
 mod basics;
 mod cases;
 mod factory;
+mod faults;
+mod formats;
 mod growing;
 mod json;
+mod language;
+mod located;
 mod owns;
 mod packets;
 mod settings;
@@ -19,6 +23,7 @@ mod sources;
 mod streams;
 mod sums;
 mod texts;
+mod trees;
 mod wires;
 mod writes;
 
@@ -59,6 +64,7 @@ fn run() -> io::Result<()> {
     let cases = [
         &basics::CASES[..],
         &settings::CASES,
+        &located::CASES,
         &sums::CASES,
         &texts::CASES,
         &wires::CASES,
@@ -66,6 +72,9 @@ fn run() -> io::Result<()> {
         &packets::CASES,
         &short::CASES,
         &owns::CASES,
+        &formats::CASES,
+        &trees::CASES,
+        &faults::CASES,
     ];
     for case in cases.into_iter().flatten() {
         cases::bench(case, contents, rounds);

@@ -6,25 +6,30 @@ use nom::character::complete::{char, line_ending};
 use nom::combinator::{all_consuming, cut};
 use nom::multi::many0;
 use nom::sequence::{pair, preceded, terminated};
-use nom::{IResult, Parser};
+use nom::{Compare, IResult, Input, Parser};
 
 /// A section: its name, and its settings in their order, each a name and a value.
-type Section<'a> = (&'a str, Vec<(&'a str, &'a str)>);
+type Section<I> = (I, Vec<(I, I)>);
+
+/// A text, or one that knows its line.
+pub trait Text: Input<Item = char> + Compare<&'static str> {}
+
+impl<I: Input<Item = char> + Compare<&'static str>> Text for I {}
 
 /// A line `[name]`.
-fn header(input: &str) -> IResult<&str, &str> {
+fn header<I: Text>(input: I) -> IResult<I, I> {
     let title = terminated(is_not("]\r\n"), pair(char(']'), line_ending));
     preceded(char('['), cut(title)).parse(input)
 }
 
 /// A line `name=value`.
-fn setting(input: &str) -> IResult<&str, (&str, &str)> {
+fn setting<I: Text>(input: I) -> IResult<I, (I, I)> {
     let value = terminated(take_while(|c| c != '\r' && c != '\n'), line_ending);
     pair(is_not("[=\r\n"), cut(preceded(char('='), value))).parse(input)
 }
 
 /// The sections of a whole text.
-fn settings(input: &str) -> IResult<&str, Vec<Section<'_>>> {
+pub fn settings<I: Text>(input: I) -> IResult<I, Vec<Section<I>>> {
     all_consuming(many0(pair(header, many0(setting)))).parse(input)
 }
 

@@ -1,8 +1,10 @@
 //! Sums of products of decimal numbers, as `12*3-4*5+6`, to their value modulo 2^64.
 
+use crate::language::{binary_op, precedence, Assoc, Operation, Unary};
 use crate::{Case, Made, Round};
+use nom::branch::alt;
 use nom::character::complete::{char, one_of, u32};
-use nom::combinator::map;
+use nom::combinator::{fail, map};
 use nom::multi::fold_many0;
 use nom::sequence::{pair, preceded};
 use nom::{IResult, Parser};
@@ -45,9 +47,40 @@ fn by_folds(bytes: &[u8]) -> Option<Round> {
     })
 }
 
-pub const CASES: [Case; 1] = [Case::new(
-    "precedence by folds",
-    "",
-    "no expression",
-    |it| by_folds(it.bytes),
-)];
+fn applied(operation: Operation<(), (), char, i64>) -> Result<i64, ()> {
+    Ok(match operation {
+        Operation::Prefix(_, x) | Operation::Postfix(x, _) => x,
+        Operation::Binary(x, '*', y) => x.wrapping_mul(y),
+        Operation::Binary(x, '+', y) => x.wrapping_add(y),
+        Operation::Binary(x, _, y) => x.wrapping_sub(y),
+    })
+}
+
+/// The same by operators with precedences.
+fn expression(input: &[u8]) -> IResult<&[u8], i64> {
+    let prefix = fail::<_, Unary<()>, _>();
+    let postfix = fail::<_, Unary<()>, _>();
+    let binary = alt((
+        binary_op(1, Assoc::Left, char('*')),
+        binary_op(2, Assoc::Left, one_of("+-")),
+    ));
+    precedence(prefix, postfix, binary, number, applied)(input)
+}
+
+#[inline(never)]
+fn by_precedence(bytes: &[u8]) -> Option<Round> {
+    let (rest, value) = expression(bytes).ok()?;
+    Some(Round {
+        made: Made::Value(value),
+        bytes: bytes.len() - rest.len(),
+    })
+}
+
+pub const CASES: [Case; 2] = [
+    Case::new("precedence", "", "no expression", |it| {
+        by_precedence(it.bytes)
+    }),
+    Case::new("precedence by folds", "", "no expression", |it| {
+        by_folds(it.bytes)
+    }),
+];

@@ -13,7 +13,7 @@ use nom::sequence::{delimited, pair, separated_pair, terminated};
 const HEAD: usize = 256;
 
 /// Whether a text begins with a line that has a comma.
-fn is_rows(text: &str) -> bool {
+pub fn is_rows(text: &str) -> bool {
     let bytes = text.as_bytes();
     let head = &bytes[..bytes.len().min(HEAD)];
     head.contains(&b',') && head.contains(&b'\n')

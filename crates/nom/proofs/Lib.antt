@@ -5,6 +5,7 @@ pub use Rattle.nom_internal.proofs.Judges
 pub use Rattle.nom_internal.proofs.Maps
 pub use Rattle.nom_internal.proofs.Shown
 pub use Rattle.nom_repeat.proofs.Accumulating
+pub use Rattle.nom_repeat.proofs.ListAccumulated
 pub use Rattle.nom_repeat.proofs.Parts
 pub use Rattle.nom_repeat.proofs.Repeated
 pub mod ItemsGrow

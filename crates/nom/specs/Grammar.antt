@@ -12,8 +12,8 @@ pub use Rattle.nom_internal.specs.Words.{and_then_of, either_of, fixed_of, flat_
 pub use Rattle.nom_calls.specs.Words.{called, called_with, given_of, stream_called, stream_called_with, stream_given_of}
 pub use Rattle.nom_sequence.specs.Words.{delimited_of, preceded_of, separated_pair_of, terminated_of}
 pub use Rattle.nom_branch.specs.Words.{alt_of, list_of, or_of}
-pub use Rattle.nom_permutation.specs.Words.{permutation_of_eight, permutation_of_five, permutation_of_four, permutation_of_seven, permutation_of_six}
-pub use Rattle.nom_permutation.specs.Words.{permutation_of_three, permutation_of_two}
+pub use Rattle.nom_branch.specs.PermutationWords.{permutation_of_eight, permutation_of_five, permutation_of_four, permutation_of_seven, permutation_of_six}
+pub use Rattle.nom_branch.specs.PermutationWords.{permutation_of_three, permutation_of_two}
 pub use Rattle.nom_combinator.specs.Words.{all_consuming_of, complete_of, cond_of, consumed_of, context_of, cut_of, fail_of, not_of, opt_of, peek_of}
 pub use Rattle.nom_combinator.specs.Words.{recognize_of}
 pub use Rattle.nom_bytes_escaped.specs.Words.{escaped_of}

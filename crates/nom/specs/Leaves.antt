@@ -10,7 +10,7 @@ use Rattle.nom_bytes.specs.Tests.{Test, failing, outside, passing, within}
 use Rattle.nom_bytes.specs.Words as Bytes
 use Rattle.nom_character.specs.Tests.{char_outside, char_passing, char_within}
 use Rattle.nom_character.specs.Words as Character
-use Rattle.nom_character_digits.specs.Words as Digits
+use Rattle.nom_character_integer.specs.DigitWords as Digits
 use Rattle.nom_character_integer.specs.Words as Integer
 use Rattle.nom_combinator.specs.Words as Combinator
 use Rattle.nom_number.specs.Numbers.{signed_of}

@@ -11,12 +11,12 @@ use Rattle.nom_bytes.specs.Tests.{failing_same, outside_same, passing_same, with
 use Rattle.nom_bytes.specs.Words.{bounded_same, run_same, run1_same, tag_same, take_same, until_same}
 use Rattle.nom_character.specs.Tests.{char_outside_same, char_passing_same, char_within_same}
 use Rattle.nom_character.specs.Words.{char_same, class_same, satisfy_same}
-use Rattle.nom_character_digits.specs.Words.{digits_same}
+use Rattle.nom_character_integer.specs.DigitWords.{digits_same}
 use Rattle.nom_character_integer.specs.Words.{integer_same}
 use Rattle.nom_number.specs.Words.{number_same}
 use Rattle.nom_sequence.specs.Words.{preceded_same, terminated_same}
 use Rattle.nom_branch.specs.Words.{alt_same, or_same}
-use Rattle.nom_permutation.specs.Words.{first_same, more_same, permutation_same}
+use Rattle.nom_branch.specs.PermutationWords.{first_same, more_same, permutation_same}
 use Rattle.nom_combinator.specs.Words.{all_consuming_same, complete_same, cond_same, consumed_same, context_same, cut_same, not_same, opt_same, peek_same}
 use Rattle.nom_combinator.specs.Words.{recognize_same, value_same, verify_same}
 use Rattle.nom_multi.specs.Words.{count_same, fill_same, many0_same, many1_same, many_m_n_same, many_till_same}

@@ -1,4 +1,3 @@
 //! Choice and permutation.
 
-pub use nom_branch::{Choice, alt};
-pub use nom_permutation::{Permutation, permutation};
+pub use nom_branch::{Choice, Permutation, alt, permutation};

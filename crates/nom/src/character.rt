@@ -14,10 +14,8 @@ pub use nom_character::{
     newline, none_of, not_line_ending, oct_digit0, oct_digit1, one_of, predicate, satisfy, space0,
     space1, tab,
 };
-pub use nom_character_digits::{
-    Digits, digits_u8, digits_u8_m_n, digits_u16, digits_u16_m_n, digits_u32, digits_u32_m_n,
-    digits_u64, digits_u64_m_n,
-};
 pub use nom_character_integer::{
-    Integer, i8, i16, i32, i64, i128, isize, u8, u16, u32, u64, u128, usize,
+    Digits, Integer, digits_u8, digits_u8_m_n, digits_u16, digits_u16_m_n, digits_u32,
+    digits_u32_m_n, digits_u64, digits_u64_m_n, i8, i16, i32, i64, i128, isize, u8, u16, u32, u64,
+    u128, usize,
 };

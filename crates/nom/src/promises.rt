@@ -8,6 +8,7 @@ pub use crate::growths::{
     many_grows_by_items, many_m_n_grows_by_items, many_till_grows_by_items, many0_grows_by_items,
     many1_grows_by_items, separated_list0_grows_by_items, separated_list1_grows_by_items,
 };
+pub use nom_branch::promises::applies_each_once;
 pub use nom_calls::promises::{finishes_so, gives_items, items_are_one, items_fit, items_stay};
 pub use nom_combinator::promises::{
     complete_never_waits, consumed_gives_front, cut_never_refuses, not_consumes_nothing,
@@ -29,5 +30,4 @@ pub use nom_multi_fold::promises::{
     fold_accepts, fold_many_m_n_accepts, fold_many0_accepts, fold_many1_accepts, many_accepts,
     many_m_n_count_accepts, many0_count_accepts, many1_count_accepts, many1_count_counts,
 };
-pub use nom_permutation::promises::applies_each_once;
 pub use nom_separated::promises::{separated_list0_accepts, separated_list1_accepts};

@@ -1,3 +1,10 @@
 pub mod Alternatives
-pub mod laws
+pub mod Left
+pub mod Members
+pub mod Once
+pub mod Order
+pub mod Permutation
+pub mod PermutationWords
+pub mod Rounds
 pub mod Words
+pub mod laws

@@ -13,7 +13,6 @@ use nom_error::mode::{IsStreaming, OutputMode};
 use nom_error::value::{ParseError, refusal};
 use nom_internal::parser::{Parser, StreamParser};
 use nom_internal::slices::front;
-use nom_internal::width::group_count;
 use nom_traits::compare::{Compare, CompareResult};
 use nom_traits::input::Input;
 use std::marker::PhantomData;
@@ -54,11 +53,6 @@ impl<I: Input, E: ParseError<I>> Parser<I> for Take<I, E> {
     #[inline(always)]
     fn width(&self) -> usize {
         self.count
-    }
-
-    #[inline(always)]
-    fn groups(&self, input: I, width: usize, most: usize) -> usize {
-        group_count(input, width, most)
     }
 
     ghost lawful = { λ count k. take_lawful I.model E.errors I.lack count };

@@ -1,3 +1,5 @@
+pub mod Counted
+pub mod CountedShown
 pub mod Readings
 pub mod Shown
 pub mod Signs

@@ -1,3 +1,6 @@
+pub mod CountedDigits
+pub mod CountedRead
+pub mod DigitWords
 pub mod Integers
 pub mod Read
 pub mod Words

@@ -1,4 +1,4 @@
--- The words of this crate's parsers.
+-- The word of the parser of integers.
 use Rattle.std.specs.Prelude.{◌≡◌, ℕ, ℤ, Bool}
 use Rattle.std.proofs.Common.{refl, ap}
 use Rattle.nom_internal.specs.Prelude.{Errors, Model}

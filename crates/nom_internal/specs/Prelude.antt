@@ -57,4 +57,4 @@ pub use Rattle.nom_internal.specs.Sequence.{GoesOn, OnRest, PairOutput, Then, Th
 pub use Rattle.nom_internal.specs.Sequence.{then_meaning}
 pub use Rattle.nom_internal.specs.Sequence.ThenRunsOut.{RunsOutFirst, RunsOutNext}
 pub use Rattle.nom_internal.specs.Success.{place_zero, success_lawful, success_meaning, success_steady}
-pub use Rattle.nom_internal.specs.Width.{HasGroups, HasWidth}
+pub use Rattle.nom_internal.specs.Width.{HasWidth}

@@ -1,5 +1,5 @@
 -- Parsers that take a fixed number of items.
-use Rattle.std.specs.Prelude.{◌≡◌, ℕ, ◌+◌, ◌<◌, ◌≤◌, ◌*◌, ◌⊎◌, Bool, length}
+use Rattle.std.specs.Prelude.{◌≡◌, ℕ, ◌+◌, ◌<◌, ◌≤◌, ◌⊎◌, Bool, length}
 use Rattle.nom_error.specs.Modes.{Modes}
 use Rattle.nom_traits.specs.Input.{Model}
 use Rattle.nom_traits.specs.Slices.{IsCount}
@@ -13,12 +13,6 @@ module _ {I A : Type 0} (w : Model I A) where
     pub accepts : (s : Bool) (i : I) (o : Outcome V) → w.IsKnown i → 0 < n → n ≤ length (w.elements i) → m.answers s i o →
         (a : ℕ) × (v : V) × IsCount w i n a × (o ≡ Accept a v)
     pub has_memory : (mode : Modes) (i : I) → w.IsKnown i → 0 < n → n ≤ length (w.elements i) → m.may_run_out mode i → ⊥
-
-  -- the input has so many groups of items, each of that width, and no more than most are told
-  pub record HasGroups (i : I) (width most groups : ℕ) : Type 0 where
-    pub bounded : groups ≤ most
-    pub fit : groups * width ≤ length (w.elements i)
-    pub none_empty : 0 < groups → 0 < width
 
 -- the width of two parsers in sequence, or 0
 abbrev pub IsBothWidths : ℕ → ℕ → ℕ → Type 0

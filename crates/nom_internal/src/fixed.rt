@@ -47,11 +47,6 @@ impl<I: Items, P: Parser<I> + Drop, S: IsStreaming> Parser<I> for Fixed<P, S> {
         self.parser.width()
     }
 
-    #[inline(always)]
-    fn groups(&self, input: I, width: usize, most: usize) -> usize {
-        self.parser.groups(input, width, most)
-    }
-
     ghost lawful = { λ s k. fixed_lawful (P.lawful s k) };
 }
 

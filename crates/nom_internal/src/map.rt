@@ -51,11 +51,6 @@ impl<I: Items, A: Drop, F: Parser<I, Output = A> + Drop, O: Drop, G: Fn(A) -> O>
         self.parser.width()
     }
 
-    #[inline(always)]
-    fn groups(&self, input: I, width: usize, most: usize) -> usize {
-        self.parser.groups(input, width, most)
-    }
-
     ghost lawful = { λ s k. map_lawful (F.lawful s.0 k) };
 }
 

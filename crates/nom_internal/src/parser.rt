@@ -5,7 +5,7 @@ ghost use Rattle.nom_internal.specs.Grammar.{Grammar, Parses, Shows};
 ghost use Rattle.nom_internal.specs.Meaning.{IsLawful, IsSteady};
 ghost use Rattle.nom_internal.specs.Pinned.{IsPinned};
 ghost use Rattle.nom_internal.specs.Results.{IsFull, HoldsSame, rest_of};
-ghost use Rattle.nom_internal.specs.Width.{HasWidth, HasGroups};
+ghost use Rattle.nom_internal.specs.Width.{HasWidth};
 ghost use Rattle.nom_internal.specs.Word.{Answers, Word};
 
 use crate::and_then::AndThen;
@@ -70,14 +70,6 @@ pub trait Parser<I: Items>: Sized {
     #[inline(always)]
     fn width(&self) -> usize
         ensures { HasWidth I.model (grammar (state self.now)).meaning result }
-    {
-        0
-    }
-
-    /// Returns a number of groups of `width` items that the input has, at most `most`. It may have more of them.
-    #[inline(always)]
-    fn groups(&self, input: I, width: usize, most: usize) -> usize
-        ensures { HasGroups I.model input width most result }
     {
         0
     }

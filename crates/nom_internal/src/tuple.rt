@@ -111,11 +111,6 @@ impl<I: Items, A: Parser<I>, B: Parser<I, Error = A::Error>> Parser<I> for (A, B
         both_widths(a, b)
     }
 
-    #[inline(always)]
-    fn groups(&self, input: I, width: usize, most: usize) -> usize {
-        self.0.groups(input, width, most)
-    }
-
     ghost lawful = { λ s k. built_lawful (pair_lawful I.lawful (A.lawful s.0 k.0) (B.lawful s.1 k.1)) };
 }
 
@@ -166,11 +161,6 @@ impl<I: Items, A: Parser<I>, B: Parser<I, Error = A::Error>, C: Parser<I, Error 
         let c = self.2.width();
         let b_on = both_widths(b, c);
         both_widths(a, b_on)
-    }
-
-    #[inline(always)]
-    fn groups(&self, input: I, width: usize, most: usize) -> usize {
-        self.0.groups(input, width, most)
     }
 
     ghost lawful = { λ s k. built_lawful (pair_lawful I.lawful (A.lawful s.0 k.0) (pair_lawful I.lawful (B.lawful s.1 k.1.0) (C.lawful s.2 k.1.1))) };
@@ -238,11 +228,6 @@ impl<
         let c_on = both_widths(c, d);
         let b_on = both_widths(b, c_on);
         both_widths(a, b_on)
-    }
-
-    #[inline(always)]
-    fn groups(&self, input: I, width: usize, most: usize) -> usize {
-        self.0.groups(input, width, most)
     }
 
     ghost lawful = { λ s k. built_lawful (pair_lawful I.lawful (A.lawful s.0 k.0) (pair_lawful I.lawful (B.lawful s.1 k.1.0) (pair_lawful I.lawful

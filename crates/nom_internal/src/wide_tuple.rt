@@ -71,11 +71,6 @@ impl<
         both_widths(a, b_on)
     }
 
-    #[inline(always)]
-    fn groups(&self, input: I, width: usize, most: usize) -> usize {
-        self.0.groups(input, width, most)
-    }
-
     ghost lawful = { λ s k. built_lawful (pair_lawful I.lawful (A.lawful s.0 k.0) (pair_lawful I.lawful (B.lawful s.1 k.1.0) (pair_lawful I.lawful
         (C.lawful s.2 k.1.1.0) (pair_lawful I.lawful (D.lawful s.3 k.1.1.1.0) (E.lawful s.4 k.1.1.1.1))))) };
 }
@@ -163,11 +158,6 @@ impl<
         let c_on = both_widths(c, d_on);
         let b_on = both_widths(b, c_on);
         both_widths(a, b_on)
-    }
-
-    #[inline(always)]
-    fn groups(&self, input: I, width: usize, most: usize) -> usize {
-        self.0.groups(input, width, most)
     }
 
     ghost lawful = { λ s k. built_lawful (pair_lawful I.lawful (A.lawful s.0 k.0) (pair_lawful I.lawful (B.lawful s.1 k.1.0) (pair_lawful I.lawful
@@ -281,11 +271,6 @@ impl<
         let c_on = both_widths(c, d_on);
         let b_on = both_widths(b, c_on);
         both_widths(a, b_on)
-    }
-
-    #[inline(always)]
-    fn groups(&self, input: I, width: usize, most: usize) -> usize {
-        self.0.groups(input, width, most)
     }
 
     ghost lawful = { λ s k. built_lawful (pair_lawful I.lawful (A.lawful s.0 k.0) (pair_lawful I.lawful (B.lawful s.1 k.1.0) (pair_lawful I.lawful
@@ -403,11 +388,6 @@ impl<
         let c_on = both_widths(c, d_on);
         let b_on = both_widths(b, c_on);
         both_widths(a, b_on)
-    }
-
-    #[inline(always)]
-    fn groups(&self, input: I, width: usize, most: usize) -> usize {
-        self.0.groups(input, width, most)
     }
 
     ghost lawful = { λ s k. built_lawful (pair_lawful I.lawful (A.lawful s.0 k.0) (pair_lawful I.lawful (B.lawful s.1 k.1.0) (pair_lawful I.lawful

@@ -1,2 +1,3 @@
 pub mod Known
+pub mod SeveralCalls
 pub mod Written

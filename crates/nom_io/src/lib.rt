@@ -2,4 +2,5 @@
 #![tactic(auto)]
 
 pub mod counted;
+pub mod faults;
 pub mod stream;

@@ -88,6 +88,11 @@ impl<I: ByteItems, X: Copy> Items for Located<I, X> {
         self.fragment.prove_known();
     }
 
+    #[inline(always)]
+    fn group_count(&self, width: usize, most: usize) -> usize {
+        self.fragment.group_count(width, most)
+    }
+
     ghost lawful = { moving_lawful (located (λ x. x.fragment) (λ x. place x.offset x.line x.column) (λ x. x.extra) I.read) I.model I.lawful };
 
     ghost values = { λ x h. I.values x.fragment h.0 };

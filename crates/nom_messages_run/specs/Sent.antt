@@ -19,7 +19,8 @@ use Rattle.nom_write_stream.specs.declared.outgoing.Outgoing.{Outgoing}
 use Rattle.nom_write_stream.specs.declared.outgoing.Unwritten as Unwrittens
 use Rattle.nom_write_stream.specs.declared.outgoing.Unwritten.TheVariants as Unwritten
 use Rattle.nom_write_stream.specs.Outgoing.{Flushes, IsItem, Sends, held_of}
-use Rattle.nom_write_stream.specs.Targets.{NoFault, OneFault, one_more}
+use Rattle.nom_io.specs.Account.{one_more}
+use Rattle.nom_io.specs.Faults.{NoFault, OneFault}
 use Rattle.nom_messages_run.specs.declared.protocol.Message.{Message}
 use Rattle.nom_messages_run.specs.Forms.{IsLong, IsMessage, body_len}
 use Rattle.nom_messages_run.specs.Typed.{typed_of}
@@ -53,7 +54,7 @@ TakesLine left s t xs = (n x : ℕ) × Decides left line_of s t (Ok (Some (n, x)
 
 -- a message is held or written, after what was held
 abbrev pub SendsMessage : {W B : Type 0} → (W → Option (List ℕ)) → (a b : Outgoing W B) → Message → Type 0
-SendsMessage contents a b m = (xs : List ℕ) × IsItem (IsMessage m) a.most xs × Sends contents a b xs × NoFault a.target b.target
+SendsMessage contents a b m = (xs : List ℕ) × IsItem (IsMessage m) a.most xs × Sends contents a b xs × NoFault a.target.faults b.target.faults
 
 -- nothing was added to what was held
 abbrev pub SendsNone : {W B : Type 0} → (W → Option (List ℕ)) → (a b : Outgoing W B) → Type 0
@@ -75,24 +76,24 @@ WhyUnmade room m Unsent.OutOfMemory = room < body_len m
 module _ {W B : Type 0} (a b : Outgoing W B) where
   -- one write failed
   abbrev pub WriteFails : Type 0
-  WriteFails = (e : Io.Error) × OneFault a.target b.target e
+  WriteFails = (e : Io.Error) × OneFault a.target.faults b.target.faults e
 
   -- Why bytes aren't sent after their length: a write failed, or there are more than may be held, or than the length can say. Memory
   -- isn't wanted.
   abbrev pub WhyUnframed : (body : List ℕ) → Unwrittens.Unwritten → Type 0
-  WhyUnframed body (Unwritten.TooLong at) = (65535 < length body) × NoFault a.target b.target
+  WhyUnframed body (Unwritten.TooLong at) = (65535 < length body) × NoFault a.target.faults b.target.faults
   WhyUnframed body (Unwritten.Mismatch at) = ⊥
   WhyUnframed body Unwritten.Nothing = ⊥
-  WhyUnframed body Unwritten.OverLimit = (a.most < 2 + length body) × NoFault a.target b.target
-  WhyUnframed body (Unwritten.Fault e) = OneFault a.target b.target e
+  WhyUnframed body Unwritten.OverLimit = (a.most < 2 + length body) × NoFault a.target.faults b.target.faults
+  WhyUnframed body (Unwritten.Fault e) = OneFault a.target.faults b.target.faults e
   WhyUnframed body Unwritten.OutOfMemory = ⊥
 
   -- why a message isn't sent, with memory for a body of so many bytes
   abbrev pub WhyUnsent : (room : ℕ) → Message → Why.Unsent → Type 0
-  WhyUnsent room m Unsent.LongText = IsLong m × NoFault a.target b.target
-  WhyUnsent room m Unsent.OverLimit = (a.most < 2 + body_len m) × NoFault a.target b.target
+  WhyUnsent room m Unsent.LongText = IsLong m × NoFault a.target.faults b.target.faults
+  WhyUnsent room m Unsent.OverLimit = (a.most < 2 + body_len m) × NoFault a.target.faults b.target.faults
   WhyUnsent room m Unsent.Write = WriteFails
-  WhyUnsent room m Unsent.OutOfMemory = (room < body_len m) × NoFault a.target b.target
+  WhyUnsent room m Unsent.OutOfMemory = (room < body_len m) × NoFault a.target.faults b.target.faults
 
 -- what isn't written isn't sent
 abbrev pub unsent_of : Unwrittens.Unwritten → Why.Unsent
@@ -122,7 +123,7 @@ halt_by number Stop.OutOfMemory = Halt.OutOfMemory
 
 -- Why the line of a number isn't sent, and what halts for it: it is no message, or the message isn't sent.
 pub data HaltsLine {W B : Type 0} (room : ℕ) (a b : Outgoing W B) (xs : List ℕ) (number : ℕ) (h : Halts.Halt) : Type 0 where
-  Refused : IsRefused xs → NoFault a.target b.target → h ≡ Halt.NoMessage number → HaltsLine room a b xs number h
+  Refused : IsRefused xs → NoFault a.target.faults b.target.faults → h ≡ Halt.NoMessage number → HaltsLine room a b xs number h
   NotSent : (m : Message) (why : Why.Unsent) → Says xs m → WhyUnsent a b room m why → h ≡ halt_for number why → HaltsLine room a b xs number h
 
 -- What halts after some messages, from states of a stream and of what is written to others, and why. Memory is wanted for a body alone that
@@ -130,15 +131,15 @@ pub data HaltsLine {W B : Type 0} (room : ℕ) (a b : Outgoing W B) (xs : List �
 pub data HaltsAt {R A W B : Type 0} (left : R → Option (List ℕ)) (messages : List Message) (t u : Stream R A) (a b : Outgoing W B)
     (h : Halts.Halt) : Type 0 where
   -- the data end
-  Ended : Decides left line_of t u (Ok None) → NoFault a.target b.target → h ≡ Halt.End → HaltsAt left messages t u a b h
+  Ended : Decides left line_of t u (Ok None) → NoFault a.target.faults b.target.faults → h ≡ Halt.End → HaltsAt left messages t u a b h
   -- no line comes
-  Stopped : (why : Stops.Stop) → Decides left line_of t u (Err why) → NoFault a.target b.target → h ≡ halt_by (length messages + 1) why →
+  Stopped : (why : Stops.Stop) → Decides left line_of t u (Err why) → NoFault a.target.faults b.target.faults → h ≡ halt_by (length messages + 1) why →
       HaltsAt left messages t u a b h
   -- the next line comes, and isn't sent
   Taken : (xs : List ℕ) (room : ℕ) → TakesLine left t u xs → All (λ m. body_len m ≤ room) messages →
       HaltsLine room a b xs (length messages + 1) h → HaltsAt left messages t u a b h
   -- no more lines can be counted
-  Full : length messages ≡ 2 ^ 64 - 1 → u ≡ t → NoFault a.target b.target → h ≡ Halt.Read → HaltsAt left messages t u a b h
+  Full : length messages ≡ 2 ^ 64 - 1 → u ≡ t → NoFault a.target.faults b.target.faults → h ≡ Halt.Read → HaltsAt left messages t u a b h
 
 -- Lines came, from states of a stream and of what is written to others, and the messages for which they stand were sent, in order.
 pub data SentLines {R A W B : Type 0} (left : R → Option (List ℕ)) (contents : W → Option (List ℕ)) (s : Stream R A) (a : Outgoing W B) :
@@ -168,9 +169,9 @@ is_failed_write h = false
 -- flushed, once; or a call fails then, and that halts.
 pub data Finishes {W B : Type 0} (a b : Outgoing W B) (halt h : Halts.Halt) : Type 0 where
   Left : is_failed_write halt ≡ true → h ≡ halt → b ≡ a → Finishes a b halt h
-  Flushed : is_failed_write halt ≡ false → h ≡ halt → held_of b ≡ [] → NoFault a.target b.target →
+  Flushed : is_failed_write halt ≡ false → h ≡ halt → held_of b ≡ [] → NoFault a.target.faults b.target.faults →
       b.target.flushes ≡ one_more a.target.flushes → Finishes a b halt h
-  Failed : (e : Io.Error) → is_failed_write halt ≡ false → h ≡ Halt.Write → OneFault a.target b.target e →
+  Failed : (e : Io.Error) → is_failed_write halt ≡ false → h ≡ Halt.Write → OneFault a.target.faults b.target.faults e →
       Flushes {T = Unit {0}} a b (Err e) → Finishes a b halt h
 
 -- then all that was held was written, unless a write failed

@@ -6,7 +6,7 @@ ghost use Rattle.nom_messages_run.specs.Sent.{WhyNoBody, WhyUnframed, WhyUnmade,
 ghost use Rattle.nom_messages_run.specs.declared.protocol.Message.{Message};
 ghost use Rattle.nom_messages_run.specs.Sent as Sent;
 ghost use Rattle.nom_write_stream.specs.Outgoing.{IsItem, Sends};
-ghost use Rattle.nom_write_stream.specs.Targets.{NoFault};
+ghost use Rattle.nom_io.specs.Faults.{NoFault};
 
 use crate::protocol::Message;
 use crate::typed::typed;
@@ -115,7 +115,7 @@ fn write_frame<'a, W: Write, A: Allocator>(
     body: &'a [u8],
 ) -> Result<(), Unwritten>
     ensures sent { IfOk result (λ _. (xs : List ℕ) × IsItem (IsFrame body.now) outgoing.old.most xs ×
-        Sends W.contents outgoing.old outgoing.new xs × NoFault outgoing.old.target outgoing.new.target) }
+        Sends W.contents outgoing.old outgoing.new xs × NoFault outgoing.old.target.faults outgoing.new.target.faults) }
     ensures error { IfErr result (λ why. SendsNone W.contents outgoing.old outgoing.new ×
         WhyUnframed outgoing.old outgoing.new body.now why) }
     ensures flushes { outgoing.new.target.flushes ≡ outgoing.old.target.flushes }

@@ -12,7 +12,6 @@ use nom_error::kind::ErrorKind;
 use nom_error::mode::{IsStreaming, Mode, OutputMode};
 use nom_error::value::{ParseError, refusal};
 use nom_internal::parser::{Parser, StreamParser};
-use nom_internal::width::group_count;
 use nom_traits::input::Input;
 use std::marker::PhantomData;
 
@@ -64,11 +63,6 @@ impl<I: Input<Item = u8>, E: ParseError<I>> Parser<I> for BeU8<I, E> {
     #[inline(always)]
     fn width(&self) -> usize {
         1
-    }
-
-    #[inline(always)]
-    fn groups(&self, input: I, width: usize, most: usize) -> usize {
-        group_count(input, width, most)
     }
 
     ghost lawful = { λ _ k. labelled_lawful (take_lawful I.model E.errors (bytes_lack I.model) 1) };

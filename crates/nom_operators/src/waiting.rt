@@ -7,6 +7,7 @@ ghost use Rattle.nom_operators.specs.declared.operation.Operation.{Operation};
 ghost use Rattle.nom_operators.specs.declared.operation.Operation.TheVariants.{Binary};
 
 use crate::operation::{Assoc, Operation};
+use core::mem::replace_with;
 use std::alloc::Allocator;
 
 /// The value read after the innermost operator that waits; and that operator with its left operand and its level, if
@@ -123,9 +124,34 @@ pub fn keep<E: Drop, A: Allocator>(outer: &mut Vec<E, A>, innermost: Option<E>) 
     ensures capacity { vec_capacity outer.old ≤ vec_capacity outer.new }
 {
     match innermost {
-        Some(open) => outer.push(open).is_ok(),
+        Some(open) => {
+            // The list is moved out and back. If it were passed by reference, all that stands beside it would lie in memory.
+            if outer.capacity() <= outer.len() {
+                if !replace_with(outer, (), larger) {
+                    return false;
+                }
+            }
+            outer.push_reserved(open);
+            true
+        }
         None => true,
     }
+}
+
+/// Makes room for another operator in a full list, and returns whether there was memory for it.
+#[cold]
+#[inline(never)]
+fn larger<E, A: Allocator>(list: Vec<E, A>, _x: ()) -> (Vec<E, A>, bool)
+    ensures items { result.0.items ≡ list.items }
+    ensures room { IsTrue result.1 → vec_len result.0 < vec_capacity result.0 }
+    ensures capacity { vec_capacity list ≤ vec_capacity result.0 }
+{
+    let mut list = list;
+    let has_room = match list.reserve(1) {
+        Ok(()) => true,
+        Err(_) => false,
+    };
+    (list, has_room)
 }
 
 /// Returns whether operators of a level are grouped from the left.

@@ -1,7 +1,6 @@
 -- Lemmas on what is held of a first value and of pairs after it.
-use Rattle.std.proofs.Common.{◌≡◌, ℕ, Bool, true, false, Option, Some, None, List, [], ◌∷◌, ◌++◌, refl, sym, subst}
-use Rattle.std.specs.Prelude.{IfSome, IsSome, option_to_list}
-use Rattle.std.specs.List.{AllZip}
+use Rattle.std.proofs.Common.{◌≡◌, ℕ, Bool, true, false, Option, Some, None, List, [], ◌∷◌, ◌++◌, refl, subst}
+use Rattle.std.specs.Prelude.{IfSome, IsSome}
 use Rattle.nom.specs.Prelude.{Built, BuiltFrom, BuiltFromBoth}
 use Rattle.nom.proofs.Accumulating.{zip_push}
 use Rattle.nom_operators.specs.Steps.{IsNested, Joined, Made, Pushed, Runs, waiting}
@@ -18,21 +17,6 @@ none_nested None outer i o = o
 pub held_built : {K : Type 0} (P : K → Type 0) (builds : Bool) (held : Option K) → Built builds P held → IsSome held → builds ≡ true
 held_built P true held b s = refl
 held_built {K} P false held b s = let no : IsSome {T = K} None = subst IsSome b s in absurd (cc (no))
-
--- one more output in a list, where outputs are built
-pub listed : {V X : Type 0} (P : V → X → Type 0) (builds : Bool) (vs : List V) (v : V) (item : Option X) (old new : List X) →
-    (builds ≡ true → AllZip P vs old) → Built builds (P v) item → new ≡ old ++ option_to_list item → builds ≡ true → AllZip P (vs ++ v ∷ []) new
-listed P true vs v (Some x) old new h b e t =
-    let item : x ≡ b.0 = cc (b.1) in
-    subst (λ z. AllZip P (vs ++ v ∷ []) z) (sym e) (zip_push P vs old v x (h t) (subst (λ z. P v z) (sym item) b.2))
-listed P true vs v None old new h b e t = absurd (cc (b.1))
-listed P false vs v item old new h b e t = absurd (cc (t))
-
--- all of them
-pub all_listed : {X : Type 0} {Fact : Type 0} (P : X → Type 0) (builds : Bool) (told : Option X) → (builds ≡ true → Fact) → Built builds P told →
-    Built builds (λ _. Fact) told
-all_listed P true told h b = (b.0, b.1, h (cc))
-all_listed P false told h b = b
 
 module _ {X C V K : Type 0} (left : ℕ → Bool) (of : C → ℕ) (Gives : X → C → X → X → Type 0) (IsPair : V → C × X → Type 0)
     (innermost : K → Option (X × C)) (value : K → X) where

@@ -1,12 +1,14 @@
 -- Lemmas on the value that is built of a term.
 use Rattle.std.proofs.Common.{◌≡◌, ◌++◌, Bool, true, false, Option, Some, None, MatchOption, List, [], ◌∷◌, refl, sym, ◌∙◌, ap, subst}
 use Rattle.std.specs.List.{AllZip}
-use Rattle.nom.specs.Prelude.{Built, BuiltFrom}
+use Rattle.std.specs.declared.vec.Vec.{Vec}
+use Rattle.nom.specs.Prelude.{Built, BuiltFrom, BuiltFromBoth}
+use Rattle.nom.proofs.ListAccumulated.{ListPushes, list_of_none}
 use Rattle.nom.specs.Accumulated.{Adds, Accumulated}
 use Rattle.nom_precedence.specs.Expressions.{Tail, term_of}
 use Rattle.nom_precedence.specs.Told.{AppliedPushes, Before}
 use Rattle.nom_precedence.specs.Values.{PostfixesBy, PrefixesBy, TailBy, TermBy}
-use Rattle.nom_precedence.proofs.ReadShown.{built_from}
+use Rattle.nom_precedence.proofs.ReadShown.{built_from_both}
 
 module _ {K L O G Q : Type 0} (value : K → Option O) (fold : K → L) (Gives : L → O → G → O → Type 0) (IsPostfix : Q → G → Type 0) where
   -- the value under all postfixes
@@ -58,21 +60,20 @@ before_gives IsPrefix OnPrefix [] (c ∷ cs) x y z h = absurd z
 before_gives IsPrefix OnPrefix (p ∷ ps) [] x y z h = absurd z
 before_gives IsPrefix OnPrefix (p ∷ ps) (c ∷ cs) x y z h = (c, h.0, z.0, before_gives IsPrefix OnPrefix ps cs x h.0 z.1 h.1, h.2)
 
-module _ {P V Q F O G Y : Type 0} (IsPrefix : P → F → Type 0) (IsOperand : V → O → Type 0) (IsPostfix : Q → G → Type 0) (OnPrefix : F → O → O → Type 0)
-    (OnPostfix : O → G → O → Type 0) (ps : List P) (t : Tail V Q) (cs : List F) where
-  -- a term's value, from the value after its prefixes
-  pub term_built : (outputs : Bool) (told : Option Y) (x y : Option O) → Built outputs (λ _. AllZip IsPrefix ps cs) told →
-      Built outputs (TailBy IsOperand IsPostfix OnPostfix t) x → BuiltFrom true (Before OnPrefix cs) x y →
+module _ {P V Q F O G A : Type 0} (IsPrefix : P → F → Type 0) (IsOperand : V → O → Type 0) (IsPostfix : Q → G → Type 0) (OnPrefix : F → O → O → Type 0)
+    (OnPostfix : O → G → O → Type 0) (ps : List P) (t : Tail V Q) where
+  -- a term's value, from the prefixes that were kept and the value after them
+  pub term_built : (outputs : Bool) (start list : Option (Vec F A)) (x y : Option O) → Built outputs (λ (l : Vec F A). l.items ≡ []) start →
+      Built outputs (Accumulated ListPushes (λ _. Unit {0}) IsPrefix start ps) list → Built outputs (TailBy IsOperand IsPostfix OnPostfix t) x →
+      BuiltFromBoth true (λ cs a b. Before OnPrefix cs.items a b) list x y →
       Built outputs (TermBy IsPrefix IsOperand IsPostfix OnPrefix OnPostfix (term_of ps t)) y
-  term_built true told x y h q b = built_from true y (λ a d _ k s. record {
+  term_built outputs start list x y e h q b = built_from_both outputs list x y (λ cs a d h k s. record {
     operand = k.operand;
     is_operand = k.is_operand;
     rest = a;
     postfixes_give = k.postfixes_give;
-    prefixes_give = before_gives IsPrefix OnPrefix ps cs a d h.2 s;
-  }) q b
-  term_built false told (Some a) y h q b = absurd (cc (q))
-  term_built false told None y h q b = b
+    prefixes_give = before_gives IsPrefix OnPrefix ps cs.items a d (list_of_none IsPrefix outputs e ps cs h) s;
+  }) h q b
 
 -- prefixes, the last of which is applied first
 pub before_last : {P X : Type 0} (Gives : P → X → X → Type 0) (items rest : List P) (p : P) (x y z : X) → items ≡ rest ++ p ∷ [] → Gives p x y →

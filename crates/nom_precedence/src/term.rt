@@ -1,12 +1,12 @@
 //! Terms: prefixes, an operand, postfixes.
 ghost use Rattle.std.specs.Prelude.{◌≡◌, IsSome, None, Some, true, MatchOption};
-ghost use Rattle.nom.specs.Prelude.{BuiltFrom, modes};
+ghost use Rattle.nom.specs.Prelude.{BuiltFrom, BuiltFromBoth, modes};
 ghost use Rattle.nom_precedence.specs.Told.{AppliedPushes, Before, ShowsRead, tail_by, term_by};
 ghost use Rattle.nom_operators.specs.declared.operation.Operation.{Operation};
 ghost use Rattle.nom_operators.specs.declared.operation.Operation.TheVariants.{Postfix, Prefix};
 
-use crate::read::{Read, affixes, prefixes};
-use nom::extend::{Accumulator, emitted};
+use crate::read::{Read, affixes};
+use nom::extend::{Accumulator, emitted, none_yet};
 use nom::{Input, Items, OutOfMemory, OutputMode, PResult, Parser};
 use nom_operators::operation::Operation;
 use std::alloc::Allocator;
@@ -89,15 +89,18 @@ fn under<P: Drop, Q: Drop, B: Drop, O: Drop, A: Allocator, G: Fn(Operation<P, Q,
 /// Returns the value of a term, if it is built.
 #[inline(always)]
 fn finished<P: Drop, Q: Drop, B: Drop, O: Drop, A: Allocator, G: Fn(Operation<P, Q, B, O>) -> O>(
-    prefixes: Vec<P, A>,
+    prefixes: Option<Vec<P, A>>,
     value: Option<O>,
     fold: &G,
 ) -> Option<O>
     requires { (x : Operation P Q B O) → G.pre fold.now x }
-    ensures { BuiltFrom true (λ x y. Before (λ p a b. G.post fold.now (Prefix p a) b) prefixes.items x y) value result }
+    ensures { BuiltFromBoth true (λ ps x y. Before (λ p a b. G.post fold.now (Prefix p a) b) ps.items x y) prefixes value result }
 {
-    match value {
-        Some(value) => Some(under(prefixes, value, fold)),
+    match prefixes {
+        Some(prefixes) => match value {
+            Some(value) => Some(under(prefixes, value, fold)),
+            None => None,
+        },
         None => None,
     }
 }
@@ -162,15 +165,15 @@ pub fn term<
     ensures operand_kept { F.state operand.new ≡ F.state operand.old }
     ensures postfix_kept { Q.state postfix.new ≡ Q.state postfix.old }
 {
-    let mut list: Vec<P::Output, A> = Vec::new(alloc);
-    let (rest, before) = prefixes::<OM, I, P, A>(prefix, input, &mut list)?;
+    let none = none_yet::<OM::Output, P::Output, A>(alloc);
+    let (rest, before) = affixes::<OM, I, P, Vec<P::Output, A>>(prefix, input, none)?;
     match emitted(before) {
         Read::Stuck => Ok((rest, Some(Read::Stuck))),
-        Read::Whole(_built) => {
+        Read::Whole(prefixes) => {
             let (end, after) = tail::<OM, I, P::Output, F, Q, B, G>(operand, postfix, fold, rest)?;
             match emitted(after) {
                 Read::Stuck => Ok((end, Some(Read::Stuck))),
-                Read::Whole(value) => Ok((end, Some(Read::Whole(finished(list, value, fold))))),
+                Read::Whole(value) => Ok((end, Some(Read::Whole(finished(prefixes, value, fold))))),
             }
         }
     }

@@ -22,7 +22,7 @@ pub fn certain_count<I: Items, F: Parser<I>>(parser: &F, input: I, most: usize) 
 {
     input.prove_known();
     let width = parser.width();
-    parser.groups(input, width, most)
+    input.group_count(width, most)
 }
 
 /// Returns an empty list if outputs are built, with room for the items of which the input is certain, at most

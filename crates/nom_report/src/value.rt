@@ -134,6 +134,7 @@ impl<I: Placed> ParseError<I> for Report<I> {
 impl<I: Placed> ContextError<I> for Report<I> {
     ghost contexts = { report_contexts I.place };
 
+    #[inline(always)]
     fn add_context(input: I, context: &'static str, other: Self) -> Result<Self, OutOfMemory> {
         let mut error = other;
         let begins = input.place();

@@ -15,7 +15,8 @@ use Rattle.nom_stream.specs.declared.stream.Stream.{Stream}
 use Rattle.nom_stream.specs.declared.stream.Unread.{Unread}
 use Rattle.nom_stream.specs.Held.{held_of}
 use Rattle.nom_stream.specs.Items.{Bytes, HoldsLast, IsUndecided, Stays, Takes}
-use Rattle.nom_stream.specs.Readers.{NoFault, OneFault, one_more}
+use Rattle.nom_io.specs.Faults.{NoFault, OneFault}
+use Rattle.nom_io.proofs.SeveralCalls.{fault_kept, fault_then, none_then}
 use Rattle.nom_stream.specs.Streams.{Answers, AreFillings, CountsFaults, Decides, Ends, EndsAsReader, Fills, Gives, IsEnough, IsUnread, IsUntold, LacksRoom}
 use Rattle.nom_stream.specs.Streams.{ReadAsNeeded, Reads, ReadsNothing, Tells, TellsFault, TellsNoFault, Told, Waited, counted}
 use Rattle.nom_stream.specs.Streams.AreFillings.{NoFilling, OneMore}
@@ -44,38 +45,29 @@ module _ {R A V O : Type 0} (grammar : Grammar Bytes V O (Error Bytes)) (s t : S
 
 -- the faults of a reader, over several readings
 module _ {R A : Type 0} (s u t : Stream R A) where
-  same_faults : NoFault s.source u.source → NoFault u.source t.source → NoFault s.source t.source
-  same_faults f g = (g.0 ∙ f.0, g.1 ∙ f.1)
-
-  one_fault : (e : Io.Error) → NoFault s.source u.source → OneFault u.source t.source e → OneFault s.source t.source e
-  one_fault e f g = (g.0 ∙ ap one_more f.0, g.1)
-
-  fault_then : (e : Io.Error) → OneFault s.source u.source e → NoFault u.source t.source → OneFault s.source t.source e
-  fault_then e f g = (g.0 ∙ f.0, g.1 ∙ f.1)
-
   pub none_told : TellsNoFault s u → u.pending ≡ None → TellsNoFault u t → TellsNoFault s t
-  none_told (inl f) e (inl g) = inl (same_faults f.0 g.0, g.1 ∙ f.1)
-  none_told (inl f) e (inr g) = inr (sym f.1 ∙ g.0, ((g.1).0, one_fault (g.1).0 f.0 (g.1).1, (g.1).2))
+  none_told (inl f) e (inl g) = inl (none_then s.source.faults u.source.faults t.source.faults f.0 g.0, g.1 ∙ f.1)
+  none_told (inl f) e (inr g) = inr (sym f.1 ∙ g.0, ((g.1).0, fault_then s.source.faults u.source.faults t.source.faults (g.1).0 f.0 (g.1).1, (g.1).2))
   none_told (inr f) e g = let h = (f.1).2 in absurd (cc (e, h))
 
   told_after : (e : Io.Error) → TellsNoFault s u → t.pending ≡ None →
-      ((u.pending ≡ None) × OneFault u.source t.source e) ⊎ ((u.pending ≡ Some e) × NoFault u.source t.source) → TellsFault s t e
-  told_after e (inl f) n (inl g) = (n, inl (sym f.1 ∙ g.0, one_fault e f.0 g.1))
-  told_after e (inl f) n (inr g) = (n, inr (sym f.1 ∙ g.0, same_faults f.0 g.1))
+      ((u.pending ≡ None) × OneFault u.source.faults t.source.faults e) ⊎ ((u.pending ≡ Some e) × NoFault u.source.faults t.source.faults) → TellsFault s t e
+  told_after e (inl f) n (inl g) = (n, inl (sym f.1 ∙ g.0, fault_then s.source.faults u.source.faults t.source.faults e f.0 g.1))
+  told_after e (inl f) n (inr g) = (n, inr (sym f.1 ∙ g.0, none_then s.source.faults u.source.faults t.source.faults f.0 g.1))
   told_after e (inr f) n (inl g) = let h = (f.1).2 in let k = g.0 in absurd (cc (k, h))
   told_after e (inr f) n (inr g) =
       let h = (f.1).2 in
       let k = g.0 in
       let same : (f.1).0 ≡ e = cc (k, h) in
-      (n, inl (f.0, fault_then e (subst (OneFault s.source u.source) same (f.1).1) g.1))
+      (n, inl (f.0, fault_kept s.source.faults u.source.faults t.source.faults e (subst (OneFault s.source.faults u.source.faults) same (f.1).1) g.1))
 
   pub one_told : (e : Io.Error) → TellsNoFault s u → TellsFault u t e → TellsFault s t e
   one_told e f g = told_after e f g.0 g.1
 
 -- where the reader and what is pending stay, so do the faults
 still_none : {R A : Type 0} (s u t : Stream R A) → t.source ≡ u.source → t.pending ≡ u.pending → TellsNoFault s u → TellsNoFault s t
-still_none s u t a b (inl f) = inl (subst (NoFault s.source) (sym a) f.0, b ∙ f.1)
-still_none s u t a b (inr f) = inr (f.0, ((f.1).0, subst (λ z. OneFault s.source z (f.1).0) (sym a) (f.1).1, b ∙ (f.1).2))
+still_none s u t a b (inl f) = inl (subst (λ z. NoFault s.source.faults z.faults) (sym a) f.0, b ∙ f.1)
+still_none s u t a b (inr f) = inr (f.0, ((f.1).0, subst (λ z. OneFault s.source.faults z.faults (f.1).0) (sym a) (f.1).1, b ∙ (f.1).2))
 
 -- an answer that tells no fault
 counts_none : {R A O : Type 0} (s t : Stream R A) (taken : Taken O) (r : Told O) → Tells taken r → TellsNoFault s t → CountsFaults s t r

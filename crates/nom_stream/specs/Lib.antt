@@ -3,7 +3,6 @@ pub mod Functions
 pub mod Held
 pub mod Items
 pub mod Lines
-pub mod Readers
 pub mod Repeats
 pub mod Streams
 pub mod Wanted

@@ -14,8 +14,8 @@ use Rattle.nom_stream.specs.declared.step.Taken.{Taken}
 use Rattle.nom_stream.specs.declared.step.Taken.TheVariants as Took
 use Rattle.nom_stream.specs.Held.{held_of}
 use Rattle.nom_stream.specs.Items.{Bytes, HoldsLast, IsUndecided, Takes}
-use Rattle.nom_stream.specs.declared.reader.Reader.{Reader}
-use Rattle.nom_stream.specs.Readers.{NoFault, OneFault}
+use Rattle.nom_io.specs.Faults.{NoFault, OneFault}
+use Rattle.nom_io.specs.declared.faults.Faults.{Faults}
 use Rattle.nom_stream.specs.Wanted.{most_read, wanted_of}
 
 -- an item with how many bytes it has, none at the end, or why there is none
@@ -67,7 +67,7 @@ abbrev pub LacksRoom : {R A : Type 0} → Stream R A → Type 0
 LacksRoom t = vec_capacity t.held.bytes < min (length (held_of t.held) + most_read t.settings) t.settings.most
 
 -- of one read
-abbrev pub CountsOnce : {R T : Type 0} → (old new : Reader R) → Result T Unread → Type 0
+abbrev pub CountsOnce : {T : Type 0} → (old new : Faults) → Result T Unread → Type 0
 CountsOnce old new (Ok x) = NoFault old new
 CountsOnce old new (Err (Unread.Fault e)) = OneFault old new e
 CountsOnce old new (Err Unread.OutOfMemory) = NoFault old new
@@ -80,12 +80,13 @@ IsUntold t = (e : Io.Error) × (t.pending ≡ Some e)
 module _ {R A : Type 0} (s t : Stream R A) where
   -- None is told. No read failed; or one did after others had given bytes, and its error is yet to be told.
   abbrev pub TellsNoFault : Type 0
-  TellsNoFault = (NoFault s.source t.source × (t.pending ≡ s.pending)) ⊎ ((s.pending ≡ None) ×
-      ((e : Io.Error) × OneFault s.source t.source e × (t.pending ≡ Some e)))
+  TellsNoFault = (NoFault s.source.faults t.source.faults × (t.pending ≡ s.pending)) ⊎ ((s.pending ≡ None) ×
+      ((e : Io.Error) × OneFault s.source.faults t.source.faults e × (t.pending ≡ Some e)))
 
   -- One is told: of a read that failed just now, or of one before.
   abbrev pub TellsFault : Io.Error → Type 0
-  TellsFault e = (t.pending ≡ None) × (((s.pending ≡ None) × OneFault s.source t.source e) ⊎ ((s.pending ≡ Some e) × NoFault s.source t.source))
+  TellsFault e = (t.pending ≡ None) ×
+      (((s.pending ≡ None) × OneFault s.source.faults t.source.faults e) ⊎ ((s.pending ≡ Some e) × NoFault s.source.faults t.source.faults))
 
   -- an error that is yet to be told is told before anything is read
   abbrev pub CountsUnread : {T : Type 0} → Result T Unread → Type 0

@@ -26,7 +26,7 @@ impl<A: Allocator> Held<A> {
     ghost use Rattle.std.specs.Prelude.{◌≡◌, ℕ, ◌+◌, ◌-◌, ◌^◌, ◌<◌, ◌++◌, List, [], drop, length, max, IfOk, OnErr, OnOk, vec_capacity};
     ghost use Rattle.std.specs.Io.KnownBytes.{Consumes, IsAtEnd, Keeps};
     ghost use Rattle.nom_stream.specs.Held.{held_of, last_of};
-    ghost use Rattle.nom_stream.specs.Readers.{CountsRead};
+    ghost use Rattle.nom_io.specs.Faults.{CountsCalls};
 
     /// Returns a buffer that holds no bytes.
     pub fn new(alloc: A) -> Self
@@ -174,7 +174,7 @@ impl<A: Allocator> Held<A> {
         ensures bound { IfOk result (λ n. n ≤ count) }
         ensures at_end { IfOk result (λ n. n ≡ 0 → 0 < count → IsAtEnd (R.remaining source.new.inner)) }
         ensures fault { OnErr result ((held_of self.new ≡ held_of self.old) × Keeps (R.remaining source.old.inner) (R.remaining source.new.inner)) }
-        ensures counts { CountsRead source.old source.new result }
+        ensures counts { CountsCalls source.old.faults source.new.faults result }
         ensures start { self.new.start ≡ self.old.start }
         ensures buffer { vec_len self.new.bytes ≡ vec_len self.old.bytes }
     {

@@ -1,12 +1,10 @@
 //! Reads that are made again where they are interrupted.
 //!
 //! This module can't raise the counts of a reader.
-ghost use Rattle.std.specs.Prelude.{◌≡◌, ◌-◌, ◌^◌, ◌≤◌, IfErr, length};
+ghost use Rattle.std.specs.Prelude.{◌≡◌, IfErr, length};
 ghost use Rattle.std.specs.Io.{ReadsAtMost};
 ghost use Rattle.std.specs.Io.KnownBytes.{ReadConsumes};
-ghost use Rattle.std.specs.IoError.{error_kind};
-ghost use Rattle.std_io.specs.declared.io.kind.ErrorKind.TheVariants.{Interrupted};
-ghost use Rattle.nom_stream.specs.Readers.{CountsRead};
+ghost use Rattle.nom_io.specs.Faults.{CountsCalls, IsLate};
 
 use crate::reader::Reader;
 use std::io;
@@ -20,8 +18,8 @@ impl<R: Read> Reader<R> {
         ensures bound { ReadsAtMost result room.new }
         ensures bytes { ReadConsumes (R.remaining self.old.inner) (R.remaining self.new.inner) result room.new }
         ensures len { length room.new ≡ length room.old }
-        ensures counts { CountsRead self.old self.new result }
-        ensures again { IfErr result (λ e. error_kind e ≡ Interrupted → 2 ^ 64 - 1 ≤ self.new.interruptions) }
+        ensures counts { CountsCalls self.old.faults self.new.faults result }
+        ensures again { IfErr result (IsLate self.new.faults) }
     {
         for _turn in 0..u64::MAX {
             match self.call(room) {

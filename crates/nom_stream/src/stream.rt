@@ -72,7 +72,7 @@ impl<R: Read, A: Allocator + Copy> Stream<R, A> {
     /// Returns a stream that starts at the reader's present place.
     pub fn new(alloc: A, source: R, settings: Settings) -> Self
         ensures starts { result.ended ≡ false }
-        ensures source { (result.source.inner ≡ source) × (result.source.faults ≡ 0) }
+        ensures source { (result.source.inner ≡ source) × (result.source.faults.count ≡ 0) }
         ensures told { result.pending ≡ None }
         ensures none { held_of result.held ≡ [] }
         ensures offset { result.offset ≡ 0 }
@@ -97,7 +97,7 @@ impl<R: Read, A: Allocator + Copy> Stream<R, A> {
         ensures reads { ReadsOnce R.remaining self.old self.new result }
         ensures bound { IfOk result (λ n. n ≤ count) }
         ensures memory { result ≡ Err Unread.OutOfMemory → vec_capacity self.new.held.bytes < length (held_of self.new.held) + count }
-        ensures counts { CountsOnce self.old.source self.new.source result }
+        ensures counts { CountsOnce self.old.source.faults self.new.source.faults result }
         ensures others { (self.new.settings ≡ self.old.settings) × (self.new.offset ≡ self.old.offset) × (self.new.ended ≡ false)
             × (self.new.pending ≡ self.old.pending) }
     {

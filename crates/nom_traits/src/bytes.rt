@@ -18,6 +18,18 @@ impl Items for &[u8] {
         let _n = self.len();
     }
 
+    #[inline(always)]
+    fn group_count(&self, width: usize, most: usize) -> usize {
+        if width == 0 {
+            return 0;
+        }
+        let groups = most.min(self.len() / width);
+        match groups.checked_mul(width) {
+            Some(count) if count <= self.len() => groups,
+            _ => 0,
+        }
+    }
+
     ghost lawful = { bytes_lawful };
 
     ghost values = { λ i h. h.0 };

@@ -4,7 +4,7 @@ ghost use Rattle.std.specs.Char.{IsScalar};
 ghost use Rattle.std.specs.Iterator.{AlwaysYields, IsFinite};
 ghost use Rattle.nom_error.specs.Answers.{size_of, Refuses};
 ghost use Rattle.nom_traits.specs.Classes.{has_code, IsIn, IsInside, IsNotIn, IsOutside};
-ghost use Rattle.nom_traits.specs.Input.{Model, InputLaws, AreValues, placed, IsBoundary, IsPrefixOf, IsSuffixOf, IsSame, input_len};
+ghost use Rattle.nom_traits.specs.Input.{Model, InputLaws, AreValues, HasGroups, placed, IsBoundary, IsPrefixOf, IsSuffixOf, IsSame, input_len};
 ghost use Rattle.nom_traits.specs.Slices.{IsCount};
 ghost use Rattle.nom_traits.specs.Runs.{IsPosition};
 ghost use Rattle.nom_traits.specs.Splits.{Splits, Never, RefusesWith, FrontBuilt};
@@ -62,6 +62,14 @@ pub trait Items: Copy {
     /// Changes nothing. Its contract states that a value of the type is an input.
     fn prove_known(self)
         ensures { model.IsKnown self };
+
+    /// Returns a number of groups of `width` items that the input has, at most `most`. It may have more of them.
+    #[inline(always)]
+    fn group_count(&self, width: usize, most: usize) -> usize
+        ensures { HasGroups model self.now width most result }
+    {
+        0
+    }
 
     /// Each item has a length, and the mark after some items follows from the items.
     ghost lawful: { InputLaws model };

@@ -1,11 +1,8 @@
--- Known bytes over several writes, and the faults of a writer.
+-- Known bytes over several writes.
 use Rattle.std.proofs.Common.{◌≡◌, ℕ, ◌+◌, ◌-◌, ◌≤◌, List, [], ◌++◌, length, take, drop, Option, None, Some, sym, ap, ◌∙◌}
 use Rattle.std.proofs.Common.{append_assoc, arith, rules}
 use Rattle.std.specs.Io.KnownBytes.{Appends}
 use Rattle.std.proofs.lemmas.List.{same_lists, places, append-nil}
-use Rattle.std_io.specs.declared.io.error.Error.{Error}
-use Rattle.nom_write_stream.specs.declared.target.Target.{Target}
-use Rattle.nom_write_stream.specs.Targets.{NoFault, OneFault, one_more}
 
 pub appends-none : (o : Option (List ℕ)) → Appends o o []
 appends-none None = tt
@@ -19,10 +16,3 @@ appends-more (Some a) (Some b) (Some c) xs ys p q = q ∙ ap (λ t. t ++ ys) p �
 
 pub take-on : (t : List ℕ) (i n : ℕ) → i ≤ length t → n ≤ length t - i → take (i + n) t ≡ take i t ++ take n (take (length t - i) (drop i t))
 take-on t i n h k = same_lists _ _ (search (rules, places)) (λ k d h. grind (arith, places))
-
-module _ {W : Type 0} (a b c : Target W) (p : NoFault a b) where
-  pub none_then : NoFault b c → NoFault a c
-  none_then q = (q.0 ∙ p.0, q.1 ∙ p.1)
-
-  pub fault_then : (e : Error) → OneFault b c e → OneFault a c e
-  fault_then e q = (q.0 ∙ ap one_more p.0, q.1)

@@ -3,7 +3,7 @@ use Rattle.std.proofs.Common.{◌≡◌, ℕ, List, [], ◌++◌, Option, sym, �
 use Rattle.std.specs.Io.KnownBytes.{Appends}
 use Rattle.nom_write_stream.specs.declared.outgoing.Outgoing.{Outgoing}
 use Rattle.nom_write_stream.specs.Outgoing.{Sends, held_of}
-use Rattle.nom_write_stream.specs.Targets.{NoFault}
+use Rattle.nom_io.specs.Faults.{NoFault}
 use Rattle.nom_write_stream.proofs.Known.{appends-more, appends-none}
 
 module _ {W A : Type 0} (contents : W → Option (List ℕ)) where
@@ -27,5 +27,5 @@ module _ {W A : Type 0} (contents : W → Option (List ℕ)) where
   )
 
 -- no call was made
-pub no_call : {W A : Type 0} (a b : Outgoing W A) → b.target ≡ a.target → NoFault a.target b.target
-no_call a b t = (ap (λ z. z.faults) t, ap (λ z. z.last_fault) t)
+pub no_call : {W A : Type 0} (a b : Outgoing W A) → b.target ≡ a.target → NoFault a.target.faults b.target.faults
+no_call a b t = (ap (λ z. z.faults.count) t, ap (λ z. z.faults.last) t)

@@ -9,8 +9,8 @@ use Rattle.nom_write_stream.specs.declared.outgoing.Outgoing.{Outgoing}
 use Rattle.nom_write_stream.specs.declared.outgoing.Unwritten.{Unwritten}
 use Rattle.nom_write_stream.specs.declared.outgoing.Unwritten.TheVariants.{TooLong, Mismatch, Nothing, OverLimit, Fault, OutOfMemory}
 use Rattle.nom_write_stream.specs.Outgoing.{WritesItem, WritesItems, Counts, IsItem, Sends, WhyNot}
-use Rattle.nom_write_stream.specs.Targets.{NoFault}
-use Rattle.nom_write_stream.proofs.Known.{fault_then, none_then}
+use Rattle.nom_io.specs.Faults.{NoFault}
+use Rattle.nom_io.proofs.SeveralCalls.{fault_then, none_then}
 use Rattle.nom_write_stream.proofs.Sending.{no_call, sends_none, sends_then}
 
 module _ {O : Type 0} (Form : O → List ℕ → Type 0) where
@@ -43,13 +43,13 @@ take_all zero (v ∷ vs) h = absurd (omega (arith, h))
 take_all (suc k) [] h = refl
 take_all (suc k) (v ∷ vs) h = ap (λ us. v ∷ us) (take_all k vs (omega (arith, h)))
 
-counts_then : {W A : Type 0} (a b c : Outgoing W A) (why : Unwritten) → NoFault a.target b.target → Counts b c why → Counts a c why
-counts_then a b c (TooLong at) p q = none_then a.target b.target c.target p q
-counts_then a b c (Mismatch at) p q = none_then a.target b.target c.target p q
-counts_then a b c Nothing p q = none_then a.target b.target c.target p q
-counts_then a b c OverLimit p q = none_then a.target b.target c.target p q
-counts_then a b c (Fault e) p q = fault_then a.target b.target c.target p e q
-counts_then a b c OutOfMemory p q = none_then a.target b.target c.target p q
+counts_then : {W A : Type 0} (a b c : Outgoing W A) (why : Unwritten) → NoFault a.target.faults b.target.faults → Counts b c why → Counts a c why
+counts_then a b c (TooLong at) p q = none_then a.target.faults b.target.faults c.target.faults p q
+counts_then a b c (Mismatch at) p q = none_then a.target.faults b.target.faults c.target.faults p q
+counts_then a b c Nothing p q = none_then a.target.faults b.target.faults c.target.faults p q
+counts_then a b c OverLimit p q = none_then a.target.faults b.target.faults c.target.faults p q
+counts_then a b c (Fault e) p q = fault_then a.target.faults b.target.faults c.target.faults e p q
+counts_then a b c OutOfMemory p q = none_then a.target.faults b.target.faults c.target.faults p q
 
 module _ {W A O : Type 0} (contents : W → Option (List ℕ)) (Form : O → List ℕ → Type 0) (Fails : O → Space → WriteError → Type 0)
     (vs : List O) where
@@ -58,7 +58,7 @@ module _ {W A O : Type 0} (contents : W → Option (List ℕ)) (Form : O → Lis
     pub bytes : List ℕ
     pub forms : Each (λ v. IsItem (Form v) a.most) (take k vs) bytes
     pub sends : Sends contents a b bytes
-    pub faults : NoFault a.target b.target
+    pub faults : NoFault a.target.faults b.target.faults
 
   pub none_added : (a : Outgoing W A) → Added 0 a a
   none_added a = record { bytes = []; forms = refl; sends = sends_none contents a a refl refl; faults = no_call a a refl }
@@ -69,7 +69,7 @@ module _ {W A O : Type 0} (contents : W → Option (List ℕ)) (Form : O → Lis
       bytes = h.bytes ++ s.0;
       forms = each_more (λ v. IsItem (Form v) a.most) k vs v below is h.bytes s.0 h.forms (subst (λ z. IsItem (Form v) z s.0) m s.1);
       sends = sends_then contents a b c h.bytes s.0 h.sends s.2;
-      faults = none_then a.target b.target c.target h.faults s.3;
+      faults = none_then a.target.faults b.target.faults c.target.faults h.faults s.3;
     }
 
     pub one_halts : (v : O) → k < length vs → v ≡ get_or vs k v → (why : Unwritten) → WritesItem contents b c (Form v) (Fails v) (Err why) →

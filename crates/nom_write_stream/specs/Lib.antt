@@ -1,4 +1,3 @@
 pub mod Outgoing
 pub mod Pipes
 pub mod Reasons
-pub mod Targets

@@ -14,7 +14,8 @@ use Rattle.nom_write_stream.specs.declared.outgoing.Halted.{Halted}
 use Rattle.nom_write_stream.specs.declared.outgoing.Outgoing.{Outgoing}
 use Rattle.nom_write_stream.specs.declared.outgoing.Unwritten.{Unwritten}
 use Rattle.nom_write_stream.specs.declared.outgoing.Unwritten.TheVariants.{TooLong, Mismatch, Nothing, OverLimit, Fault, OutOfMemory}
-use Rattle.nom_write_stream.specs.Targets.{NoFault, OneFault, one_more}
+use Rattle.nom_io.specs.Account.{one_more}
+use Rattle.nom_io.specs.Faults.{NoFault, OneFault}
 
 -- the bytes that aren't written yet
 abbrev pub held_of : {W A : Type 0} → Outgoing W A → List ℕ
@@ -70,23 +71,23 @@ Fits a b Form Fails (Err why) = (held_of b ≡ held_of a) × WhyNot Form Fails a
 
 -- a write failed where that is told, and else none did
 abbrev pub Counts : {W A : Type 0} → (a b : Outgoing W A) → Unwritten → Type 0
-Counts a b (TooLong at) = NoFault a.target b.target
-Counts a b (Mismatch at) = NoFault a.target b.target
-Counts a b Nothing = NoFault a.target b.target
-Counts a b OverLimit = NoFault a.target b.target
-Counts a b (Fault e) = OneFault a.target b.target e
-Counts a b OutOfMemory = NoFault a.target b.target
+Counts a b (TooLong at) = NoFault a.target.faults b.target.faults
+Counts a b (Mismatch at) = NoFault a.target.faults b.target.faults
+Counts a b Nothing = NoFault a.target.faults b.target.faults
+Counts a b OverLimit = NoFault a.target.faults b.target.faults
+Counts a b (Fault e) = OneFault a.target.faults b.target.faults e
+Counts a b OutOfMemory = NoFault a.target.faults b.target.faults
 
 module _ {W A : Type 0} (contents : W → Option (List ℕ)) (a b : Outgoing W A) where
   -- what one `write_item` does: a form of the item is held or written after what was held, or there is a reason
   abbrev pub WritesItem : (List ℕ → Type 0) → (Space → WriteError → Type 0) → Result (Unit {0}) Unwritten → Type 0
-  WritesItem Form Fails (Ok _) = (xs : List ℕ) × IsItem Form a.most xs × Sends contents a b xs × NoFault a.target b.target
+  WritesItem Form Fails (Ok _) = (xs : List ℕ) × IsItem Form a.most xs × Sends contents a b xs × NoFault a.target.faults b.target.faults
   WritesItem Form Fails (Err why) = Sends contents a b [] × WhyNot Form Fails a.most why × Counts a b why
 
   -- what `write_items` does: forms of the items, one after another; or of those before one, and a reason of that one
   abbrev pub WritesItems : {O : Type 0} → (O → List ℕ → Type 0) → (O → Space → WriteError → Type 0) → List O → Result (Unit {0}) Halted →
       Type 0
-  WritesItems Form Fails vs (Ok _) = (xs : List ℕ) × Each (λ v. IsItem (Form v) a.most) vs xs × Sends contents a b xs × NoFault a.target b.target
+  WritesItems Form Fails vs (Ok _) = (xs : List ℕ) × Each (λ v. IsItem (Form v) a.most) vs xs × Sends contents a b xs × NoFault a.target.faults b.target.faults
   WritesItems {O} Form Fails vs (Err h) =
       (xs : List ℕ) × Each (λ v. IsItem (Form v) a.most) (take h.count vs) xs × Sends contents a b xs × (h.count < length vs) ×
       ((v : O) × (v ≡ get_or vs h.count v) × WhyNot (Form v) (Fails v) a.most h.why) × Counts a b h.why

@@ -70,14 +70,14 @@ fn why_of(error: WriteError, start: usize) -> Option<Unwritten>
 impl<W: Write, A: Allocator> Outgoing<W, A> {
     ghost use Rattle.std.specs.Prelude.{◌<◌, [], IfErr, IfOk, OnErr, OnOk};
     ghost use Rattle.nom_write_stream.specs.Outgoing.{WritesItem, WritesItems, Fits, Flushes, Sends, held_of};
-    ghost use Rattle.nom_write_stream.specs.Targets.{CountsWrite, IsLate};
+    ghost use Rattle.nom_io.specs.Faults.{CountsCalls, IsLate};
 
     /// Returns an empty buffer before `target`, and takes the memory for `most` bytes.
     pub fn new(alloc: A, target: W, most: usize) -> Result<Self, OutOfMemory>
     where
         W: Drop,
         ensures none { IfOk result (λ new. held_of new ≡ []) }
-        ensures target { IfOk result (λ new. (new.target.inner ≡ target) × (new.target.faults ≡ 0)) }
+        ensures target { IfOk result (λ new. (new.target.inner ≡ target) × (new.target.faults.count ≡ 0)) }
         ensures most { IfOk result (λ new. new.most ≡ most) }
         ensures memory { OnErr result (0 < most) }
     {
@@ -129,8 +129,8 @@ impl<W: Write, A: Allocator> Outgoing<W, A> {
         ensures none { OnOk result (held_of self.new ≡ []) }
         ensures some { OnErr result (0 < length (held_of self.new)) }
         ensures sends { Sends W.contents self.old self.new [] }
-        ensures counts { CountsWrite self.old.target self.new.target result }
-        ensures again { IfErr result (IsLate self.new.target) }
+        ensures counts { CountsCalls self.old.target.faults self.new.target.faults result }
+        ensures again { IfErr result (IsLate self.new.target.faults) }
         ensures flushes { self.new.target.flushes ≡ self.old.target.flushes }
         ensures most { self.new.most ≡ self.old.most }
     {
@@ -194,7 +194,7 @@ impl<W: Write, A: Allocator> Outgoing<W, A> {
         ensures none { OnOk result (held_of self.new ≡ []) }
         ensures flushed { Flushes self.old self.new result }
         ensures sends { Sends W.contents self.old self.new [] }
-        ensures counts { CountsWrite self.old.target self.new.target result }
+        ensures counts { CountsCalls self.old.target.faults self.new.target.faults result }
         ensures most { self.new.most ≡ self.old.most }
     {
         match self.send() {

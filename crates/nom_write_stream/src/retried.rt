@@ -4,7 +4,7 @@
 ghost use Rattle.std.specs.Prelude.{◌≡◌, ◌-◌, ◌^◌, ◌<◌, ◌≤◌, IfErr, IfOk, IfSome, length, take, MatchOption};
 ghost use Rattle.std.specs.Io.{WritesAtMost};
 ghost use Rattle.std.specs.Io.KnownBytes.{Appends, WriteAppends};
-ghost use Rattle.nom_write_stream.specs.Targets.{CountsWrite, IsLate, NoFault, OneFault};
+ghost use Rattle.nom_io.specs.Faults.{CountsCalls, IsLate, NoFault, OneFault};
 
 use crate::target::Target;
 use std::io;
@@ -19,8 +19,8 @@ impl<W: Write> Target<W> {
         ensures bound { WritesAtMost result bytes.now }
         ensures some { IfOk result (λ n. 0 < n) }
         ensures bytes { WriteAppends (W.contents self.old.inner) (W.contents self.new.inner) result bytes.now }
-        ensures counts { CountsWrite self.old self.new result }
-        ensures again { IfErr result (IsLate self.new) }
+        ensures counts { CountsCalls self.old.faults self.new.faults result }
+        ensures again { IfErr result (IsLate self.new.faults) }
         ensures flushes { self.new.flushes ≡ self.old.flushes }
     {
         for _turn in 0..u64::MAX {
@@ -50,9 +50,9 @@ impl<W: Write> Target<W> {
     pub fn write_all(&mut self, bytes: &[u8]) -> (usize, Option<io::Error>)
         ensures within { result.0 ≤ length bytes.now }
         ensures wrote { Appends (W.contents self.old.inner) (W.contents self.new.inner) (take result.0 bytes.now) }
-        ensures told { MatchOption result.1 ((result.0 ≡ length bytes.now) × NoFault self.old self.new)
-            (λ e. (result.0 < length bytes.now) × OneFault self.old self.new e) }
-        ensures again { IfSome result.1 (IsLate self.new) }
+        ensures told { MatchOption result.1 ((result.0 ≡ length bytes.now) × NoFault self.old.faults self.new.faults)
+            (λ e. (result.0 < length bytes.now) × OneFault self.old.faults self.new.faults e) }
+        ensures again { IfSome result.1 (IsLate self.new.faults) }
         ensures flushes { self.new.flushes ≡ self.old.flushes }
     {
         let mut at = 0;

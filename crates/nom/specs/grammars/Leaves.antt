@@ -12,7 +12,7 @@ use Rattle.nom_bytes.specs.Untils.{until_meaning}
 use Rattle.nom_character_first.specs.FirstItem.{anychar_meaning, char_meaning, satisfy_meaning}
 use Rattle.nom_character.specs.ClassRuns.{class_meaning}
 use Rattle.nom_character.specs.LineMatches.{crlf_meaning, line_ending_meaning, line_meaning}
-use Rattle.nom_character_digits.specs.CountedDigits.{digits_meaning}
+use Rattle.nom_character_integer.specs.CountedDigits.{digits_meaning}
 use Rattle.nom_character_integer.specs.Integers as Integers
 use Rattle.nom_combinator.specs.Ends.{eof_meaning, fail_meaning, rest_len_meaning, rest_meaning}
 use Rattle.nom_number.specs.declared.order.Endianness.{Endianness}

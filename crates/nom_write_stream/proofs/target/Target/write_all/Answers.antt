@@ -1,6 +1,7 @@
 use Rattle.std.proofs.Common.{arith, ◌≤◌, ◌-◌, ◌∙◌, length}
 use Rattle.std.proofs.lemmas.List.{places}
-use Rattle.nom_write_stream.proofs.Known.{appends-more, none_then, take-on}
+use Rattle.nom_io.proofs.SeveralCalls.{none_then}
+use Rattle.nom_write_stream.proofs.Known.{appends-more, take-on}
 use Rattle.nom_write_stream.proofs.target.Target.write_all.Goals as goal
 
 pub loop-at-preserved : goal.loop-at-preserved
@@ -13,6 +14,6 @@ loop-at-preserved g c =
       wrote = rw (take-on c.args.bytes.now c.loop-at.at c.in-Ok.count low high)
           (appends-more (g.W.Write.contents c.args.self.now.inner) (g.W.Write.contents c.loop-at.self.inner)
           (g.W.Write.contents c.write.new.self.inner) _ _ c.loop-at.invariant.wrote c.in-Ok.ensures.bytes);
-      none = none_then c.args.self.now c.loop-at.self c.write.new.self c.loop-at.invariant.none c.in-Ok.ensures.counts;
+      none = none_then c.args.self.now.faults c.loop-at.self.faults c.write.new.self.faults c.loop-at.invariant.none c.in-Ok.ensures.counts;
       flushes = c.in-Ok.ensures.flushes ∙ c.loop-at.invariant.flushes;
     }

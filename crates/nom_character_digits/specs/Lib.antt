@@ -1,4 +1,0 @@
-pub mod CountedDigits
-pub mod CountedRead
-pub mod Words
-pub mod laws

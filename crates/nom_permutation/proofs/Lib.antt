@@ -1,5 +1,0 @@
-mod Applied
-mod Orders
-pub mod Places
-mod Turns
-pub mod Wider

@@ -1,4 +1,0 @@
-pub mod MemberLaws
-pub mod NestedLaws
-pub mod PermutationLaws
-pub mod RoundLaws
