@@ -1,5 +1,5 @@
 -- Lemmas on the answers of a run with a bound.
-use Rattle.std.proofs.Common.{◌≡◌, ℕ, ◌-◌, ◌<◌, ◌≤◌, min, max, ◌⊎◌, Option, Some, None, Bool, true, false, [], length, refl, sym, ◌∙◌, ap, subst}
+use Rattle.std.proofs.Common.{◌≡◌, ℕ, ◌-◌, ◌<◌, ◌≤◌, min, max, ◌⊎◌, Option, Some, None, MatchOption, Bool, true, false, not, is_some, [], length, refl, sym, ◌∙◌, ap, subst}
 use Rattle.std.proofs.Common.{arith, append-nil, inl, inr}
 use Rattle.std.proofs.lemmas.Bool.{cases_lt}
 use Rattle.nom_internal.specs.Prelude.{Model, input_len, Slice, LeafAnswers, Outcome, Accept, Refuse, Stop, Needs}
@@ -80,3 +80,30 @@ module _ {I A : Type 0} (w : Model I A) (Test : A → Bool → Type 0) (most lea
   more_needed s i o count n size e q f g a =
       let h = subst (λ z. Reaches w Test most i z count) q a in
       (e, (h.0, omega (arith, h.1, h.2), ap Some (g ∙ ap (λ m. max 1 (least - m)) f)))
+
+  -- at the run's end: `p` has its length and how many items are enough
+  pub ended_enough : (s : Bool) (i : I) (o : Option ℕ) (count whole fewer : ℕ) (p : ℕ × ℕ) → (o ≡ None → s ≡ false) → whole ≡ input_len w i →
+      fewer ≡ min least most → MatchOption o (p ≡ (whole, least)) (λ n. p ≡ (n, fewer)) → Reaches w Test most i o count → p.1 ≤ count →
+      (t : Slice w) × Answers s i (Accept p.0 t)
+  ended_enough s i None count whole fewer p over f g h a k =
+      subst (λ q. (t : Slice w) × Answers s i (Accept q.0 t)) (sym h) (all_enough s i None whole count (over refl) refl f a (subst (λ q. q.1 ≤ count) h k))
+  ended_enough s i (Some n) count whole fewer p over f g h a k =
+      let enough : min least most ≤ count = subst (λ z. z ≤ count) g (subst (λ q. q.1 ≤ count) h k) in
+      subst (λ q. (t : Slice w) × Answers s i (Accept q.0 t)) (sym h) (item_follows s i (Some n) n count refl a enough)
+
+  pub ended_few : (s : Bool) (i : I) (o : Option ℕ) (count whole fewer : ℕ) (p : ℕ × ℕ) → (o ≡ None → s ≡ false) →
+      fewer ≡ min least most → MatchOption o (p ≡ (whole, least)) (λ n. p ≡ (n, fewer)) → Reaches w Test most i o count → count < p.1 →
+      Answers s i Refuse
+  ended_few s i None count whole fewer p over g h a k = all_short s i None count (over refl) refl a (subst (λ q. count < q.1) h k)
+  ended_few s i (Some n) count whole fewer p over g h a k =
+      let few : count < min least most = subst (λ z. count < z) g (subst (λ q. count < q.1) h k) in
+      falls_short s i (Some n) n count refl a few
+
+pub is_none : (o : Option ℕ) (b : Bool) → is_some o ≡ not b → b ≡ true → o ≡ None
+is_none None b e t = refl
+is_none (Some n) b e t = absurd (cc (e, t))
+
+pub isnt_none : {P : Type 0} (o : Option ℕ) (b : Bool) → is_some o ≡ not b → b ≡ false → o ≡ None → P
+isnt_none None true e f q = absurd (cc (f))
+isnt_none None false e f q = absurd (cc (e))
+isnt_none (Some n) b e f q = absurd (cc (q))

@@ -1,5 +1,5 @@
 //! Runs with a lower and an upper bound.
-ghost use Rattle.std.specs.Prelude.{◌≡◌, ◌-◌, ℕ, max, Some};
+ghost use Rattle.std.specs.Prelude.{◌≡◌, ◌-◌, ℕ, max, Some, MatchOption};
 ghost use Rattle.nom_error.specs.declared.kind.ErrorKind.TheVariants as Kind;
 ghost use Rattle.nom_internal.specs.Prelude.{Slice, slice_pinned, sliced, premised, premised_lawful, premised_steady};
 ghost use Rattle.nom_bytes.specs.ParsedRuns.{Reaches, bounded_meaning};
@@ -40,6 +40,19 @@ fn bounded_run<I: Input, P: Predicate<I::Item>>(
     (None, count)
 }
 
+/// Returns the length of the run, and how many items are enough: `least` if an item follows, and `m` at the end of
+/// the input.
+// One end for both, so that the compiler doesn't keep two.
+#[inline(always)]
+fn run_end(place: Option<usize>, whole: usize, least: usize, m: usize) -> (usize, usize)
+    ensures { MatchOption place (result ≡ (whole, m)) (λ n. result ≡ (n, least)) }
+{
+    match place {
+        Some(n) => (n, least),
+        None => (whole, m),
+    }
+}
+
 /// Returns how much `length` is short of `least`, and at least 1.
 #[inline(always)]
 fn lack(least: usize, length: usize) -> usize
@@ -78,21 +91,14 @@ impl<I: Input, P: Predicate<I::Item>, E: ParseError<I>> Parser<I> for TakeWhileM
     fn process<OM: OutputMode>(&mut self, input: I) -> PResult<I, I, E> {
         let least = self.m.min(self.n);
         let (place, count) = bounded_run::<I, P>(input, &self.predicate, self.n);
-        match place {
-            // An item follows, so that as many as the bound are enough.
-            Some(n) if least <= count => {
-                Ok((input.take_from(n), front::<OM::Output, I>(input, n)))
-            }
-            Some(_) => Err(refusal::<OM::Error, I, E>(input, ErrorKind::TakeWhileMN)),
-            None if OM::Incomplete::STREAMING => Err(Err::Incomplete(Needed::new(lack(
-                self.m,
-                input.input_len(),
-            )))),
-            None if self.m <= count => {
-                let n = input.input_len();
-                Ok((input.take_from(n), front::<OM::Output, I>(input, n)))
-            }
-            None => Err(refusal::<OM::Error, I, E>(input, ErrorKind::TakeWhileMN)),
+        if place.is_none() && OM::Incomplete::STREAMING {
+            return Err(Err::Incomplete(Needed::new(lack(self.m, input.input_len()))));
+        }
+        let (n, enough) = run_end(place, input.input_len(), least, self.m);
+        if enough <= count {
+            Ok((input.take_from(n), front::<OM::Output, I>(input, n)))
+        } else {
+            Err(refusal::<OM::Error, I, E>(input, ErrorKind::TakeWhileMN))
         }
     }
 

@@ -1,14 +1,18 @@
 -- Runs of the items of a class. How many are wanted is None, where there may be none, or Some of the kind of the refusal, where one is wanted at least.
-use Rattle.std.specs.Prelude.{◌≡◌, ℕ, Bool, Option, Some, None}
+use Rattle.std.specs.Prelude.{◌≡◌, ℕ, Bool, true, false, cond, Option, Some, None}
 use Rattle.nom_internal.specs.Prelude.{ErrorKind, Errors, has_code, Model, AreValues, Slice, Meaning, IsLawful, IsSteady, leaf_meaning}
 use Rattle.nom_traits.specs.declared.character.AsciiClass.{AsciiClass}
 use Rattle.nom_bytes.specs.Predicates.{IsFixed}
 use Rattle.nom_bytes.specs.ParsedRuns.{runs}
 use Rattle.nom_bytes.specs.laws.RunLaws.{run_lawful, run_steady}
 
+-- one is wanted at least
+abbrev pub is_wanted : Option ErrorKind → Bool
+is_wanted None = false
+is_wanted (Some kind) = true
+
 abbrev pub least_of : Option ErrorKind → ℕ
-least_of None = 0
-least_of (Some kind) = 1
+least_of wanted = cond (is_wanted wanted) 1 0
 
 module _ {I E : Type 0} (errs : Errors I E) where
   abbrev pub wanted_error : Option ErrorKind → I → E → Type 0

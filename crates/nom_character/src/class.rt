@@ -1,13 +1,14 @@
 //! Runs of the items of a class.
-ghost use Rattle.std.specs.Prelude.{Option, Some, None, true, false, MatchOption};
+ghost use Rattle.std.specs.Prelude.{Option, Some, None, MatchOption};
 ghost use Rattle.nom_internal.specs.Prelude.{modes, Refuses, ErrorKind, IsInside, IsOutside, Slice, IsModelledBy, ShowsMeaning, slice_pinned, sliced};
 ghost use Rattle.nom_error.specs.declared.kind.ErrorKind.TheVariants as Kind;
 ghost use Rattle.nom_traits.specs.declared.character.AsciiClass.{AsciiClass};
 ghost use Rattle.nom_traits.specs.declared.character.AsciiClass.TheVariants as Class;
-ghost use Rattle.nom_traits.specs.Splits.{Splits, Never, FrontBuilt, IsRunLength, IsRunOpen};
-ghost use Rattle.nom_character.specs.ClassRuns.{class_meaning, class_lawful, class_steady};
+ghost use Rattle.nom_traits.specs.Splits.{Splits, FrontBuilt, IsRunLength, IsRunOpen};
+ghost use Rattle.nom_character.specs.ClassRuns.{class_meaning, class_lawful, class_steady, is_wanted, wanted_error, wanted_grows};
 ghost use Rattle.nom_character.specs.Words as Words;
 
+use crate::scan::first_outside;
 use nom_error::answer::{Err, Needed, PResult};
 use nom_error::kind::ErrorKind;
 use nom_error::mode::{IsStreaming, OutputMode};
@@ -27,46 +28,35 @@ where
         (IsRunOpen I.model (λ x. IsInside class (I.Item.code x)) (λ x. IsOutside class (I.Item.code x)) S.STREAMING input)
         (IsRunLength I.model (λ x. IsInside class (I.Item.code x)) (λ x. IsOutside class (I.Item.code x)) S.STREAMING input) }
 {
-    match input.position_outside(class) {
+    match first_outside(input, class) {
         Some(n) => Some(n),
         None if S::STREAMING => None,
         None => Some(input.input_len()),
     }
 }
 
-/// Accepts the run of items in the class, which may be empty.
+/// Accepts the run of items in the class. If it is empty, it is refused with the kind in `wanted`, if there is one.
 #[inline(always)]
 fn class_split<OM: OutputMode, I: Input, E: ParseError<I>>(
     input: I,
     class: AsciiClass,
+    wanted: Option<ErrorKind>,
 ) -> PResult<I, I, E>
 where
     I::Item: AsChar,
-    ensures { Splits I.model (λ x. IsInside class (I.Item.code x)) (λ x. IsOutside class (I.Item.code x)) OM.Incomplete.STREAMING input false
-        (FrontBuilt I.model OM.Output.BUILDS) Never result }
+    ensures { Splits I.model (λ x. IsInside class (I.Item.code x)) (λ x. IsOutside class (I.Item.code x)) OM.Incomplete.STREAMING input (is_wanted wanted)
+        (FrontBuilt I.model OM.Output.BUILDS)
+        (Refuses (wanted_error E.errors wanted input) (wanted_grows E.errors wanted) OM.Error.BUILDS) result }
 {
     match class_len::<I, OM::Incomplete>(input, class) {
-        Some(n) => Ok((input.take_from(n), front_built::<OM::Output, I>(input, n))),
-        None => Err(Err::Incomplete(Needed::new(1))),
-    }
-}
-
-/// Accepts the run of items in the class, and refuses with `kind` if it is empty.
-#[inline(always)]
-fn class_split1<OM: OutputMode, I: Input, E: ParseError<I>>(
-    input: I,
-    class: AsciiClass,
-    kind: ErrorKind,
-) -> PResult<I, I, E>
-where
-    I::Item: AsChar,
-    ensures { Splits I.model (λ x. IsInside class (I.Item.code x))
-        (λ x. IsOutside class (I.Item.code x)) OM.Incomplete.STREAMING input true (FrontBuilt I.model OM.Output.BUILDS)
-        (Refuses (E.errors.of_kind input kind) E.errors.grows OM.Error.BUILDS) result }
-{
-    match class_len::<I, OM::Incomplete>(input, class) {
-        Some(n) if n == 0 => Err(refusal::<OM::Error, I, E>(input, kind)),
-        Some(n) => Ok((input.take_from(n), front_built::<OM::Output, I>(input, n))),
+        Some(n) => {
+            if n == 0 {
+                if let Some(kind) = wanted {
+                    return Err(refusal::<OM::Error, I, E>(input, kind));
+                }
+            }
+            Ok((input.take_from(n), front_built::<OM::Output, I>(input, n)))
+        }
         None => Err(Err::Incomplete(Needed::new(1))),
     }
 }
@@ -84,10 +74,7 @@ where
     ensures { ShowsMeaning I.model (IsModelledBy I.model) (class_meaning I.model I.Item.code E.errors class wanted)
         (modes OM.Output.BUILDS OM.Error.BUILDS OM.Incomplete.STREAMING) input result }
 {
-    match wanted {
-        None => class_split::<OM, I, E>(input, class),
-        Some(kind) => class_split1::<OM, I, E>(input, class, kind),
-    }
+    class_split::<OM, I, E>(input, class, wanted)
 }
 
 /// A parser of the items of a class: one or more if `wanted` has a kind, and otherwise zero or more.

@@ -14,6 +14,7 @@ mod line_ends;
 mod one;
 pub mod predicate;
 mod runs;
+mod scan;
 pub mod streaming;
 
 pub use crate::class::{ClassRun, Digit1, MultiSpace0};

@@ -94,12 +94,20 @@ where
         (modes OM.Output.BUILDS OM.Error.BUILDS OM.Incomplete.STREAMING) input result }
 {
     match first(input) {
-        Some(item) if test.meets(item) => Ok((
-            after::<I>(input, item),
-            character::<OM::Output, I::Item>(item),
-        )),
-        Some(_) => Err(refused::<OM::Error, I, E>(input, blame)),
-        None if OM::Incomplete::STREAMING => Err(Err::Incomplete(lack)),
-        None => Err(refused::<OM::Error, I, E>(input, blame)),
+        Some(item) => {
+            if test.meets(item) {
+                return Ok((
+                    after::<I>(input, item),
+                    character::<OM::Output, I::Item>(item),
+                ));
+            }
+        }
+        None => {
+            if OM::Incomplete::STREAMING {
+                return Err(Err::Incomplete(lack));
+            }
+        }
     }
+    // The error of both refusals is made at one place, since that may be much code.
+    Err(refused::<OM::Error, I, E>(input, blame))
 }

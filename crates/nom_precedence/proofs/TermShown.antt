@@ -1,13 +1,12 @@
 -- Lemmas on the value that is built of a term.
-use Rattle.std.proofs.Common.{◌≡◌, ◌++◌, Bool, true, false, Option, Some, None, MatchOption, List, [], ◌∷◌, refl, sym, ◌∙◌, ap, subst}
+use Rattle.std.proofs.Common.{◌≡◌, Bool, true, false, Option, Some, None, MatchOption, List, [], ◌∷◌, refl, ◌∙◌, ap, subst}
 use Rattle.std.specs.List.{AllZip}
-use Rattle.std.specs.declared.vec.Vec.{Vec}
 use Rattle.nom.specs.Prelude.{Built, BuiltFrom, BuiltFromBoth}
-use Rattle.nom.proofs.ListAccumulated.{ListPushes, list_of_none}
 use Rattle.nom.specs.Accumulated.{Adds, Accumulated}
 use Rattle.nom_precedence.specs.Expressions.{Tail, term_of}
 use Rattle.nom_precedence.specs.Told.{AppliedPushes, Before}
 use Rattle.nom_precedence.specs.Values.{PostfixesBy, PrefixesBy, TailBy, TermBy}
+use Rattle.nom_precedence.proofs.PrefixesShown.{ListPushes, list_of_none}
 use Rattle.nom_precedence.proofs.ReadShown.{built_from_both}
 
 module _ {K L O G Q : Type 0} (value : K → Option O) (fold : K → L) (Gives : L → O → G → O → Type 0) (IsPostfix : Q → G → Type 0) where
@@ -60,26 +59,17 @@ before_gives IsPrefix OnPrefix [] (c ∷ cs) x y z h = absurd z
 before_gives IsPrefix OnPrefix (p ∷ ps) [] x y z h = absurd z
 before_gives IsPrefix OnPrefix (p ∷ ps) (c ∷ cs) x y z h = (c, h.0, z.0, before_gives IsPrefix OnPrefix ps cs x h.0 z.1 h.1, h.2)
 
-module _ {P V Q F O G A : Type 0} (IsPrefix : P → F → Type 0) (IsOperand : V → O → Type 0) (IsPostfix : Q → G → Type 0) (OnPrefix : F → O → O → Type 0)
-    (OnPostfix : O → G → O → Type 0) (ps : List P) (t : Tail V Q) where
+module _ {P V Q F O G K : Type 0} (items : K → List F) (CanPush : K → Type 0) (IsPrefix : P → F → Type 0) (IsOperand : V → O → Type 0)
+    (IsPostfix : Q → G → Type 0) (OnPrefix : F → O → O → Type 0) (OnPostfix : O → G → O → Type 0) (ps : List P) (t : Tail V Q) where
   -- a term's value, from the prefixes that were kept and the value after them
-  pub term_built : (outputs : Bool) (start list : Option (Vec F A)) (x y : Option O) → Built outputs (λ (l : Vec F A). l.items ≡ []) start →
-      Built outputs (Accumulated ListPushes (λ _. Unit {0}) IsPrefix start ps) list → Built outputs (TailBy IsOperand IsPostfix OnPostfix t) x →
-      BuiltFromBoth true (λ cs a b. Before OnPrefix cs.items a b) list x y →
+  pub term_built : (outputs : Bool) (start kept : Option K) (x y : Option O) → Built outputs (λ k. items k ≡ []) start →
+      Built outputs (Accumulated (ListPushes items) CanPush IsPrefix start ps) kept → Built outputs (TailBy IsOperand IsPostfix OnPostfix t) x →
+      BuiltFromBoth true (λ k a b. Before OnPrefix (items k) a b) kept x y →
       Built outputs (TermBy IsPrefix IsOperand IsPostfix OnPrefix OnPostfix (term_of ps t)) y
-  term_built outputs start list x y e h q b = built_from_both outputs list x y (λ cs a d h k s. record {
+  term_built outputs start kept x y e h q b = built_from_both outputs kept x y (λ cs a d h k s. record {
     operand = k.operand;
     is_operand = k.is_operand;
     rest = a;
     postfixes_give = k.postfixes_give;
-    prefixes_give = before_gives IsPrefix OnPrefix ps cs.items a d (list_of_none IsPrefix outputs e ps cs h) s;
+    prefixes_give = before_gives IsPrefix OnPrefix ps (items cs) a d (list_of_none items CanPush IsPrefix outputs start ps cs e h) s;
   }) h q b
-
--- prefixes, the last of which is applied first
-pub before_last : {P X : Type 0} (Gives : P → X → X → Type 0) (items rest : List P) (p : P) (x y z : X) → items ≡ rest ++ p ∷ [] → Gives p x y →
-    Before Gives rest y z → Before Gives items x z
-before_last {P} {X} Gives items rest p x y z e g h = subst (λ ps. Before Gives ps x z) (sym e) (all rest z h)
-  where
-    all : (ps : List P) (u : X) → Before Gives ps y u → Before Gives (ps ++ p ∷ []) x u
-    all [] u k = (x, refl, subst (λ v. Gives p x v) (sym k) g)
-    all (q ∷ ps) u k = (k.0, all ps k.0 k.1, k.2)

@@ -1,5 +1,5 @@
 -- The results that are told of what was read.
-use Rattle.std.specs.Prelude.{◌≡◌, ℕ, Bool, true, List, [], ◌∷◌, Option, Some, length}
+use Rattle.std.specs.Prelude.{◌≡◌, ℕ, Bool, true, List, [], ◌∷◌, Option, Some, None, length}
 use Rattle.std.specs.List.{AllZip}
 use Rattle.nom.specs.Prelude.{PResult, Built, Modes, with_outputs, Errors, Grammar, Model, ShowsAnswer, Meaning}
 use Rattle.nom_operators.specs.Groups.{groups_left}
@@ -48,6 +48,11 @@ pub record AppliedPushes {K L X Q : Type 0} (value : K → Option X) (fold : K �
   pub after_is : value new ≡ Some rest
   pub given : Gives (fold old) before item rest
   pub fold_is : fold new ≡ fold old
+
+-- the prefixes of a term: the first, if any, and more after it
+abbrev pub all_prefixes : {P : Type 0} → Option P → List P → List P
+all_prefixes (Some p) ps = p ∷ ps
+all_prefixes None ps = ps
 
 -- Prefixes are applied to a value, the last first.
 abbrev pub Before : {P X : Type 0} → (P → X → X → Type 0) → List P → X → X → Type 0

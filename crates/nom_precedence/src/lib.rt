@@ -7,6 +7,7 @@ ghost use Rattle.std.specs.Prelude.{◌≡◌};
 
 pub mod expression;
 pub mod pairs;
+pub mod prefixes;
 pub mod read;
 pub mod term;
 

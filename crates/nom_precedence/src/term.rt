@@ -1,12 +1,13 @@
 //! Terms: prefixes, an operand, postfixes.
 ghost use Rattle.std.specs.Prelude.{◌≡◌, IsSome, None, Some, true, MatchOption};
 ghost use Rattle.nom.specs.Prelude.{BuiltFrom, BuiltFromBoth, modes};
-ghost use Rattle.nom_precedence.specs.Told.{AppliedPushes, Before, ShowsRead, tail_by, term_by};
+ghost use Rattle.nom_precedence.specs.Told.{AppliedPushes, Before, ShowsRead, all_prefixes, tail_by, term_by};
 ghost use Rattle.nom_operators.specs.declared.operation.Operation.{Operation};
 ghost use Rattle.nom_operators.specs.declared.operation.Operation.TheVariants.{Postfix, Prefix};
 
+use crate::prefixes::{Prefixes, no_prefixes, under};
 use crate::read::{Read, affixes};
-use nom::extend::{Accumulator, emitted, none_yet};
+use nom::extend::{Accumulator, emitted};
 use nom::{Input, Items, OutOfMemory, OutputMode, PResult, Parser};
 use nom_operators::operation::Operation;
 use std::alloc::Allocator;
@@ -70,31 +71,15 @@ fn value_of<'a, P: Drop, B: Drop, O: Drop, G>(applied: Option<Applied<'a, P, B, 
     }
 }
 
-/// Returns the value under prefixes, the last of them first.
-fn under<P: Drop, Q: Drop, B: Drop, O: Drop, A: Allocator, G: Fn(Operation<P, Q, B, O>) -> O>(
-    mut prefixes: Vec<P, A>,
-    value: O,
-    fold: &G,
-) -> O
-    requires { (x : Operation P Q B O) → G.pre fold.now x }
-    ensures { Before (λ p x y. G.post fold.now (Prefix p x) y) prefixes.items value result }
-{
-    let mut value = value;
-    while let Some(prefix) = prefixes.pop() {
-        value = fold(Operation::Prefix(prefix, value));
-    }
-    value
-}
-
 /// Returns the value of a term, if it is built.
 #[inline(always)]
 fn finished<P: Drop, Q: Drop, B: Drop, O: Drop, A: Allocator, G: Fn(Operation<P, Q, B, O>) -> O>(
-    prefixes: Option<Vec<P, A>>,
+    prefixes: Option<Prefixes<P, A>>,
     value: Option<O>,
     fold: &G,
 ) -> Option<O>
     requires { (x : Operation P Q B O) → G.pre fold.now x }
-    ensures { BuiltFromBoth true (λ ps x y. Before (λ p a b. G.post fold.now (Prefix p a) b) ps.items x y) prefixes value result }
+    ensures { BuiltFromBoth true (λ ps x y. Before (λ p a b. G.post fold.now (Prefix p a) b) (all_prefixes ps.first ps.more.items) x y) prefixes value result }
 {
     match prefixes {
         Some(prefixes) => match value {
@@ -165,8 +150,8 @@ pub fn term<
     ensures operand_kept { F.state operand.new ≡ F.state operand.old }
     ensures postfix_kept { Q.state postfix.new ≡ Q.state postfix.old }
 {
-    let none = none_yet::<OM::Output, P::Output, A>(alloc);
-    let (rest, before) = affixes::<OM, I, P, Vec<P::Output, A>>(prefix, input, none)?;
+    let none = no_prefixes::<OM::Output, P::Output, A>(alloc);
+    let (rest, before) = affixes::<OM, I, P, Prefixes<P::Output, A>>(prefix, input, none)?;
     match emitted(before) {
         Read::Stuck => Ok((rest, Some(Read::Stuck))),
         Read::Whole(prefixes) => {

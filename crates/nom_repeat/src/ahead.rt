@@ -1,5 +1,5 @@
 //! Items of which an input is certain: as many of a fixed width as it has.
-ghost use Rattle.std.specs.Prelude.{◌≡◌, ◌≤◌, [], length};
+ghost use Rattle.std.specs.Prelude.{◌≡◌, ◌≤◌, [], length, false};
 ghost use Rattle.nom_internal.specs.Prelude.{Built};
 ghost use Rattle.nom_repeat.specs.Accumulated.{Accumulated, HasRoomFor};
 ghost use Rattle.nom_repeat.specs.Certain.{AreCertain};
@@ -9,10 +9,22 @@ ghost use Rattle.nom_repeat.specs.declared.items.Limits.{Limits};
 
 use crate::accumulator::{Accumulator, has_room_for, push_within, with_room};
 use nom_error::answer::Err;
-use nom_error::mode::{Check, Mode, OutputM, OutputMode};
+use nom_error::mode::{Mode, OutputM, OutputMode};
 use nom_internal::parser::Parser;
 use nom_traits::input::Items;
 use std::alloc::Allocator;
+
+/// The mode of errors where no item is refused: none is built, as in `Check`.
+///
+/// It is a type of its own, so that a loop over such items has its own copy of the parser. A copy that has one caller is
+/// inlined, however large it is.
+struct NeverRefused;
+
+impl Mode for NeverRefused {
+    ghost BUILDS = { false };
+
+    const BUILDS: bool = false;
+}
 
 /// Returns a number of items of which the input is certain, at most `most`.
 #[inline(always)]
@@ -69,7 +81,7 @@ pub fn certain_items<OM: OutputMode, I: Items, F: Parser<I>, K: Accumulator<F::O
     let mut kept = before;
     let mut done = 0usize;
     while done < count {
-        match parser.process::<OutputM<OM::Output, Check, OM::Incomplete>>(rest) {
+        match parser.process::<OutputM<OM::Output, NeverRefused, OM::Incomplete>>(rest) {
             Ok((next, item)) => {
                 push_within::<OM::Output, _, _>(&mut kept, item);
                 rest = next;
@@ -83,7 +95,9 @@ pub fn certain_items<OM: OutputMode, I: Items, F: Parser<I>, K: Accumulator<F::O
 
 /// Parses the items of which the input is certain, at most `most`, and adds them to `before` if it has room for
 /// them all. It returns their number too.
-#[inline(always)]
+///
+/// It is compiled apart, so that nothing is left of it if the parser has no width, and then goes in.
+#[inline]
 pub fn items_ahead<OM: OutputMode, I: Items, F: Parser<I>, K: Accumulator<F::Output> + Drop>(
     parser: &mut F,
     input: I,

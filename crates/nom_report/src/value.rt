@@ -35,7 +35,7 @@ pub struct Report<I> {
 
 impl<I> Report<I> {
     // One thing that was wanted.
-    #[inline(always)]
+    #[inline(never)]
     fn new(at: I, wanted: Expected) -> Report<I>
         ensures { Wants at (seen wanted) result }
     {

@@ -20,5 +20,5 @@ returns-in-Stuck-emitted-clause-shown g c = first_whole g.met.I.Items.lawful (to
 
 pub returns-in-Whole-emitted-clause-shown : goal.returns-in-Whole-emitted-clause-shown
 returns-in-Whole-emitted-clause-shown g c = first_whole g.met.I.Items.lawful (told_ok c.emitted.ensures c.in-Whole.is c.in_ok-rest.ensures.shown)
-    (λ ps b. whole_after (λ t k. term_built _ _ _ _ _ _ _ _ _ _ _ _ c.none_yet-none.ensures.empty b k c.finished.ensures)
+    (λ ps b. whole_after (λ t k. term_built _ _ _ _ _ _ _ _ _ _ _ _ _ _ c.no_prefixes-none.ensures.empty b k c.finished.ensures)
     (told_ok c.emitted-in-Whole.ensures c.in-Whole-emitted.is c.in_ok-end-in-Whole.ensures.shown))
