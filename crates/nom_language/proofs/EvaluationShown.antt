@@ -6,6 +6,7 @@ use Rattle.nom_internal.proofs.Shown.{Accepts}
 use Rattle.nom_repeat.specs.Accumulated.{Adds, Accumulated}
 use Rattle.nom_operators.specs.Evaluations.{IsValueOf, term_symbols}
 use Rattle.nom_operators.specs.OperatorTrees.{Symbol}
+use Rattle.nom_operators.specs.Prefixes.{prefixes_in}
 use Rattle.nom_operators.specs.OperatorTrees.Symbol.{OfBinary}
 use Rattle.nom_operators.specs.declared.operation.Operation.{Operation}
 use Rattle.nom_operators.specs.declared.pending.Partial.{Partial}
@@ -42,7 +43,7 @@ closed_lacks {streaming = streaming} Closes Grows Lacks m a h =
 
 -- the prefixes of a term that was built wait
 pub term_waits : {T P O Q M : Type 0} (IsTerm : T → TermOutput P O Q M → Type 0) (t : T) (built : Option (TermOutput P O Q M)) (term : TermOutput P O Q M) →
-    built ≡ Some term → Built true (IsTerm t) built → 1 < length term.0.items → PrefixesWait IsTerm t
+    built ≡ Some term → Built true (IsTerm t) built → 1 < length (prefixes_in term.0) → PrefixesWait IsTerm t
 term_waits IsTerm t built term e b h =
     let same : term ≡ b.0 = some_same term b.0 (sym e ∙ b.1) in
     (term, subst (IsTerm t) (sym same) b.2, h)

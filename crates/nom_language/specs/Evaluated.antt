@@ -4,17 +4,19 @@ use Rattle.std.specs.List.{AllZip}
 use Rattle.nom_operators.specs.Evaluations.{IsValueOf, term_symbols}
 use Rattle.nom_operators.specs.OperatorTrees.{Symbol}
 use Rattle.nom_operators.specs.OperatorTrees.Symbol.{OfBinary}
+use Rattle.nom_operators.specs.Prefixes.{prefixes_in}
 use Rattle.nom_operators.specs.declared.operation.Operation.{Operation}
 use Rattle.nom_operators.specs.declared.precedences.Unary.{Unary}
 use Rattle.nom_operators.specs.declared.precedences.Binary.{Binary}
+use Rattle.nom_operators.specs.declared.prefixes.Prefixes.{Prefixes}
 
 -- a term's output: prefixes, an operand, postfixes
 abbrev pub TermOutput : Type 0 → Type 0 → Type 0 → Type 0 → Type 0
-TermOutput P O Q M = Vec (Unary P) M × O × Vec (Unary Q) M
+TermOutput P O Q M = Prefixes (Unary P) M × O × Vec (Unary Q) M
 
 -- what stands in a term, and in pairs of an operator and a term
 abbrev pub symbols_of_term : {P O Q B M : Type 0} → TermOutput P O Q M → List (Symbol (Unary P) O (Unary Q) (Binary B))
-symbols_of_term t = term_symbols t.0.items t.1 t.2.items
+symbols_of_term t = term_symbols (prefixes_in t.0) t.1 t.2.items
 
 abbrev pub symbols_of_pairs : {P O Q B M : Type 0} → List (Binary B × TermOutput P O Q M) → List (Symbol (Unary P) O (Unary Q) (Binary B))
 symbols_of_pairs [] = []

@@ -8,6 +8,7 @@ use Rattle.nom_repeat.specs.Bounds.{any_limits}
 use Rattle.nom_repeat.specs.Items.{items_meaning}
 use Rattle.nom_internal.specs.Tuples.{built_meaning}
 use Rattle.nom_internal.specs.Sequence.{pair_meaning}
+use Rattle.nom_operators.specs.Prefixes.{prefixes_in}
 use Rattle.nom_operators.specs.declared.operation.Operation.{Operation}
 use Rattle.nom_operators.specs.declared.precedences.Binary.{Binary}
 use Rattle.nom_language.specs.Evaluated.{TermOutput, IsEvaluated}
@@ -37,7 +38,7 @@ lacking_if (Some e) Evaluates part m = lacking_meaning (λ t. Evaluates t (Err e
 
 -- Two prefixes or more of a term wait for its operand. The last of them takes no memory.
 abbrev pub PrefixesWait : {T P O Q M : Type 0} → (T → TermOutput P O Q M → Type 0) → T → Type 0
-PrefixesWait {P = P} {O = O} {Q = Q} {M = M} IsTerm t = (o : TermOutput P O Q M) × IsTerm t o × (1 < length o.0.items)
+PrefixesWait {P = P} {O = O} {Q = Q} {M = M} IsTerm t = (o : TermOutput P O Q M) × IsTerm t o × (1 < length (prefixes_in o.0))
 
 -- a binary operator and a term after it, as a tuple
 abbrev pub operator_and_term_meaning : {I A C T E : Type 0} → Model I A → Meaning I C E → Meaning I T E → Meaning I (C × T) E

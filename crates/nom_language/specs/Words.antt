@@ -8,6 +8,7 @@ use Rattle.nom_operators.specs.declared.operation.Assoc.{Assoc}
 use Rattle.nom_operators.specs.declared.operation.Operation.{Operation}
 use Rattle.nom_operators.specs.declared.precedences.Unary.{Unary}
 use Rattle.nom_operators.specs.declared.precedences.Binary.{Binary}
+use Rattle.nom_operators.specs.declared.prefixes.Prefixes.{Prefixes}
 use Rattle.nom_language.specs.Evaluated.{TermOutput}
 use Rattle.nom_language.specs.LeftFolds as LeftFolds
 use Rattle.nom_language.specs.Operators as Operators
@@ -42,6 +43,21 @@ module _ {I O E : Type 0} where
     pub binary_op_same : {precedence precedence' : ℕ} {assoc assoc' : Assoc} → precedence ≡ precedence' → assoc ≡ assoc' → g ≡ h →
         binary_op_of precedence assoc g ≡ binary_op_of precedence' assoc' h
     binary_op_same a b p = λ i. binary_op_of (a i) (b i) (p i)
+
+module _ {I A O M E : Type 0} (w : Model I A) (errs : Errors I E) where
+  abbrev prefixes_meant : Word I O E → Word I (Prefixes O M) E
+  prefixes_meant g = word (Operators.prefixes_of w errs g.grammar)
+
+  pub prefixes_of : Word I O E → Word I (Prefixes O M) E
+  prefixes_of g = prefixes_meant g
+
+  module _ {g h : Word I O E} where
+    pub prefixes_worded : g ≡ h → prefixes_of g ≡ prefixes_meant h
+    unfolding prefixes_of
+    prefixes_worded p = ap prefixes_meant p
+
+    pub prefixes_same : g ≡ h → prefixes_of g ≡ prefixes_of h
+    prefixes_same p = ap prefixes_of p
 
 -- terms with operators between them: which operations the fold takes, what it gives for each, and what that tells
 module _ {I A P Q B O Y X M E : Type 0} (w : Model I A) (errs : Errors I E) (externals : Externals I X E) (Tells : Result O Y → Result O X → Type 0)

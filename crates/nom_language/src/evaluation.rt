@@ -3,6 +3,7 @@ ghost use Rattle.std.specs.Prelude.{◌≡◌, ◌<◌, IfSome, IsSome, None, Li
 ghost use Rattle.nom_language.specs.Evaluated.{symbols_of_term};
 ghost use Rattle.nom_language.specs.helpers.Accumulated.{HasReadInto, PairPushes};
 ghost use Rattle.nom_operators.specs.Evaluations.{IsValueOf};
+ghost use Rattle.nom_operators.specs.Prefixes.{prefixes_in};
 ghost use Rattle.nom_operators.specs.OperatorTrees.{Symbol};
 ghost use Rattle.nom_operators.specs.Steps.{IsNested};
 ghost use Rattle.nom_operators.specs.declared.operation.Operation.{Operation};
@@ -13,16 +14,24 @@ use nom_error::answer::OutOfMemory;
 use nom_operators::operation::Operation;
 use nom_operators::pending::{Partial, Pending, Term, begin, put_term, value_of_all};
 use nom_operators::precedences::{Binary, Unary};
+use nom_operators::prefixes::Prefixes;
 use nom_repeat::accumulator::Accumulator;
 use std::alloc::Allocator;
 use std::marker::PhantomData;
 
-/// The terms and operators that are read so far: operators that wait for their right operand, and the value
-/// after the last of them.
+/// What is read so far: operators that wait for their right operand, and the value after the last of them.
+#[derive(Drop)]
+pub struct Waiting<P, B, R, A: Allocator> {
+    pub partial: Option<Partial<P, B, R>>,
+    pub outer: Vec<Pending<P, B, R>, A>,
+}
+
+/// What is read so far, and the fold.
+// The fold stands beside what is dropped. So no reference to it is passed to the code that drops, and the parser that holds
+// the fold needn't lie in memory.
 #[derive(Drop)]
 pub struct Evaluation<'a, P, Q, B, O, X, A: Allocator, G> {
-    pub partial: Option<Partial<P, B, Result<O, X>>>,
-    pub outer: Vec<Pending<P, B, Result<O, X>>, A>,
+    pub waiting: Waiting<P, B, Result<O, X>, A>,
     pub fold: &'a G,
     pub of: PhantomData<Q>,
 }
@@ -36,11 +45,11 @@ impl<
     X: Drop,
     A: Allocator,
     G: Fn(Operation<P, Q, B, O>) -> Result<O, X>,
-> Accumulator<(Binary<B>, (Vec<Unary<P>, A>, O, Vec<Unary<Q>, A>))>
+> Accumulator<(Binary<B>, (Prefixes<Unary<P>, A>, O, Vec<Unary<Q>, A>))>
     for Evaluation<'a, P, Q, B, O, X, A, G> {
-    ghost Pushes = { λ old x new. PairPushes (λ k. k.partial) (λ k. k.outer.items) (λ k. k.fold.now) (λ f o r. G.post f o r) old x new };
+    ghost Pushes = { λ old x new. PairPushes (λ k. k.waiting.partial) (λ k. k.waiting.outer.items) (λ k. k.fold.now) (λ f o r. G.post f o r) old x new };
 
-    ghost CanPush = { λ k. IsSome k.partial × IfSome k.partial (λ r. IsNested r.innermost k.outer.items)
+    ghost CanPush = { λ k. IsSome k.waiting.partial × IfSome k.waiting.partial (λ r. IsNested r.innermost k.waiting.outer.items)
         × ((x : Operation P Q B O) → G.pre k.fold.now x) };
 
     ghost IsFull = { λ _. Unit {0} };
@@ -52,14 +61,20 @@ impl<
     #[inline(always)]
     fn push(
         &mut self,
-        item: (Binary<B>, (Vec<Unary<P>, A>, O, Vec<Unary<Q>, A>)),
+        item: (Binary<B>, (Prefixes<Unary<P>, A>, O, Vec<Unary<Q>, A>)),
     ) -> Result<(), OutOfMemory> {
-        match self.partial.take() {
+        match self.waiting.partial.take() {
             Some(partial) => {
                 let (operator, output) = item;
-                match put_term(partial, &mut self.outer, operator, term(output), self.fold) {
+                match put_term(
+                    partial,
+                    &mut self.waiting.outer,
+                    operator,
+                    term(output),
+                    self.fold,
+                ) {
                     Some(new) => {
-                        self.partial = Some(new);
+                        self.waiting.partial = Some(new);
                         Ok(())
                     }
                     None => Err(OutOfMemory),
@@ -73,9 +88,9 @@ impl<
 // Turns a term's output into a term.
 #[inline(always)]
 fn term<P: Drop, O: Drop, Q: Drop, A: Allocator>(
-    output: (Vec<Unary<P>, A>, O, Vec<Unary<Q>, A>),
+    output: (Prefixes<Unary<P>, A>, O, Vec<Unary<Q>, A>),
 ) -> Term<P, O, Q, A>
-    ensures prefixes { result.prefixes.items ≡ output.0.items }
+    ensures prefixes { prefixes_in result.prefixes ≡ prefixes_in output.0 }
     ensures operand { result.operand ≡ output.1 }
     ensures postfixes { result.postfixes.items ≡ output.2.items }
 {
@@ -100,25 +115,34 @@ pub fn begin_evaluation<
     G: Fn(Operation<P, Q, B, O>) -> Result<O, X>,
 >(
     alloc: A,
-    first: (Vec<Unary<P>, A>, O, Vec<Unary<Q>, A>),
+    first: (Prefixes<Unary<P>, A>, O, Vec<Unary<Q>, A>),
     fold: &'a G,
 ) -> Option<Evaluation<'a, P, Q, B, O, X, A, G>>
     requires { (x : Operation P Q B O) → G.pre fold.now x }
-    ensures read { IfSome result (λ k. HasReadInto (λ k. k.partial) (λ k. k.outer.items) (λ k. k.fold.now) (λ f o r. G.post f o r) fold.now
+    ensures read { IfSome result (λ k. HasReadInto (λ k. k.waiting.partial) (λ k. k.waiting.outer.items) (λ k. k.fold.now) (λ f o r. G.post f o r) fold.now
         (symbols_of_term first) k) }
-    ensures nested { IfSome result (λ k. IfSome k.partial (λ r. IsNested r.innermost k.outer.items)) }
+    ensures nested { IfSome result (λ k. IfSome k.waiting.partial (λ r. IsNested r.innermost k.waiting.outer.items)) }
     ensures fold { IfSome result (λ k. k.fold.now ≡ fold.now) }
-    ensures full { result ≡ None → 1 < length first.0.items }
+    ensures full { result ≡ None → 1 < length (prefixes_in first.0) }
 {
-    let mut outer: Vec<Pending<P, B, Result<O, X>>, A> = Vec::new(alloc);
-    match begin(&mut outer, term(first), fold) {
-        Some(partial) => Some(Evaluation {
-            partial: Some(partial),
-            outer,
-            fold,
-            of: PhantomData,
-        }),
-        None => None,
+    let mut waiting = Waiting {
+        partial: None,
+        outer: Vec::new(alloc),
+    };
+    match begin(&mut waiting.outer, term(first), fold) {
+        Some(partial) => {
+            waiting.partial = Some(partial);
+            Some(Evaluation {
+                waiting,
+                fold,
+                of: PhantomData,
+            })
+        }
+        None => {
+            // As a whole: the code that drops it has two callers then, and stays apart from that of `Evaluation`.
+            drop(waiting);
+            None
+        }
     }
 }
 
@@ -133,18 +157,18 @@ pub fn value_of<
     A: Allocator,
     G: Fn(Operation<P, Q, B, O>) -> Result<O, X>,
 >(evaluation: Evaluation<'_, P, Q, B, O, X, A, G>) -> Result<O, X>
-    requires some { IsSome evaluation.partial }
-    requires nested { IfSome evaluation.partial (λ r. IsNested r.innermost evaluation.outer.items) }
+    requires some { IsSome evaluation.waiting.partial }
+    requires nested { IfSome evaluation.waiting.partial (λ r. IsNested r.innermost evaluation.waiting.outer.items) }
     requires fold { (x : Operation P Q B O) → G.pre evaluation.fold.now x }
-    ensures { (ss : List (Symbol (Unary P) O (Unary Q) (Binary B))) → HasReadInto (λ k. k.partial) (λ k. k.outer.items) (λ k. k.fold.now)
+    ensures { (ss : List (Symbol (Unary P) O (Unary Q) (Binary B))) → HasReadInto (λ k. k.waiting.partial) (λ k. k.waiting.outer.items) (λ k. k.fold.now)
         (λ f o r. G.post f o r) evaluation.entry.fold.now ss evaluation.entry → IsValueOf (G.post evaluation.entry.fold.now) ss result }
 {
     let Evaluation {
-        partial,
-        outer,
+        waiting,
         fold,
         of: _,
     } = evaluation;
+    let Waiting { partial, outer } = waiting;
     match partial {
         Some(partial) => value_of_all(partial, outer, fold),
         None => unreachable!(),

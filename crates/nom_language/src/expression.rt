@@ -19,6 +19,7 @@ use nom_internal::choice::close;
 use nom_internal::parser::{Parser, StreamParser};
 use nom_operators::operation::Operation;
 use nom_operators::precedences::{Binary, Unary};
+use nom_operators::prefixes::Prefixes;
 use nom_repeat::bounds::any_items;
 use nom_traits::input::{Input, Items};
 use nom_traits::view::Viewed;
@@ -61,7 +62,7 @@ impl<
     O: Drop,
     Y: Drop,
     C: Parser<I, Output = Binary<B>, Error = T::Error> + Drop,
-    T: Parser<I, Output = (Vec<Unary<P>, A>, O, Vec<Unary<Q>, A>)> + Drop,
+    T: Parser<I, Output = (Prefixes<Unary<P>, A>, O, Vec<Unary<Q>, A>)> + Drop,
     G: Fn(Operation<P, Q, B, O>) -> Result<O, Y>,
     W: FoldErrors<O, Y>,
 > Parser<I> for Expression<A, C, T, G, W>
@@ -115,7 +116,7 @@ impl<
     O: Viewed + Drop,
     Y: Drop,
     C: StreamParser<I, Output = Binary<B>, Error = T::Error> + Drop,
-    T: StreamParser<I, Output = (Vec<Unary<P>, A>, O, Vec<Unary<Q>, A>)> + Drop,
+    T: StreamParser<I, Output = (Prefixes<Unary<P>, A>, O, Vec<Unary<Q>, A>)> + Drop,
     G: Fn(Operation<P, Q, B, O>) -> Result<O, Y>,
     W: FoldErrors<O, Y>,
 > StreamParser<I> for Expression<A, C, T, G, W>
@@ -147,7 +148,7 @@ pub(crate) fn terms<
     O: Drop,
     X: Drop,
     C: Parser<I, Output = Binary<B>, Error = T::Error>,
-    T: Parser<I, Output = (Vec<Unary<P>, A>, O, Vec<Unary<Q>, A>)>,
+    T: Parser<I, Output = (Prefixes<Unary<P>, A>, O, Vec<Unary<Q>, A>)>,
     G: Fn(Operation<P, Q, B, O>) -> Result<O, X>,
 >(alloc: A, pair: &mut (C, T), fold: &G, input: I) -> PResult<I, Result<O, X>, T::Error>
     requires term { (T.grammar (T.state pair.old.1)).meaning.Runs }

@@ -11,3 +11,4 @@ pub mod left;
 pub mod operands;
 pub mod operator;
 pub mod precedence;
+pub mod prefixes;

@@ -18,6 +18,7 @@ use nom_internal::built::built;
 use nom_internal::parser::{Parser, StreamParser};
 use nom_operators::operation::Operation;
 use nom_operators::precedences::{Binary, Unary};
+use nom_operators::prefixes::Prefixes;
 use nom_traits::input::{Input, Items};
 use nom_traits::view::Viewed;
 use std::alloc::Allocator;
@@ -37,7 +38,7 @@ impl<
     O: Drop,
     Y: Drop,
     C: Parser<I, Output = Binary<B>, Error = T::Error> + Drop,
-    T: Parser<I, Output = (Vec<Unary<P>, A>, O, Vec<Unary<Q>, A>)> + Drop,
+    T: Parser<I, Output = (Prefixes<Unary<P>, A>, O, Vec<Unary<Q>, A>)> + Drop,
     G: Fn(Operation<P, Q, B, O>) -> Result<O, Y>,
     W: FoldErrors<O, Y>,
 > Parser<I> for RequireOperands<A, C, T, G, W>
@@ -86,7 +87,7 @@ impl<
     O: Viewed + Drop,
     Y: Drop,
     C: StreamParser<I, Output = Binary<B>, Error = T::Error> + Drop,
-    T: StreamParser<I, Output = (Vec<Unary<P>, A>, O, Vec<Unary<Q>, A>)> + Drop,
+    T: StreamParser<I, Output = (Prefixes<Unary<P>, A>, O, Vec<Unary<Q>, A>)> + Drop,
     G: Fn(Operation<P, Q, B, O>) -> Result<O, Y>,
     W: FoldErrors<O, Y>,
 > StreamParser<I> for RequireOperands<A, C, T, G, W>

@@ -5,6 +5,7 @@ pub use crate::allocating::FoldError;
 use crate::expression::{Expression, ExpressionAlloc};
 use crate::left::LeftAssoc;
 use crate::operator::{BinaryOp, UnaryOp};
+use crate::prefixes::PrefixList;
 use nom_multi::{Many0, many0};
 pub use nom_operators::operation::{Assoc, Operation};
 pub use nom_operators::precedences::{Binary, Unary};
@@ -60,7 +61,7 @@ pub fn binary_op<F>(precedence: usize, assoc: Assoc, parser: F) -> BinaryOp<F>
 /// nothing are refused with `Precedence`. A prefix or a postfix that consumes nothing is refused with `Many0`.
 ///
 /// Memory may run out for the lists of prefixes and postfixes, and for operators that wait for their right
-/// operand. The program's stack is bounded, whatever the input.
+/// operand. The first prefix of a term takes none. The program's stack is bounded, whatever the input.
 #[inline(always)]
 pub fn precedence<A: Allocator + Copy, P, Q, C, F, G>(
     alloc: A,
@@ -69,14 +70,18 @@ pub fn precedence<A: Allocator + Copy, P, Q, C, F, G>(
     binary: C,
     operand: F,
     fold: G,
-) -> Expression<A, C, (Many0<A, P>, F, Many0<A, Q>), G>
+) -> Expression<A, C, (PrefixList<A, P>, F, Many0<A, Q>), G>
     ensures prefix { result.pair.1.0.parser ≡ prefix }
     ensures operand { result.pair.1.1 ≡ operand }
     ensures postfix { result.pair.1.2.parser ≡ postfix }
     ensures binary { result.pair.0 ≡ binary }
     ensures fold { result.fold ≡ fold }
 {
-    let term = (many0(alloc, prefix), operand, many0(alloc, postfix));
+    let prefixes = PrefixList {
+        alloc,
+        parser: prefix,
+    };
+    let term = (prefixes, operand, many0(alloc, postfix));
     Expression {
         alloc,
         pair: (binary, term),
@@ -99,14 +104,18 @@ pub fn precedence_alloc<A: Allocator + Copy, P, Q, C, F, G>(
     binary: C,
     operand: F,
     fold: G,
-) -> ExpressionAlloc<A, C, (Many0<A, P>, F, Many0<A, Q>), G>
+) -> ExpressionAlloc<A, C, (PrefixList<A, P>, F, Many0<A, Q>), G>
     ensures prefix { result.pair.1.0.parser ≡ prefix }
     ensures operand { result.pair.1.1 ≡ operand }
     ensures postfix { result.pair.1.2.parser ≡ postfix }
     ensures binary { result.pair.0 ≡ binary }
     ensures fold { result.fold ≡ fold }
 {
-    let term = (many0(alloc, prefix), operand, many0(alloc, postfix));
+    let prefixes = PrefixList {
+        alloc,
+        parser: prefix,
+    };
+    let term = (prefixes, operand, many0(alloc, postfix));
     Expression {
         alloc,
         pair: (binary, term),

@@ -3,6 +3,7 @@ pub mod Evaluations
 pub mod Groups
 pub mod OperatorTrees
 pub mod OperatorViews
+pub mod Prefixes
 pub mod Steps
 pub mod Trees
 pub mod helpers

@@ -7,6 +7,7 @@
 pub mod operation;
 pub mod pending;
 pub mod precedences;
+pub mod prefixes;
 pub mod promises;
 pub mod waiting;
 

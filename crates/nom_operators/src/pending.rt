@@ -6,6 +6,7 @@ ghost use Rattle.nom_operators.specs.Groups.{is_left};
 ghost use Rattle.nom_operators.specs.OperatorTrees.{Symbol, ends_operand};
 ghost use Rattle.nom_operators.specs.OperatorTrees.Symbol.{OfBinary, OfOperand, OfPostfix};
 ghost use Rattle.nom_operators.specs.helpers.Pending.{EndsNone, HasRead, IsEnding, LacksRoom, PendingGives, WaitsBefore, level_of_pending, with_prefixes};
+ghost use Rattle.nom_operators.specs.Prefixes.{prefixes_in};
 ghost use Rattle.nom_operators.specs.Steps.{IsNested, waiting};
 ghost use Rattle.nom_operators.specs.declared.operation.Operation.{Operation};
 ghost use Rattle.nom_operators.specs.declared.precedences.Unary.{Unary};
@@ -13,6 +14,7 @@ ghost use Rattle.nom_operators.specs.declared.precedences.Binary.{Binary};
 
 use crate::operation::{Assoc, Operation};
 use crate::precedences::{Binary, Unary};
+use crate::prefixes::Prefixes;
 use crate::waiting::{keep, next};
 use std::alloc::Allocator;
 
@@ -34,7 +36,7 @@ pub struct Partial<P, B, R> {
 /// A term: prefixes, an operand, and postfixes.
 #[derive(Drop)]
 pub struct Term<P, O, Q, A: Allocator> {
-    pub prefixes: Vec<Unary<P>, A>,
+    pub prefixes: Prefixes<Unary<P>, A>,
     pub operand: O,
     pub postfixes: Vec<Unary<Q>, A>,
 }
@@ -56,10 +58,10 @@ pub fn begin<
 ) -> Option<Partial<P, B, Result<O, X>>>
     requires fold { (x : Operation P Q B O) → G.pre fold.now x }
     requires empty { outer.old.items ≡ [] }
-    ensures read { IfSome result (λ r. HasRead (G.post fold.now) (term_symbols term.prefixes.items term.operand term.postfixes.items)
+    ensures read { IfSome result (λ r. HasRead (G.post fold.now) (term_symbols (prefixes_in term.prefixes) term.operand term.postfixes.items)
         (waiting r.innermost outer.new.items) r.value) }
     ensures nested { IfSome result (λ r. IsNested r.innermost outer.new.items) }
-    ensures full { result ≡ None → LacksRoom (vec_capacity outer.old) (length term.prefixes.items) }
+    ensures full { result ≡ None → LacksRoom (vec_capacity outer.old) (length (prefixes_in term.prefixes)) }
 {
     read_term(None, outer, term, fold)
 }
@@ -86,11 +88,11 @@ pub fn put_term<
     requires nested { IsNested partial.innermost outer.old.items }
     ensures read { IfSome result (λ r. (ss : List (Symbol (Unary P) O (Unary Q) (Binary B))) →
         HasRead (G.post fold.now) ss (waiting partial.innermost outer.old.items) partial.value →
-        HasRead (G.post fold.now) (ss ++ OfBinary operator ∷ term_symbols term.prefixes.items term.operand term.postfixes.items)
+        HasRead (G.post fold.now) (ss ++ OfBinary operator ∷ term_symbols (prefixes_in term.prefixes) term.operand term.postfixes.items)
         (waiting r.innermost outer.new.items) r.value) }
     ensures nested { IfSome result (λ r. IsNested r.innermost outer.new.items) }
     ensures full { result ≡ None → LacksRoom (vec_capacity outer.old)
-        (length (waiting partial.innermost outer.old.items) + (1 + length term.prefixes.items)) }
+        (length (waiting partial.innermost outer.old.items) + (1 + length (prefixes_in term.prefixes))) }
 {
     let Partial { value, innermost } = partial;
     let (left, under) = end_operands(
@@ -158,11 +160,11 @@ fn read_term<
     requires nested { IsNested innermost outer.old.items }
     ensures read { IfSome result (λ r. (ss : List (Symbol (Unary P) O (Unary Q) (Binary B))) →
         WaitsBefore (G.post fold.now) ss (waiting innermost outer.old.items) →
-        HasRead (G.post fold.now) (ss ++ term_symbols term.prefixes.items term.operand term.postfixes.items)
+        HasRead (G.post fold.now) (ss ++ term_symbols (prefixes_in term.prefixes) term.operand term.postfixes.items)
         (waiting r.innermost outer.new.items) r.value) }
     ensures nested { IfSome result (λ r. IsNested r.innermost outer.new.items) }
     ensures full { result ≡ None → LacksRoom (vec_capacity outer.old)
-        (length (waiting innermost outer.old.items) + length term.prefixes.items) }
+        (length (waiting innermost outer.old.items) + length (prefixes_in term.prefixes)) }
 {
     let Term {
         prefixes,
@@ -178,6 +180,32 @@ fn read_term<
 /// Adds prefixes that wait, in order, and returns the innermost operator. Returns None if there is no memory.
 #[inline(always)]
 fn wait_all<P: Drop, B: Drop, R: Drop, A: Allocator>(
+    innermost: Option<Pending<P, B, R>>,
+    outer: &mut Vec<Pending<P, B, R>, A>,
+    prefixes: Prefixes<Unary<P>, A>,
+) -> Option<Option<Pending<P, B, R>>>
+    requires nested { IsNested innermost outer.old.items }
+    ensures waiting { IfSome result (λ new. waiting new outer.new.items ≡ with_prefixes (prefixes_in prefixes) (waiting innermost outer.old.items)) }
+    ensures nested { IfSome result (λ new. IsNested new outer.new.items) }
+    ensures full { result ≡ None → LacksRoom (vec_capacity outer.old)
+        (length (waiting innermost outer.old.items) + length (prefixes_in prefixes)) }
+{
+    let Prefixes { first, more } = prefixes;
+    match first {
+        Some(prefix) => {
+            if keep(outer, innermost) {
+                wait_list(Some(Pending::Prefix(prefix)), outer, more)
+            } else {
+                None
+            }
+        }
+        None => wait_list(innermost, outer, more),
+    }
+}
+
+/// Adds the prefixes of a list, as `wait_all` does.
+#[inline(always)]
+fn wait_list<P: Drop, B: Drop, R: Drop, A: Allocator>(
     innermost: Option<Pending<P, B, R>>,
     outer: &mut Vec<Pending<P, B, R>, A>,
     prefixes: Vec<Unary<P>, A>,
@@ -355,19 +383,11 @@ fn fold_pending<
     requires { (x : Operation P Q B O) → G.pre fold.now x }
     ensures { PendingGives (G.post fold.now) pending right result }
 {
-    match pending {
-        Pending::Prefix(prefix) => match right {
-            Ok(value) => fold(Operation::Prefix(prefix.value, value)),
-            Err(refused) => Err(refused),
-        },
-        Pending::Left(left, operator) => match left {
-            Ok(first) => match right {
-                Ok(second) => fold(Operation::Binary(first, operator.value, second)),
-                Err(refused) => Err(refused),
-            },
-            Err(refused) => Err(refused),
-        },
-    }
+    let operation = match pending {
+        Pending::Prefix(prefix) => Operation::Prefix(prefix.value, right?),
+        Pending::Left(left, operator) => Operation::Binary(left?, operator.value, right?),
+    };
+    fold(operation)
 }
 
 /// Applies a postfix to the value before it. A refusal stays.

@@ -6,7 +6,7 @@ use Rattle.nom.specs.Accumulated.{Adds, Accumulated}
 use Rattle.nom_precedence.specs.Expressions.{Tail, term_of}
 use Rattle.nom_precedence.specs.Told.{AppliedPushes, Before}
 use Rattle.nom_precedence.specs.Values.{PostfixesBy, PrefixesBy, TailBy, TermBy}
-use Rattle.nom_precedence.proofs.PrefixesShown.{ListPushes, list_of_none}
+use Rattle.nom_operators.proofs.PrefixesShown.{ListPushes, list_of_none}
 use Rattle.nom_precedence.proofs.ReadShown.{built_from_both}
 
 module _ {K L O G Q : Type 0} (value : K → Option O) (fold : K → L) (Gives : L → O → G → O → Type 0) (IsPostfix : Q → G → Type 0) where

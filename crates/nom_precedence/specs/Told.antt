@@ -49,11 +49,6 @@ pub record AppliedPushes {K L X Q : Type 0} (value : K → Option X) (fold : K �
   pub given : Gives (fold old) before item rest
   pub fold_is : fold new ≡ fold old
 
--- the prefixes of a term: the first, if any, and more after it
-abbrev pub all_prefixes : {P : Type 0} → Option P → List P → List P
-all_prefixes (Some p) ps = p ∷ ps
-all_prefixes None ps = ps
-
 -- Prefixes are applied to a value, the last first.
 abbrev pub Before : {P X : Type 0} → (P → X → X → Type 0) → List P → X → X → Type 0
 Before Gives [] x y = y ≡ x

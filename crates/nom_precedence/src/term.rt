@@ -1,15 +1,17 @@
 //! Terms: prefixes, an operand, postfixes.
 ghost use Rattle.std.specs.Prelude.{◌≡◌, IsSome, None, Some, true, MatchOption};
 ghost use Rattle.nom.specs.Prelude.{BuiltFrom, BuiltFromBoth, modes};
-ghost use Rattle.nom_precedence.specs.Told.{AppliedPushes, Before, ShowsRead, all_prefixes, tail_by, term_by};
+ghost use Rattle.nom_precedence.specs.Told.{AppliedPushes, Before, ShowsRead, tail_by, term_by};
+ghost use Rattle.nom_operators.specs.Prefixes.{prefixes_in};
 ghost use Rattle.nom_operators.specs.declared.operation.Operation.{Operation};
 ghost use Rattle.nom_operators.specs.declared.operation.Operation.TheVariants.{Postfix, Prefix};
 
-use crate::prefixes::{Prefixes, no_prefixes, under};
+use crate::prefixes::under;
 use crate::read::{Read, affixes};
 use nom::extend::{Accumulator, emitted};
 use nom::{Input, Items, OutOfMemory, OutputMode, PResult, Parser};
 use nom_operators::operation::Operation;
+use nom_operators::prefixes::{Prefixes, no_prefixes};
 use std::alloc::Allocator;
 use std::marker::PhantomData;
 
@@ -79,7 +81,7 @@ fn finished<P: Drop, Q: Drop, B: Drop, O: Drop, A: Allocator, G: Fn(Operation<P,
     fold: &G,
 ) -> Option<O>
     requires { (x : Operation P Q B O) → G.pre fold.now x }
-    ensures { BuiltFromBoth true (λ ps x y. Before (λ p a b. G.post fold.now (Prefix p a) b) (all_prefixes ps.first ps.more.items) x y) prefixes value result }
+    ensures { BuiltFromBoth true (λ ps x y. Before (λ p a b. G.post fold.now (Prefix p a) b) (prefixes_in ps) x y) prefixes value result }
 {
     match prefixes {
         Some(prefixes) => match value {

@@ -42,20 +42,15 @@ pub trait Accumulator<T> {
     /// There is room for a number of items.
     ghost HasRoom: { Self → ℕ → Type 0 } = { λ _ _. ⊥ };
 
+    /// It is known whether there is room.
+    ghost KnowsRoom: { Type 0 } = { ⊥ };
+
     /// Returns whether there is room for `count` items, as far as this is known.
     #[inline(always)]
     fn has_room(&self, count: usize) -> bool
         ensures { IsTrue result → HasRoom self.now count }
     {
         false
-    }
-
-    /// Returns false if there is room for no item. It may return true in any case.
-    #[inline(always)]
-    fn is_open(&self) -> bool
-        ensures { result ≡ false → (n : ℕ) → HasRoom self.now (n + 1) → ⊥ }
-    {
-        true
     }
 
     /// Pushes an item. Memory may run out only if there is no room.
@@ -65,6 +60,20 @@ pub trait Accumulator<T> {
         ensures next { OnOk result (CanPush self.new) }
         ensures full { OnErr result (IsFull self.old) }
         ensures room { KeepsRoom HasRoom self.old self.new result };
+
+    /// Pushes an item into an accumulator that has room for it, if accumulators of the type know their room.
+    #[inline(always)]
+    fn push_with_room(&mut self, item: T)
+        requires ready { CanPush self.old }
+        requires room { KnowsRoom → (n : ℕ) × HasRoom self.old (n + 1) }
+        ensures { (n : ℕ) → HasRoom self.old (n + 1) → Pushes self.old item self.new × CanPush self.new × HasRoom self.new n }
+    {
+        match self.push(item) {
+            Ok(()) => {}
+            // There was no room.
+            Err(_) => {}
+        }
+    }
 }
 
 /// Collects the items in a list, in their order.
@@ -81,14 +90,11 @@ impl<T: Drop, A: Allocator> Accumulator<T> for Vec<T, A> {
 
     ghost HasRoom = { λ list n. vec_len list + n ≤ vec_capacity list };
 
+    ghost KnowsRoom = { Unit {0} };
+
     #[inline(always)]
     fn has_room(&self, count: usize) -> bool {
         self.len() <= self.capacity() && count <= self.capacity() - self.len()
-    }
-
-    #[inline(always)]
-    fn is_open(&self) -> bool {
-        self.len() < self.capacity()
     }
 
     #[inline(always)]
@@ -99,6 +105,11 @@ impl<T: Drop, A: Allocator> Accumulator<T> for Vec<T, A> {
         }
         self.push_reserved(item);
         Ok(())
+    }
+
+    #[inline(always)]
+    fn push_with_room(&mut self, item: T) {
+        self.push_reserved(item);
     }
 }
 
@@ -197,16 +208,7 @@ pub fn push_within<M: Mode, T: Drop, K: Accumulator<T>>(kept: &mut Option<K>, it
         return;
     }
     match (kept, item) {
-        (Some(kept), Some(item)) => {
-            // The compiler then takes the test for room out of `push`.
-            if !kept.is_open() {
-                unreachable!();
-            }
-            match kept.push(item) {
-                Ok(()) => {}
-                Err(_) => unreachable!(),
-            }
-        }
+        (Some(kept), Some(item)) => kept.push_with_room(item),
         _ => unreachable!(),
     }
 }

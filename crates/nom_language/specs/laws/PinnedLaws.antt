@@ -4,13 +4,16 @@ use Rattle.std.specs.List.{AllZip, FoldsTo}
 use Rattle.std.proofs.Common.{sym, ◌∙◌, ap}
 use Rattle.std.proofs.lemmas.List.{map-append}
 use Rattle.nom_internal.specs.Prelude.{View, IsPinned, vec_view}
+use Rattle.nom_repeat.specs.Lists.{zip_pinned}
 use Rattle.nom_traits.specs.View.{view_3}
 use Rattle.nom_operators.specs.OperatorTrees.Symbol.{OfBinary}
 use Rattle.nom_operators.specs.OperatorViews.{unary_view, binary_view}
+use Rattle.nom_operators.specs.Prefixes.{prefixes_in, prefixes_view}
 use Rattle.nom_operators.specs.declared.operation.Assoc.{Assoc}
 use Rattle.nom_operators.specs.declared.operation.Operation.{Operation}
 use Rattle.nom_operators.specs.declared.precedences.Unary.{Unary}
 use Rattle.nom_operators.specs.declared.precedences.Binary.{Binary}
+use Rattle.nom_operators.specs.declared.prefixes.Prefixes.{Prefixes}
 use Rattle.nom_operators.specs.laws.ViewLaws.{OperatesAlike, viewed_symbol, values_alike, terms_alike, binaries_alike}
 use Rattle.nom_language.specs.Evaluated.{TermOutput, symbols_of_term, symbols_of_pairs, IsEvaluated}
 use Rattle.nom_language.specs.LeftFolds.{IsFolded}
@@ -33,15 +36,20 @@ binary_pinned {view = view} k assoc p = record {
       ∙ (ap (λ n. make (view.value b.value) n a.assoc) (g.1 ∙ sym h.1) ∙ ap (λ m. make (view.value b.value) b.precedence m) (g.2 ∙ sym h.2));
 }
 
+-- prefixes of one list of trees
+pub prefixes_pinned : {V O A : Type 0} {view : View O} {IsOutput : V → O → Type 0} → IsPinned view IsOutput →
+    IsPinned (prefixes_view {A = A} view) (λ vs (k : Prefixes O A). AllZip IsOutput vs (prefixes_in k))
+prefixes_pinned pinned = record { one_view = λ vs a b p q. zip_pinned pinned vs (prefixes_in a) (prefixes_in b) p q }
+
 module _ {P Q B O : Type 0} (prefix : View P) (postfix : View Q) (binary : View B) (value : View O) where
   -- what stands in a term that is viewed alike
-  term_alike : {M : Type 0} (a b : TermOutput P O Q M) → map (unary_view prefix).value a.0.items ≡ map (unary_view prefix).value b.0.items →
+  term_alike : {M : Type 0} (a b : TermOutput P O Q M) → map (unary_view prefix).value (prefixes_in a.0) ≡ map (unary_view prefix).value (prefixes_in b.0) →
       value.value a.1 ≡ value.value b.1 → map (unary_view postfix).value a.2.items ≡ map (unary_view postfix).value b.2.items →
       map (viewed_symbol prefix postfix binary value) (symbols_of_term a) ≡ map (viewed_symbol prefix postfix binary value) (symbols_of_term b)
-  term_alike a b e f g = terms_alike prefix postfix binary value a.0.items b.0.items a.1 b.1 a.2.items b.2.items e f g
+  term_alike a b e f g = terms_alike prefix postfix binary value (prefixes_in a.0) (prefixes_in b.0) a.1 b.1 a.2.items b.2.items e f g
 
   module _ {T C M : Type 0} {IsTerm : T → TermOutput P O Q M → Type 0} {IsBinary : C → Binary B → Type 0}
-      (terms : IsPinned (view_3 (vec_view {A = M} (unary_view prefix)) value (vec_view {A = M} (unary_view postfix))) IsTerm)
+      (terms : IsPinned (view_3 (prefixes_view {A = M} (unary_view prefix)) value (vec_view {A = M} (unary_view postfix))) IsTerm)
       (binaries : IsPinned (binary_view binary) IsBinary) where
     one_term : (t : T) (a b : TermOutput P O Q M) → IsTerm t a → IsTerm t b →
         map (viewed_symbol prefix postfix binary value) (symbols_of_term a) ≡ map (viewed_symbol prefix postfix binary value) (symbols_of_term b)

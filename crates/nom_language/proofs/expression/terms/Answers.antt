@@ -24,8 +24,8 @@ Accumulator g = Evaluation g.row.P.Denot g.row.Q.Denot g.row.B.Denot g.row.O.Den
 -- and when it may take one
 abbrev CanPush : (g : given.Over) → Accumulator g → Type 0
 CanPush g k =
-    IsSome k.partial
-    × IfSome k.partial (λ r. IsNested r.innermost k.outer.items)
+    IsSome k.waiting.partial
+    × IfSome k.waiting.partial (λ r. IsNested r.innermost k.waiting.outer.items)
     × ((x : Operation g.row.P.Denot g.row.Q.Denot g.row.B.Denot g.row.O.Denot) → g.G.Fn.pre k.fold.now (x, tt))
 
 pub returns-in_err-rest-clause-shown : goal.returns-in_err-rest-clause-shown
@@ -42,7 +42,7 @@ any_items-requires-clause-built g c =
       begun.begun,
       refl,
       (
-        that_some _ begun.begun.partial begun.ensures.read,
+        that_some _ begun.begun.waiting.partial begun.ensures.read,
         begun.ensures.nested,
         λ x. subst (λ f. g.G.Fn.pre f (x, tt)) (sym begun.ensures.fold) (c.requires.fold x),
       ),
@@ -58,7 +58,7 @@ returns-in_err-end-in-Some-clause-shown g c =
     let more = shown_at (λ s. record {
       meaning = items_meaning g.I.Items.model errs (any_limits Kind.Precedence) (Unit {0})
           (operator_and_term_meaning g.I.Items.model binary.meaning (g.T.Parser.grammar s).meaning);
-      IsOutput = Accumulated (PairPushes (λ (k : Accumulator g). k.partial) (λ k. k.outer.items) (λ k. k.fold.now) (λ f o r. g.G.Fn.post f (o, tt) r))
+      IsOutput = Accumulated (PairPushes (λ (k : Accumulator g). k.waiting.partial) (λ k. k.waiting.outer.items) (λ k. k.fold.now) (λ f o r. g.G.Fn.post f (o, tt) r))
           (CanPush g) (λ t o. binary.IsOutput t.0 o.0 × (g.T.Parser.grammar s).IsOutput t.1 o.1) (Some c.in-Some.begun);
     }) c.process-read.ensures.kept c.in_err-end-in-Some.ensures.shown in
     runs_out_beside (then_ok g.met.I.Items.lawful closed (λ t b. output_err more c.from_residual-in_err-end-in-Some.ensures))
@@ -85,10 +85,10 @@ returns-in_ok-end-in-Some-clause-shown g c =
     let more = shown_at (λ s. record {
       meaning = items_meaning g.I.Items.model errs (any_limits Kind.Precedence) (Unit {0})
           (operator_and_term_meaning g.I.Items.model binary.meaning (g.T.Parser.grammar s).meaning);
-      IsOutput = Accumulated (PairPushes (λ (k : Accumulator g). k.partial) (λ k. k.outer.items) (λ k. k.fold.now) (λ f o r. g.G.Fn.post f (o, tt) r))
+      IsOutput = Accumulated (PairPushes (λ (k : Accumulator g). k.waiting.partial) (λ k. k.waiting.outer.items) (λ k. k.fold.now) (λ f o r. g.G.Fn.post f (o, tt) r))
           (CanPush g) (λ t o. binary.IsOutput t.0 o.0 × (g.T.Parser.grammar s).IsOutput t.1 o.1) (Some c.in-Some.begun);
     }) c.process-read.ensures.kept c.in_ok-end-in-Some.ensures.shown in
-    runs_out_beside (then_ok g.met.I.Items.lawful closed (λ t b. output_ok more (λ us k. evaluated_built (λ (z : Accumulator g). z.partial) (λ z. z.outer.items)
+    runs_out_beside (then_ok g.met.I.Items.lawful closed (λ t b. output_ok more (λ us k. evaluated_built (λ (z : Accumulator g). z.waiting.partial) (λ z. z.waiting.outer.items)
     (λ z. z.fold.now) (λ f o r. g.G.Fn.post f (o, tt) r) term.IsOutput binary.IsOutput (CanPush g) t us c.args.fold.now _ c.emitted.result c.in-Some.begun
     _ _ _ c.emitted.ensures b c.in-Some.ensures.read c.in-Some.ensures.fold c.emitted-in-Some.ensures k c.value_of.ensures)))
 

@@ -1,7 +1,7 @@
 use Rattle.std.proofs.Common.{◌≡◌, ◌+◌, ◌≤◌, reverse, length, vec_capacity}
 use Rattle.nom_operators.specs.helpers.Pending.{with_prefixes}
 use Rattle.nom_operators.specs.Steps.{IsNested, waiting}
-use Rattle.nom_operators.proofs.pending.wait_all.Given as goal
+use Rattle.nom_operators.proofs.pending.wait_list.Given as goal
 
 abbrev pub invariant-loop-prefix : goal.invariant-loop-prefix
 invariant-loop-prefix g l = record {
