@@ -43,7 +43,8 @@ prefixes_pinned pinned = record { one_view = λ vs a b p q. zip_pinned pinned vs
 
 module _ {P Q B O : Type 0} (prefix : View P) (postfix : View Q) (binary : View B) (value : View O) where
   -- what stands in a term that is viewed alike
-  term_alike : {M : Type 0} (a b : TermOutput P O Q M) → map (unary_view prefix).value (prefixes_in a.0) ≡ map (unary_view prefix).value (prefixes_in b.0) →
+  term_alike : {M : Type 0} (a b : TermOutput P O Q M) →
+      map (unary_view prefix).value (prefixes_in a.0) ≡ map (unary_view prefix).value (prefixes_in b.0) →
       value.value a.1 ≡ value.value b.1 → map (unary_view postfix).value a.2.items ≡ map (unary_view postfix).value b.2.items →
       map (viewed_symbol prefix postfix binary value) (symbols_of_term a) ≡ map (viewed_symbol prefix postfix binary value) (symbols_of_term b)
   term_alike a b e f g = terms_alike prefix postfix binary value (prefixes_in a.0) (prefixes_in b.0) a.1 b.1 a.2.items b.2.items e f g

@@ -58,8 +58,8 @@ returns-in_err-end-in-Some-clause-shown g c =
     let more = shown_at (λ s. record {
       meaning = items_meaning g.I.Items.model errs (any_limits Kind.Precedence) (Unit {0})
           (operator_and_term_meaning g.I.Items.model binary.meaning (g.T.Parser.grammar s).meaning);
-      IsOutput = Accumulated (PairPushes (λ (k : Accumulator g). k.waiting.partial) (λ k. k.waiting.outer.items) (λ k. k.fold.now) (λ f o r. g.G.Fn.post f (o, tt) r))
-          (CanPush g) (λ t o. binary.IsOutput t.0 o.0 × (g.T.Parser.grammar s).IsOutput t.1 o.1) (Some c.in-Some.begun);
+      IsOutput = Accumulated (PairPushes (λ (k : Accumulator g). k.waiting.partial) (λ k. k.waiting.outer.items) (λ k. k.fold.now)
+          (λ f o r. g.G.Fn.post f (o, tt) r)) (CanPush g) (λ t o. binary.IsOutput t.0 o.0 × (g.T.Parser.grammar s).IsOutput t.1 o.1) (Some c.in-Some.begun);
     }) c.process-read.ensures.kept c.in_err-end-in-Some.ensures.shown in
     runs_out_beside (then_ok g.met.I.Items.lawful closed (λ t b. output_err more c.from_residual-in_err-end-in-Some.ensures))
 
@@ -85,12 +85,12 @@ returns-in_ok-end-in-Some-clause-shown g c =
     let more = shown_at (λ s. record {
       meaning = items_meaning g.I.Items.model errs (any_limits Kind.Precedence) (Unit {0})
           (operator_and_term_meaning g.I.Items.model binary.meaning (g.T.Parser.grammar s).meaning);
-      IsOutput = Accumulated (PairPushes (λ (k : Accumulator g). k.waiting.partial) (λ k. k.waiting.outer.items) (λ k. k.fold.now) (λ f o r. g.G.Fn.post f (o, tt) r))
-          (CanPush g) (λ t o. binary.IsOutput t.0 o.0 × (g.T.Parser.grammar s).IsOutput t.1 o.1) (Some c.in-Some.begun);
+      IsOutput = Accumulated (PairPushes (λ (k : Accumulator g). k.waiting.partial) (λ k. k.waiting.outer.items) (λ k. k.fold.now)
+          (λ f o r. g.G.Fn.post f (o, tt) r)) (CanPush g) (λ t o. binary.IsOutput t.0 o.0 × (g.T.Parser.grammar s).IsOutput t.1 o.1) (Some c.in-Some.begun);
     }) c.process-read.ensures.kept c.in_ok-end-in-Some.ensures.shown in
-    runs_out_beside (then_ok g.met.I.Items.lawful closed (λ t b. output_ok more (λ us k. evaluated_built (λ (z : Accumulator g). z.waiting.partial) (λ z. z.waiting.outer.items)
-    (λ z. z.fold.now) (λ f o r. g.G.Fn.post f (o, tt) r) term.IsOutput binary.IsOutput (CanPush g) t us c.args.fold.now _ c.emitted.result c.in-Some.begun
-    _ _ _ c.emitted.ensures b c.in-Some.ensures.read c.in-Some.ensures.fold c.emitted-in-Some.ensures k c.value_of.ensures)))
+    runs_out_beside (then_ok g.met.I.Items.lawful closed (λ t b. output_ok more (λ us k. evaluated_built (λ (z : Accumulator g). z.waiting.partial)
+    (λ z. z.waiting.outer.items) (λ z. z.fold.now) (λ f o r. g.G.Fn.post f (o, tt) r) term.IsOutput binary.IsOutput (CanPush g) t us c.args.fold.now _
+    c.emitted.result c.in-Some.begun _ _ _ c.emitted.ensures b c.in-Some.ensures.read c.in-Some.ensures.fold c.emitted-in-Some.ensures k c.value_of.ensures)))
 
 pub returns-in-None-clause-shown : goal.returns-in-None-clause-shown
 returns-in-None-clause-shown g c =
