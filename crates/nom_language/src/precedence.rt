@@ -61,7 +61,7 @@ pub fn binary_op<F>(precedence: usize, assoc: Assoc, parser: F) -> BinaryOp<F>
 /// nothing are refused with `Precedence`. A prefix or a postfix that consumes nothing is refused with `Many0`.
 ///
 /// Memory may run out for the lists of prefixes and postfixes, and for operators that wait for their right
-/// operand. The first prefix of a term takes none. The program's stack is bounded, whatever the input.
+/// operand. An operator that waits before a prefix takes some. The program's stack is bounded, whatever the input.
 #[inline(always)]
 pub fn precedence<A: Allocator + Copy, P, Q, C, F, G>(
     alloc: A,
