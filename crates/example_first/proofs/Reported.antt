@@ -5,7 +5,7 @@ use Rattle.nom_internal.specs.Prelude.{IResult, bytes_model, Slice, Cause}
 use Rattle.nom_internal.specs.Promises.{HasNoFailure}
 use Rattle.nom_calls.specs.Growing.{IsGrown}
 use Rattle.nom.specs.grammars.Bytes.{Bytes, BytesGrammar, pair_of, tag_of, take_of}
-use Rattle.nom_run.specs.Report.{IsTold}
+use Rattle.nom_run.specs.Report.{IsAnswerReport}
 use Rattle.nom_run.proofs.Reported.{reported}
 use Rattle.example_first.specs.First.{record_of, record_text, IsReport}
 
@@ -21,7 +21,7 @@ pub reported_record : (whole : Bytes) (cuts : List ℕ) (index start : ℕ) →
     (index < length cuts → start ≡ slice_index cuts index) → (length cuts ≤ index → start ≡ length whole.now) → bytes_model.IsKnown whole →
     (answer : IResult Bytes (Bytes × Bytes) (Error Bytes)) (text : List ℕ) (status : ℕ) →
     IsGrown bytes_model record_of.IsOutput record_of.meaning whole cuts index answer × HasNoFailure bytes_model record_of.meaning →
-    IsTold (λ o. record_text o.1.now) index start answer text status → IsReport whole.now cuts text status
+    IsAnswerReport (λ o. record_text o.1.now) index start answer text status → IsReport whole.now cuts text status
 unfolding IsReport
 reported_record whole cuts index start at_cut at_end known answer text status g t =
     reported record_of.meaning (λ t. record_text t.1.items) record_of.IsOutput (λ o. record_text o.1.now)

@@ -3,7 +3,7 @@
 #![tactic(auto)]
 
 ghost use Rattle.std.specs.Prelude.{◌≡◌, ◌++◌, IfOk, length, string_bytes};
-ghost use Rattle.nom_run.specs.Report.{IsTold};
+ghost use Rattle.nom_run.specs.Report.{IsAnswerReport};
 ghost use Rattle.nom_run.specs.Runs.{NoneAbove};
 ghost use Rattle.nom_run.specs.Texts.{decided_text, rest_text};
 ghost use Rattle.example_first.specs.First.{IsReport, record_text};
@@ -42,7 +42,7 @@ fn tell<A: Allocator + Copy>(
     beginning: usize,
     answer: IResult<&[u8], (&[u8], &[u8])>,
 ) -> Result<(String<A>, u8), OutOfMemory>
-    ensures { IfOk result (λ r. IsTold (λ o. record_text o.1.now) index beginning answer.entry (string_bytes r.0) r.1) }
+    ensures { IfOk result (λ r. IsAnswerReport (λ o. record_text o.1.now) index beginning answer.entry (string_bytes r.0) r.1) }
 {
     let mut text = String::new(alloc);
     match answer {

@@ -39,8 +39,8 @@ Worth = Result ℤ (Wrong × Text)
 abbrev pub Sign : Type 0
 Sign = Text × ℕ
 
-abbrev pub Told : Type 0 → Type 0
-Told O = IResult Text O Fault
+abbrev pub FormResult : Type 0 → Type 0
+FormResult O = IResult Text O Fault
 
 -- values
 
@@ -116,24 +116,24 @@ pub record Grammar (V O : Type 0) : Type 1 where
   pub meaning : Meaning Text V Fault
   pub IsOutput : V → O → Type 0
 
-abbrev pub Parses : {V O : Type 0} → Grammar V O → Text → Told O → Type 0
+abbrev pub Parses : {V O : Type 0} → Grammar V O → Text → FormResult O → Type 0
 Parses g i r = ParsesMeaning text_model g.IsOutput g.meaning false i r
 
 abbrev pub view : View Worth
 view = result_view itself (pair_view itself text_view)
 
 -- What a grammar accepts becomes what a relation gives for it, and for the text from its start on.
-abbrev pub IsGiven : {O P : Type 0} → (Text → O → P → Type 0) → Text → Told O → Told P → Type 0
+abbrev pub IsGiven : {O P : Type 0} → (Text → O → P → Type 0) → Text → FormResult O → FormResult P → Type 0
 IsGiven {P = P} Gives i (Ok (j, x)) r = (y : P) × Gives i x y × (r ≡ Ok (j, y))
 IsGiven Gives i (Err e) r = r ≡ Err e
 
-pub record Given {V O P : Type 0} (Gives : Text → O → P → Type 0) (g : Grammar V O) (i : Text) (r : Told P) : Type 0 where
-  pub found : Told O
+pub record Given {V O P : Type 0} (Gives : Text → O → P → Type 0) (g : Grammar V O) (i : Text) (r : FormResult P) : Type 0 where
+  pub found : FormResult O
   pub parsed : Parses g i found
   pub given : IsGiven Gives i found r
 
 -- a function as a part, by which texts it takes, and what it answers
-abbrev pub func_of : {O : Type 0} (model : View O) → (Text → Type 0) → (Text → Told O → Type 0) → Grammar model.Value O
+abbrev pub func_of : {O : Type 0} (model : View O) → (Text → Type 0) → (Text → FormResult O → Type 0) → Grammar model.Value O
 func_of model Takes Gives = record {
   meaning = func_meaning text_model model Gives faults (TakesAll text_model Takes) (IsParser text_model model Gives);
   IsOutput = IsViewed model;
@@ -209,11 +209,11 @@ sum_by groups opens closes inside = record {
 }
 
 -- a sum, by what stands in its brackets
-abbrev pub sum_in : (Text → Type 0) → (Text → Told Worth → Type 0) → Grammar Sum Worth
+abbrev pub sum_in : (Text → Type 0) → (Text → FormResult Worth → Type 0) → Grammar Sum Worth
 sum_in Takes Gives = sum_by levels 40 41 (func_of view Takes Gives)
 
 -- What stands in a bracket, in which that many more may be nested: where none may, a failure.
-abbrev pub Inside : ℕ → Text → Told Worth → Type 0
+abbrev pub Inside : ℕ → Text → FormResult Worth → Type 0
 Inside zero i r = r ≡ Err (Answered.Failure (Fault.TooDeep i))
 Inside (suc d) i r = Parses (sum_in Any (Inside d)) i r
 
@@ -226,13 +226,13 @@ fault_of Overflow place = Fault.Overflow place
 fault_of DivisionByZero place = Fault.DivisionByZero place
 fault_of Exponent place = Fault.Exponent place
 
-abbrev pub Tells : Told Worth → Told ℤ → Type 0
-Tells (Ok (rest, Ok z)) r = r ≡ Ok (rest, z)
-Tells (Ok (rest, Err (why, place))) r = r ≡ Err (Answered.Failure (fault_of why place))
-Tells (Err e) r = r ≡ Err e
+abbrev pub IsWorthResult : FormResult Worth → FormResult ℤ → Type 0
+IsWorthResult (Ok (rest, Ok z)) r = r ≡ Ok (rest, z)
+IsWorthResult (Ok (rest, Err (why, place))) r = r ≡ Err (Answered.Failure (fault_of why place))
+IsWorthResult (Err e) r = r ≡ Err e
 
 -- what an expression answers: the value of a sum, or the fault that it has in its place
-pub record Answers (depth : ℕ) (i : Text) (r : Told ℤ) : Type 0 where
-  pub found : Told Worth
+pub record Answers (depth : ℕ) (i : Text) (r : FormResult ℤ) : Type 0 where
+  pub found : FormResult Worth
   pub parsed : Parses (sum_of depth) i found
-  pub told : Tells found r
+  pub told : IsWorthResult found r

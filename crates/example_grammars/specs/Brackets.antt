@@ -51,8 +51,8 @@ brackets_laws = record {
   place = λ i n d a. byte_place i n (nested_within i n d a);
   one_accepted = λ i n m c d a b. let same : c ≡ d = a.0 ∙ sym b.0 in (a.2 ∙ (ap (λ k. k + k) same ∙ sym b.2), same);
   never_both = λ i n d a b. omega (arith, a.0, a.1, b);
-  accepted_alike = λ x y n d r a. subst (λ xs. (d ≡ opened xs) × (d ≤ closed xs) × (n ≡ d + d)) r.elements_are a;
-  refused_alike = λ x y r a. subst (λ xs. closed xs < opened xs) r.elements_are a;
+  accepted_consistent = λ x y n d r a. subst (λ xs. (d ≡ opened xs) × (d ≤ closed xs) × (n ≡ d + d)) r.elements_are a;
+  refused_consistent = λ x y r a. subst (λ xs. closed xs < opened xs) r.elements_are a;
 }
 
 pub brackets_lawful : IsLawful bytes_model brackets_meaning

@@ -9,13 +9,13 @@ use Rattle.example_json.specs.declared.tree.Json.{Json}
 use Rattle.example_json.specs.Json.{array_of, object_of, refuses, scalar_of, value_of}
 use Rattle.example_json.specs.Scalars.{deep_of, token_of}
 use Rattle.example_json.proofs.Between.{TakenBy}
-use Rattle.example_json.proofs.Told.{HasRefused, Told, first_tells, either_refused, next_tells}
+use Rattle.example_json.proofs.Results.{HasRefused, TextResult, first_tells, either_refused, next_tells}
 use Rattle.example_json.proofs.Tokens.{token_moves}
 
 one_less : (d : ℕ) → (suc d) - 1 ≡ d
 one_less d = omega arith
 
-module _ {i : Text} {r : Told Json} where
+module _ {i : Text} {r : TextResult Json} where
   pub a_scalar : (d : ℕ) → Parses scalar_of false i r → false ≡ refuses r → Parses (value_of d) false i r
   a_scalar zero h stays = first_tells scalar_of deep_of h stays
   a_scalar (suc d) h stays = first_tells (or_of scalar_of (array_of (value_of d))) (object_of (value_of d))
@@ -40,7 +40,7 @@ module _ {i : Text} {r : Told Json} where
       (subst (λ n. Parses (object_of (value_of n)) false i r) (one_less d) h)
 
 -- after a character what is left is shorter
-pub moved : (c : ℕ) {V O : Type 0} (g : TextGrammar V O) {i j : Text} {x : ℕ} {r : Told O} → TakenBy (token_of c) i j x → Parses g false j r →
+pub moved : (c : ℕ) {V O : Type 0} (g : TextGrammar V O) {i j : Text} {x : ℕ} {r : TextResult O} → TakenBy (token_of c) i j x → Parses g false j r →
     IfOk r (λ a. input_len text_model a.0 < input_len text_model i)
 moved c g {i} t (ParseRanOut e h) = subst (λ z. IfOk z (λ a. input_len text_model a.0 < input_len text_model i)) (sym e) tt
 moved c g {i} t (Parsed (Accept n v) a p) = subst (λ z. IfOk z (λ a. input_len text_model a.0 < input_len text_model i)) (sym p.4) (token_moves c t p.2)
@@ -48,6 +48,6 @@ moved c g {i} t (Parsed Refuse a p) = subst (λ z. IfOk z (λ a. input_len text_
 moved c g {i} t (Parsed (Stop (Fails cause)) a p) = subst (λ z. IfOk z (λ a. input_len text_model a.0 < input_len text_model i)) (sym p.2) tt
 moved c g {i} t (Parsed (Stop (Needs k)) a p) = subst (λ z. IfOk z (λ a. input_len text_model a.0 < input_len text_model i)) (sym p.2) tt
 
-pub moved_not : {O : Type 0} (i : Text) {r : Told O} {e : Answer.Err (Error Text) (Error Text) Needed} → r ≡ Err e →
+pub moved_not : {O : Type 0} (i : Text) {r : TextResult O} {e : Answer.Err (Error Text) (Error Text) Needed} → r ≡ Err e →
     IfOk r (λ a. input_len text_model a.0 < input_len text_model i)
 moved_not i q = subst (λ z. IfOk z (λ a. input_len text_model a.0 < input_len text_model i)) (sym q) tt

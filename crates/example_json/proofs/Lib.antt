@@ -3,7 +3,7 @@ pub mod Branches
 pub mod Ended
 pub mod Lists
 pub mod Plain
-pub mod Told
+pub mod Results
 pub mod Tokens
 pub mod Whole
 pub mod Written

@@ -15,7 +15,7 @@ use Rattle.nom_repeat.proofs.Repeated.{Collected, collected_more, pieces_end}
 use Rattle.nom_repeat.proofs.Accumulating.{zip_push}
 use Rattle.nom.specs.grammars.Texts.{Text, TextGrammar, Parses}
 use Rattle.example_json.specs.Json.{IsTaken, after_comma, item_at, list_of, list_turn, refuses}
-use Rattle.example_json.proofs.Told.{Told, taken, refused}
+use Rattle.example_json.proofs.Results.{TextResult, taken, refused}
 
 -- the turns of a list
 abbrev Turns : {V : Type 0} (first further : Meaning Text V (Error Text)) → ℕ → Text → Turn V (Unit {0}) → Type 0
@@ -66,7 +66,7 @@ module _ {V O : Type 0} (g : TextGrammar V O) {Held : List V → Type 0} {i j : 
   blames a p e h = reaches (λ k x. OnReply None (λ k. (PartAt g k).answers false) (λ _. (PartAt g k).blames false x e) k x)
       (record { reply = Some a; replied = (tt, p); fact = h })
 
-  module _ {M : Type 0} {r : Told (Vec O M)} where
+  module _ {M : Type 0} {r : TextResult (Vec O M)} where
     -- the part refuses: all that was taken is the list
     list_ends : {list : Vec O M} → AllZip g.IsOutput c.trees list.items → (PartAt g (length c.trees)).answers false j Refuse →
         r ≡ Ok (j, list) → Parses (list_of g) false i r
@@ -74,7 +74,7 @@ module _ {V O : Type 0} (g : TextGrammar V O) {Held : List V → Type 0} {i j : 
         (j, list, subst (λ n. IsSuffixOf text_model i n j) (omega arith) c.rest_is, h, q)
 
     -- it stops
-    list_stops : {IsItem : V → O → Type 0} {s : Told O} {e : Answer.Err (Error Text) (Error Text) Needed} → s ≡ Err e → r ≡ Err e →
+    list_stops : {IsItem : V → O → Type 0} {s : TextResult O} {e : Answer.Err (Error Text) (Error Text) Needed} → s ≡ Err e → r ≡ Err e →
         false ≡ refuses s → ParsesMeaning text_model IsItem (PartAt g (length c.trees)) false j s → Parses (list_of g) false i r
     list_stops is q stays (ParseRanOut e h) =
         ParseRanOut (cc (is, q, e)) (reaches (λ k x. OnReply None (λ k. (PartAt g k).answers false) (λ a. IsTaken a) k x ⊎
@@ -96,7 +96,7 @@ module _ {V O : Type 0} (g : TextGrammar V O) {i : Text} (known : text_model.IsK
   abbrev none_yet : Collected text_model (Turns g.meaning (after_comma g).meaning) (λ vs. vs ≡ []) i i
   none_yet = record { trees = []; taken = 0; pieces = (refl, refl); rest_is = rest_self text_model text_lawful i known; held = refl }
 
-  module _ {M : Type 0} {r : Told (Vec O M)} {s : Told O} where
+  module _ {M : Type 0} {r : TextResult (Vec O M)} {s : TextResult O} where
     -- the first item is refused
     pub first_refused : true ≡ refuses s → Parses g false i s → {list : Vec O M} → list.items ≡ [] → r ≡ Ok (i, list) → Parses (list_of g) false i r
     first_refused is h e q = list_ends g none_yet (subst (λ xs. AllZip g.IsOutput [] xs) (sym e) tt) (refused g h is).answered q
@@ -108,7 +108,7 @@ module _ {V O : Type 0} (g : TextGrammar V O) {i : Text} (known : text_model.IsK
     pub first_lacks : {j : Text} {x : O} → s ≡ Ok (j, x) → Parses g false i s → r ≡ Err Answered.OutOfMemory → Parses (list_of g) false i r
     first_lacks is h q = let t = taken is h in list_lacks g none_yet t.length t.tree t.answered q
 
-  pub first_kept : {j : Text} {x : O} {s : Told O} → s ≡ Ok (j, x) → Parses g false i s → {outputs : List O} → outputs ≡ x ∷ [] → Listed g i j outputs
+  pub first_kept : {j : Text} {x : O} {s : TextResult O} → s ≡ Ok (j, x) → Parses g false i s → {outputs : List O} → outputs ≡ x ∷ [] → Listed g i j outputs
   first_kept {j} {x} is h e =
       let t = taken is h in
       collected_more text_lawful (Turns g.meaning (after_comma g).meaning) t.tree none_yet
@@ -120,7 +120,7 @@ module _ {V O : Type 0} (g : TextGrammar V O) {i j : Text} {outputs : List O} (c
   here : (after_comma g).meaning ≡ PartAt g (length c.trees)
   here = further_at g.meaning (after_comma g).meaning (length c.trees) c.held.1
 
-  module _ {M : Type 0} {r : Told (Vec O M)} {s : Told O} where
+  module _ {M : Type 0} {r : TextResult (Vec O M)} {s : TextResult O} where
     -- a further item is refused
     pub further_refused : true ≡ refuses s → Parses (after_comma g) false j s → {list : Vec O M} → list.items ≡ outputs → r ≡ Ok (j, list) →
         Parses (list_of g) false i r
@@ -134,7 +134,7 @@ module _ {V O : Type 0} (g : TextGrammar V O) {i j : Text} {outputs : List O} (c
     pub further_lacks : {k : Text} {x : O} → s ≡ Ok (k, x) → Parses (after_comma g) false j s → r ≡ Err Answered.OutOfMemory → Parses (list_of g) false i r
     further_lacks is h q = let t = taken is h in list_lacks g c t.length t.tree (subst (λ m. m.answers false j (Accept t.length t.tree)) here t.answered) q
 
-  pub further_kept : {k : Text} {x : O} {s : Told O} → s ≡ Ok (k, x) → Parses (after_comma g) false j s → {more : List O} → more ≡ outputs ++
+  pub further_kept : {k : Text} {x : O} {s : TextResult O} → s ≡ Ok (k, x) → Parses (after_comma g) false j s → {more : List O} → more ≡ outputs ++
       x ∷ [] → Listed g i k more
   further_kept {k} {x} is h e =
       let t = taken is h in

@@ -25,13 +25,13 @@ use Rattle.nom.specs.grammars.Grammar.{sliced}
 use Rattle.nom.specs.grammars.Texts.{Text, TextGrammar, Parses, plain_errors}
 use Rattle.example_json.specs.Scalars.{Part, in_text, plain_by}
 use Rattle.example_json.specs.Strings.{EscapeTree, Means, decoded_of, meant_by, signs, unescaped_of}
-use Rattle.example_json.proofs.Told.{Told, Taken}
+use Rattle.example_json.proofs.Results.{TextResult, Taken}
 
 -- the plain characters at the start, if there are any
 abbrev pub plain_run : TextGrammar Part Text
 plain_run = sliced text_model (run_meaning text_model (λ c b. b ≡ in_text c))
 
-pub never_stops : {i : Text} {s : Told Text} {e : Answer.Err (Error Text) (Error Text) Needed} → s ≡ Err e → Parses plain_run false i s → ⊥
+pub never_stops : {i : Text} {s : TextResult Text} {e : Answer.Err (Error Text) (Error Text) Needed} → s ≡ Err e → Parses plain_run false i s → ⊥
 never_stops is (ParseRanOut e h) = absurd h.2
 never_stops is (Parsed (Accept n v) a p) = cc (is, p.4)
 never_stops is (Parsed Refuse a p) = p.1
@@ -167,7 +167,7 @@ module _ {M : Type 0} {i : Text} where
       Taken (decoded_of {M = M}).IsOutput ((decoded_of {M = M}).meaning.answers false i) i j (Owned x)
   owned t = record { length = t.length; tree = t.tree; answered = t.answered; rest_is = t.rest_is; output_is = t.output_is }
 
-  pub owned_stops : {e : Answer.Err (Error Text) (Error Text) Needed} {r : Told (CowStr M)} {s : Told (String M)} → s ≡ Err e → r ≡ Err e →
+  pub owned_stops : {e : Answer.Err (Error Text) (Error Text) Needed} {r : TextResult (CowStr M)} {s : TextResult (String M)} → s ≡ Err e → r ≡ Err e →
       Parses (unescaped_of {M = M}) false i s → Parses (decoded_of {M = M}) false i r
   owned_stops is q (ParseRanOut e z) = ParseRanOut (cc (is, q, e)) z
   owned_stops is q (Parsed (Accept n v) a p) = absurd (cc (is, p.4))

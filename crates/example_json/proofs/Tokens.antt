@@ -5,7 +5,7 @@ use Rattle.nom_internal.specs.Prelude.{RunsOutNext}
 use Rattle.nom_internal.proofs.Consumed.{rest_length}
 use Rattle.nom.specs.grammars.Texts.{Text, char_of}
 use Rattle.example_json.specs.Scalars.{Part, spaces_of, token_of}
-use Rattle.example_json.proofs.Told.{Taken}
+use Rattle.example_json.proofs.Results.{Taken}
 
 -- memory never runs out
 pub spaces_frugal : (mode : Modes) (i : Text) → spaces_of.meaning.may_run_out mode i → ⊥

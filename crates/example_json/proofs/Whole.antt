@@ -7,7 +7,7 @@ use Rattle.nom.specs.grammars.Texts.{Parses, Text, all_consuming_of, alt_of, cha
 use Rattle.example_json.specs.Numbers.{whole_by}
 use Rattle.example_json.specs.Scalars.{Part}
 use Rattle.example_json.proofs.Between.{IsFrugal}
-use Rattle.example_json.proofs.Told.{Told}
+use Rattle.example_json.proofs.Results.{TextResult}
 
 -- it never runs out of memory
 abbrev Frugal : {V : Type 0} → Meaning Text V (Error Text) → Type 0
@@ -54,6 +54,6 @@ whole_frugal minus zero mode i (RunsOutInPart j e h) = all_frugal minus zero (wi
 whole_frugal minus zero mode i (RunsOutBeside p) = absurd p.fact
 
 -- what the look answers by its parts
-pub whole_told : {i : Text} {s : Told (Option ℕ × Text)} (minus : ℕ) (zero : List ℕ) → minus ≡ 45 → zero ≡ codes "0" →
+pub whole_told : {i : Text} {s : TextResult (Option ℕ × Text)} (minus : ℕ) (zero : List ℕ) → minus ≡ 45 → zero ≡ codes "0" →
     Parses (whole_by minus zero) false i s → Parses (whole_by 45 (codes "0")) false i s
 whole_told {i} {s} minus zero m z h = subst (λ k. Parses (whole_by k (codes "0")) false i s) m (subst (λ k. Parses (whole_by minus k) false i s) z h)

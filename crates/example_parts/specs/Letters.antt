@@ -82,7 +82,7 @@ module _ {I : Type 0} (w : Model I ℕ) where
     accepted_stays = λ longer s only x y n b kx ky r a.
         (a.0, a.1, open_stays w (λ xs. BeginsWith xs b) (λ x y kx ky e p. begins_more (w.elements x) (w.elements y) e.more b e.whole p) longer x y kx ky r a.2);
     refused_stays = refused_stays;
-    lack_alike = λ x y k kx ky r a. subst (λ xs. (xs ≡ []) × (k ≡ Some 1)) r.elements_are a;
+    lack_consistent = λ x y k kx ky r a. subst (λ xs. (xs ≡ []) × (k ≡ Some 1)) r.elements_are a;
     accepted_settles = λ i n b h a. a;
     refused_settles = λ i h r. refused_settles i r;
   }

@@ -72,8 +72,6 @@ impl<I: Input<Item = u8>, E: ParseError<I>> Parser<I> for Letter<I, E> {
 }
 
 impl<I: Input<Item = u8>, E: ParseError<I>> StreamParser<I> for Letter<I, E> {
-    ghost Pins = { λ _. Unit {0} };
-
     ghost pinned = { λ p k h. value_pinned };
 
     ghost steady = { λ _ k. letter_steady I.model E.errors };

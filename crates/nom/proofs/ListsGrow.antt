@@ -3,7 +3,7 @@ use Rattle.std.proofs.Common.{◌≡◌, ℕ, Bool, true, false, inl, inr, List,
 use Rattle.nom_internal.specs.Prelude.{Errors, Modes, with_outputs, ErrorKind, Model, InputLaws, Meaning, IsLawful, RunsOutFirst, RunsOutNext, Accept}
 use Rattle.nom_error.specs.declared.kind.ErrorKind.TheVariants as Kind
 use Rattle.nom_repeat.specs.Bounds.{any_limits, one_limits, exact_limits, bounded_limits}
-use Rattle.nom_repeat.specs.Inverted.{Either}
+use Rattle.nom_repeat.specs.Inverted.{IfThenElse}
 use Rattle.nom_repeat.specs.Items.{items_meaning}
 use Rattle.nom_repeat.specs.declared.items.Limits.{Limits}
 use Rattle.nom_repeat.specs.declared.items.TooFew.TheVariants.{Added, Passed}
@@ -42,7 +42,7 @@ module _ {I A V E : Type 0} (w : Model I A) (errs : Errors I E) (m : Meaning I V
   pub many_m_n_grow : (least most : ℕ) → GrowsByItems w errs m (many_m_n_meaning w errs least most m)
   many_m_n_grow least most frugal none mode i h r = by (ltb most least) r
     where
-      by : (test : Bool) → Either test (Unit {0} × errs.grows) ((items_meaning w errs (bounded_limits Kind.ManyMN least most) (Unit {0}) m).may_run_out
+      by : (test : Bool) → IfThenElse test (Unit {0} × errs.grows) ((items_meaning w errs (bounded_limits Kind.ManyMN least most) (Unit {0}) m).may_run_out
           mode i) → (mode.outputs ≡ true) × IsAccepted (m.answers mode.streaming) i
       by true q = absurd (none q.1)
       by false q = limited_grow (bounded_limits Kind.ManyMN least most) frugal none mode i h q

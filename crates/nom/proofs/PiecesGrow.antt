@@ -1,7 +1,8 @@
 -- Where texts of pieces run out of memory.
 use Rattle.std.proofs.Common.{◌≡◌, ℕ, ◌+◌, Bool, true, false, Option, Some, None, ◌⊎◌, inl, inr, List, [], ◌∷◌, ◌++◌, zero, suc, refl, sym, ◌∙◌, subst}
 use Rattle.std.proofs.Common.{ap, arith}
-use Rattle.nom_internal.specs.Prelude.{Errors, Modes, with_errors, with_outputs, Model, InputLaws, IsSuffixOf, IsSame, items_len, rest_alike, Outcome, Accept}
+use Rattle.nom_internal.specs.Prelude.{Errors, Modes, with_errors, with_outputs, Model, InputLaws}
+use Rattle.nom_internal.specs.Prelude.{IsSuffixOf, IsSame, items_len, rest_consistent, Outcome, Accept}
 use Rattle.nom_internal.specs.Prelude.{Refuse, Stop, Meaning, IsLawful, labelled, labelled_meaning, GoesOnRefused, GoesOn, after, Fails, Needs}
 use Rattle.nom_repeat.specs.Repeat.{IsBelow, OnReply, Pieces, Replies, TurnsBy}
 use Rattle.nom_repeat.specs.Repeat.Turn.{Takes}
@@ -111,9 +112,9 @@ module _ {I A U W E : Type 0} (w : Model I A) (l : InputLaws w) (IsControl : A �
       by (Stop why) b e = absurd (cc (e))
 
   -- at an input that is equal as models
-  piece_alike : (i j : I) → w.IsKnown i → w.IsKnown j → IsSame w j i → HasPiece j → HasPiece i
-  piece_alike i j h k r (inl a) = inl (a.0, a.1, p.consistent s j i (Accept a.0 a.1) k h r a.2 tt)
-  piece_alike i j h k r (inr a) = inr (
+  piece_consistent : (i j : I) → w.IsKnown i → w.IsKnown j → IsSame w j i → HasPiece j → HasPiece i
+  piece_consistent i j h k r (inl a) = inl (a.0, a.1, p.consistent s j i (Accept a.0 a.1) k h r a.2 tt)
+  piece_consistent i j h k r (inr a) = inr (
     p.consistent s j i Refuse k h r a.0 tt,
     record {
       item = a.1.item;
@@ -122,7 +123,7 @@ module _ {I A U W E : Type 0} (w : Model I A) (l : InputLaws w) (IsControl : A �
       is_control = a.1.is_control;
       some = a.1.some;
       rest = a.1.rest;
-      rest_is = rest_alike w j i (w.item_len a.1.item) a.1.rest r a.1.rest_is;
+      rest_is = rest_consistent w j i (w.item_len a.1.item) a.1.rest r a.1.rest_is;
       fact = a.1.fact;
     },
   )
@@ -136,7 +137,7 @@ module _ {I A U W E : Type 0} (w : Model I A) (l : InputLaws w) (IsControl : A �
       on_left k true z j r o x e =
           let f = after_accept k n (Found v) (λ t. t) o e in
           let found = subst (λ y. (piece_meaning w IsControl lack m g).answers s j y) (f.2 ∙ ap (λ y. Accept f.0 y) (sym f.3)) x in
-          piece_alike i j h r.known (same_rest w l i j k z r) (piece_at j f.0 v found)
+          piece_consistent i j h r.known (same_rest w l i j k z r) (piece_at j f.0 v found)
       on_left k false z j r o x e =
           let f = after_accept k n (Found v) (λ t. t) o e in
           let y = subst (λ z. (by_left Done (piece_meaning w IsControl lack m g) false).answers s j z) f.2 x in

@@ -10,6 +10,7 @@ pub use Rattle.nom_number.specs.declared.order.Endianness.TheVariants.{Big, Litt
 use Rattle.nom_search.specs.Substrings.{FindsBytes}
 use Rattle.nom.specs.Grammar as Grammars
 use Rattle.nom.specs.Grammar.{Word}
+pub use Rattle.nom.specs.Grammar.{cond_of, cut_of, map_by, map_of, opt_of, peek_of, value_of}
 use Rattle.nom.specs.Leaves as Leaves
 
 abbrev pub Bytes : Type 0
@@ -72,15 +73,6 @@ separated_pair_of = Grammars.separated_pair_of bytes_model
 abbrev pub delimited_of : {O P Q : Type 0} → BytesWord O → BytesWord P → BytesWord Q → BytesWord P
 delimited_of = Grammars.delimited_of bytes_model
 
-abbrev pub opt_of : {O : Type 0} → BytesWord O → BytesWord (Option O)
-opt_of = Grammars.opt_of
-
-abbrev pub cut_of : {O : Type 0} → BytesWord O → BytesWord O
-cut_of = Grammars.cut_of
-
-abbrev pub peek_of : {O : Type 0} → BytesWord O → BytesWord O
-peek_of = Grammars.peek_of
-
 abbrev pub not_of : {O : Type 0} → BytesWord O → BytesWord (Unit {0})
 not_of = Grammars.not_of plain_errors
 
@@ -130,9 +122,6 @@ many1_count_of = Grammars.many1_count_of bytes_model plain_errors
 
 abbrev pub many_m_n_count_of : {O : Type 0} → ℕ → ℕ → BytesWord O → BytesWord ℕ
 many_m_n_count_of = Grammars.many_m_n_count_of bytes_model plain_errors
-
-abbrev pub map_of : {O P : Type 0} → (O → P) → BytesWord O → BytesWord P
-map_of f = Grammars.map_of f
 
 abbrev pub take_while1_of : (ℕ → Bool) → BytesWord Bytes
 take_while1_of = Leaves.take_while1_of bytes_model plain_errors (λ b. b < 256)
@@ -275,9 +264,6 @@ verify_of = Grammars.verify_of plain_errors
 abbrev pub map_opt_of : {O P : Type 0} → (O → Option P) → BytesWord O → BytesWord P
 map_opt_of = Grammars.map_opt_of plain_errors
 
-abbrev pub value_of : {O P : Type 0} → P → BytesWord O → BytesWord P
-value_of v = Grammars.value_of v
-
 abbrev pub signed_number_of : Endianness → ℕ → BytesWord ℤ
 signed_number_of = Leaves.signed_number_of bytes_model plain_errors
 
@@ -335,14 +321,6 @@ abbrev pub permutation_of_eight : {A B C D F G H J : Type 0} → BytesWord A →
     BytesWord H → BytesWord J → BytesWord (A × B × C × D × F × G × H × J)
 permutation_of_eight = Grammars.permutation_of_eight bytes_model plain_errors
 
--- a part that runs where b is true
-abbrev pub cond_of : {O : Type 0} → Bool → BytesWord O → BytesWord (Option O)
-cond_of = Grammars.cond_of
-
 -- items without one that escapes the next, and what follows it
 abbrev pub escaped_of : {O P : Type 0} → BytesWord O → ℕ → BytesWord P → BytesWord Bytes
 escaped_of = Grammars.escaped_of bytes_model plain_errors (λ x. x)
-
--- what a function of this contract returns for each output
-abbrev pub map_by : {O P : Type 0} → (O → Type 0) → (O → P → Type 0) → BytesWord O → BytesWord P
-map_by = Grammars.map_by

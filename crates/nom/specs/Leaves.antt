@@ -9,6 +9,7 @@ use Rattle.nom_traits.specs.declared.character.AsciiClass.TheVariants as Class
 use Rattle.nom_bytes.specs.Tests.{Test, failing, outside, passing, within}
 use Rattle.nom_bytes.specs.Words as Bytes
 use Rattle.nom_character.specs.Tests.{char_outside, char_passing, char_within}
+use Rattle.nom_character.specs.LineMatches.{crlf_in, line_ending_in, line_in}
 use Rattle.nom_character.specs.Words as Character
 use Rattle.nom_character_integer.specs.DigitWords as Digits
 use Rattle.nom_character_integer.specs.Words as Integer
@@ -81,13 +82,13 @@ module _ {I E : Type 0} (w : Model I ℕ) (errs : Errors I E) where
 
   -- ends of lines, and the items before one
   abbrev pub crlf_of : Word I I E
-  crlf_of = Character.crlf_of w errs (λ x. x)
+  crlf_of = Character.match_of w errs (crlf_in (λ x. x)) Kind.CrLf
 
   abbrev pub line_ending_of : Word I I E
-  line_ending_of = Character.line_ending_of w errs (λ x. x)
+  line_ending_of = Character.match_of w errs (line_ending_in (λ x. x)) Kind.CrLf
 
   abbrev pub not_line_ending_of : Word I I E
-  not_line_ending_of = Character.not_line_ending_of w errs (λ x. x)
+  not_line_ending_of = Character.match_of w errs (line_in (λ x. x)) Kind.Tag
 
   -- the items of a class: any number, or one at least, where a refusal is of a kind
   abbrev class_of : AsciiClass → Option ErrorKind → Word I I E

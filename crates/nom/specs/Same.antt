@@ -2,8 +2,6 @@
 -- `#![tactic(auto, using(nom::specs::Same::words))]` at a crate's root.
 use Rattle.std.proofs.Common.{refl}
 use Rattle.nom_internal.specs.Word.{answers_same}
-use Rattle.nom_internal.specs.TupleWords.{tuple_of_two_same, tuple_of_three_same, tuple_of_four_same, tuple_of_five_same}
-use Rattle.nom_internal.specs.TupleWords.{tuple_of_six_same, tuple_of_seven_same, tuple_of_eight_same}
 use Rattle.nom_internal.specs.Words.{and_then_same, either_same, fixed_same, flat_map_same, into_same}
 use Rattle.nom_internal.specs.Words.{map_opt_same, map_res_same, map_same, pair_same, tuple_same}
 use Rattle.nom_calls.specs.Words.{given_same, stream_given_same}
@@ -30,13 +28,6 @@ pub ruleset words = (
   refl,
   pair_same,
   tuple_same,
-  tuple_of_two_same,
-  tuple_of_three_same,
-  tuple_of_four_same,
-  tuple_of_five_same,
-  tuple_of_six_same,
-  tuple_of_seven_same,
-  tuple_of_eight_same,
   preceded_same,
   terminated_same,
   or_same,

@@ -9,6 +9,7 @@ pub use Rattle.nom_error.specs.PlainErrors.{plain_errors}
 use Rattle.nom_search.specs.Substrings.{FindsFirst}
 use Rattle.nom.specs.Grammar as Grammars
 use Rattle.nom.specs.Grammar.{Word}
+pub use Rattle.nom.specs.Grammar.{cond_of, cut_of, map_by, map_of, opt_of, peek_of, value_of}
 use Rattle.nom.specs.Leaves as Leaves
 
 abbrev pub Text : Type 0
@@ -71,15 +72,6 @@ separated_pair_of = Grammars.separated_pair_of text_model
 abbrev pub delimited_of : {O P Q : Type 0} → TextWord O → TextWord P → TextWord Q → TextWord P
 delimited_of = Grammars.delimited_of text_model
 
-abbrev pub opt_of : {O : Type 0} → TextWord O → TextWord (Option O)
-opt_of = Grammars.opt_of
-
-abbrev pub cut_of : {O : Type 0} → TextWord O → TextWord O
-cut_of = Grammars.cut_of
-
-abbrev pub peek_of : {O : Type 0} → TextWord O → TextWord O
-peek_of = Grammars.peek_of
-
 abbrev pub not_of : {O : Type 0} → TextWord O → TextWord (Unit {0})
 not_of = Grammars.not_of plain_errors
 
@@ -129,9 +121,6 @@ many1_count_of = Grammars.many1_count_of text_model plain_errors
 
 abbrev pub many_m_n_count_of : {O : Type 0} → ℕ → ℕ → TextWord O → TextWord ℕ
 many_m_n_count_of = Grammars.many_m_n_count_of text_model plain_errors
-
-abbrev pub map_of : {O P : Type 0} → (O → P) → TextWord O → TextWord P
-map_of f = Grammars.map_of f
 
 abbrev pub take_while1_of : (ℕ → Bool) → TextWord Text
 take_while1_of = Leaves.take_while1_of text_model plain_errors IsScalar
@@ -264,9 +253,6 @@ verify_of = Grammars.verify_of plain_errors
 abbrev pub map_opt_of : {O P : Type 0} → (O → Option P) → TextWord O → TextWord P
 map_opt_of = Grammars.map_opt_of plain_errors
 
-abbrev pub value_of : {O P : Type 0} → P → TextWord O → TextWord P
-value_of v = Grammars.value_of v
-
 abbrev pub length_count_of : {P M : Type 0} → TextWord ℕ → TextWord P → TextWord (Vec P M)
 length_count_of = Grammars.length_count_of text_model plain_errors
 
@@ -320,14 +306,6 @@ abbrev pub permutation_of_eight : {A B C D F G H J : Type 0} → TextWord A → 
     TextWord H → TextWord J → TextWord (A × B × C × D × F × G × H × J)
 permutation_of_eight = Grammars.permutation_of_eight text_model plain_errors
 
--- a part that runs where b is true
-abbrev pub cond_of : {O : Type 0} → Bool → TextWord O → TextWord (Option O)
-cond_of = Grammars.cond_of
-
 -- items without one that escapes the next, and what follows it
 abbrev pub escaped_of : {O P : Type 0} → TextWord O → ℕ → TextWord P → TextWord Text
 escaped_of = Grammars.escaped_of text_model plain_errors (λ x. x)
-
--- what a function of this contract returns for each output
-abbrev pub map_by : {O P : Type 0} → (O → Type 0) → (O → P → Type 0) → TextWord O → TextWord P
-map_by = Grammars.map_by

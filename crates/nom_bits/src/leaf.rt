@@ -74,8 +74,6 @@ impl<I: Input<Item = u8>, O: BitUint, E: ParseError<(I, usize)>> Parser<(I, usiz
 
 impl<I: Input<Item = u8>, O: BitUint, E: ParseError<(I, usize)>> StreamParser<(I, usize)>
     for Take<I, O, E> {
-    ghost Pins = { λ _. Unit {0} };
-
     ghost pinned = { λ p k h. record { one_view = λ t a b x y. ap O.view.value (x ∙ sym y) } };
 
     ghost steady = { λ count k. take_steady I.model E.errors O.WIDTH count };
@@ -142,8 +140,6 @@ impl<I: Input<Item = u8>, O: BitUint, E: ParseError<(I, usize)>> Parser<(I, usiz
 
 impl<I: Input<Item = u8>, O: BitUint, E: ParseError<(I, usize)>> StreamParser<(I, usize)>
     for Tag<I, O, E> {
-    ghost Pins = { λ _. Unit {0} };
-
     ghost pinned = { λ p k h. record { one_view = λ t a b x y. ap O.view.value (x ∙ sym y) } };
 
     ghost steady = { λ s k. tag_steady I.model E.errors O.WIDTH s.0 s.1 };
@@ -197,8 +193,6 @@ impl<I: Input<Item = u8>, E: ParseError<(I, usize)>> Parser<(I, usize)> for Bool
 }
 
 impl<I: Input<Item = u8>, E: ParseError<(I, usize)>> StreamParser<(I, usize)> for Bool<I, E> {
-    ghost Pins = { λ _. Unit {0} };
-
     ghost pinned = { λ p k h. value_pinned };
 
     ghost steady = { λ _ k. bool_steady I.model E.errors };

@@ -21,45 +21,39 @@ pub choice_shown : {I A V O E : Type 0} (w : Model I A) (IsOutput : V → O → 
     ClosesResult (e.appended i Alt) e.grows before r → ShowsMeaning w IsOutput (choice_meaning e m) mode i r
 choice_shown w IsOutput e m mode i = closed_shown w IsOutput mode i m (λ j. e.appended j Alt) e.grows
 
--- what the branches so far answer, as a fact that names their grammar
-pub record IsChosen {I A V O E : Type 0} (w : Model I A) (e : Errors I E) (mode : Modes) (i : I) (g : Grammar I V O E) (r : PResult I O E) : Type 0 where
+-- what the branches so far answer, and what they owe besides
+pub record IsChosen {I A V O E : Type 0} (w : Model I A) (e : Errors I E) (mode : Modes) (i : I) (g : Grammar I V O E) (Owes : Option I → Type 0)
+    (r : PResult I O E) : Type 0 where
   pub shown : Shows w g mode i r
-
-module _ {I A V O E : Type 0} (w : Model I A) (e : Errors I E) (mode : Modes) (i : I) (g : Grammar I V O E) where
-  -- the first branch
-  pub first_chosen : (r : PResult I O E) → Shows w g mode i r → IsChosen w e mode i g r
-  first_chosen r h = record { shown = h }
-
-module _ {I A V O E : Type 0} {w : Model I A} {e : Errors I E} {mode : Modes} {i : I} {g : Grammar I V O E} {before : PResult I O E} where
-  -- one more branch
-  pub next_chosen : {U : Type 0} → IsChosen w e mode i g before → (h : Grammar I U O E) (r : PResult I O E) →
-      OnError (ShowsNext w h.IsOutput e.joined e.grows h.meaning mode i) before r → IsChosen w e mode i (or_of e g h) r
-  next_chosen k h r n = record { shown = next_shown w g.IsOutput h.IsOutput e g.meaning h.meaning mode i before r k.shown n }
-
-  -- all branches, closed
-  pub all_chosen : IsChosen w e mode i g before → (r : PResult I O E) → ClosesResult (e.appended i Alt) e.grows before r → Shows w (alt_of e g) mode i r
-  all_chosen k r c = choice_shown w g.IsOutput e g.meaning mode i before r k.shown c
-
--- what the branches so far owe besides, as a fact that names it
-pub record IsOwed {I O E : Type 0} (Owes : Option I → Type 0) (r : PResult I O E) : Type 0 where
   pub owed : Owes (rest_of r)
 
-module _ {I O E : Type 0} (Owes : Option I → Type 0) where
-  pub first_owed : (r : PResult I O E) → Owes (rest_of r) → IsOwed Owes r
-  first_owed r h = record { owed = h }
+module _ {I A V O E : Type 0} (w : Model I A) (e : Errors I E) (mode : Modes) (i : I) (g : Grammar I V O E) (Owes : Option I → Type 0) where
+  -- the first branch
+  pub first_chosen : {r : PResult I O E} → Shows w g mode i r → Owes (rest_of r) → IsChosen w e mode i g Owes r
+  first_chosen h k = record { shown = h; owed = k }
 
-  closed_owed : (Closes : E → E → Type 0) (Grows : Type 0) (before r : PResult I O E) → ClosesResult Closes Grows before r →
-      Owes (rest_of before) → Owes (rest_of r)
-  closed_owed Closes Grows (Ok v) r h k = subst Owes (sym (ap rest_of h)) k
-  closed_owed Closes Grows (Err (Incomplete n)) r h k = subst Owes (sym (ap rest_of h)) k
-  closed_owed Closes Grows (Err (Error e)) r h k = subst Owes (sym (ap rest_of h.2)) k
-  closed_owed Closes Grows (Err (Failure e)) r h k = subst Owes (sym (ap rest_of h)) k
-  closed_owed Closes Grows (Err OutOfMemory) r h k = subst Owes (sym (ap rest_of h)) k
+closed_owed : {I O E : Type 0} (Owes : Option I → Type 0) (Closes : E → E → Type 0) (Grows : Type 0) (before r : PResult I O E) →
+    ClosesResult Closes Grows before r → Owes (rest_of before) → Owes (rest_of r)
+closed_owed Owes Closes Grows (Ok v) r h k = subst Owes (sym (ap rest_of h)) k
+closed_owed Owes Closes Grows (Err (Incomplete n)) r h k = subst Owes (sym (ap rest_of h)) k
+closed_owed Owes Closes Grows (Err (Error e)) r h k = subst Owes (sym (ap rest_of h.2)) k
+closed_owed Owes Closes Grows (Err (Failure e)) r h k = subst Owes (sym (ap rest_of h)) k
+closed_owed Owes Closes Grows (Err OutOfMemory) r h k = subst Owes (sym (ap rest_of h)) k
 
-module _ {I O E : Type 0} {Owes : Option I → Type 0} {before : PResult I O E} where
-  pub next_owed : IsOwed Owes before → (Next : Option I → Type 0) (r : PResult I O E) → OnError (λ _ r. Next (rest_of r)) before r →
-      IsOwed (OrSideCondition Owes Next) r
-  next_owed k Next r n = record { owed = or_side_condition Owes Next before r k.owed n }
+module _ {I A V O E : Type 0} {w : Model I A} {e : Errors I E} {mode : Modes} {i : I} {g : Grammar I V O E} {Owes : Option I → Type 0}
+    {before : PResult I O E} (k : IsChosen w e mode i g Owes before) where
+  -- one more branch
+  pub next_chosen : {U : Type 0} (h : Grammar I U O E) (Next : Option I → Type 0) (r : PResult I O E) →
+      OnError (ShowsNext w h.IsOutput e.joined e.grows h.meaning mode i) before r → OnError (λ _ r. Next (rest_of r)) before r →
+      IsChosen w e mode i (or_of e g h) (OrSideCondition Owes Next) r
+  next_chosen h Next r n o = record {
+    shown = next_shown w g.IsOutput h.IsOutput e g.meaning h.meaning mode i before r k.shown n;
+    owed = or_side_condition Owes Next before r k.owed o;
+  }
 
-  pub all_owed : IsOwed Owes before → (Closes : E → E → Type 0) (Grows : Type 0) (r : PResult I O E) → ClosesResult Closes Grows before r → Owes (rest_of r)
-  all_owed k Closes Grows r c = closed_owed Owes Closes Grows before r c k.owed
+  -- all branches, closed
+  pub all_chosen : (r : PResult I O E) → ClosesResult (e.appended i Alt) e.grows before r → IsChosen w e mode i (alt_of e g) Owes r
+  all_chosen r c = record {
+    shown = choice_shown w g.IsOutput e g.meaning mode i before r k.shown c;
+    owed = closed_owed Owes (e.appended i Alt) e.grows before r c k.owed;
+  }

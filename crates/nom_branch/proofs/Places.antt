@@ -1,5 +1,5 @@
 -- A member's part in a round of a permutation.
-use Rattle.std.specs.Prelude.{◌≡◌, ◌+◌, Bool, true, false, Result, Ok, Err, Option, Some, None, refl}
+use Rattle.std.specs.Prelude.{◌≡◌, ◌+◌, Bool, true, false, List, Result, Ok, Err, Option, Some, None, refl}
 use Rattle.std.proofs.Common.{sym, ◌∙◌, ap, subst}
 use Rattle.nom_internal.specs.Prelude.{PResult, Needed, Incomplete, Error, Failure, OutOfMemory, Model, Built, Modes, modes, with_outputs, Outcome, Accept}
 use Rattle.nom_internal.specs.Prelude.{Refuse, Stop, ShowsOutcome, ShowsAnswer, RanOut, Shown, Meaning, labelled_meaning, NextBlames, NextRunsOut, OrBlames}
@@ -7,10 +7,11 @@ use Rattle.nom_internal.specs.Prelude.{or_meaning, OnError, ShowsNext, FirstFail
 use Rattle.nom_error.specs.declared.answer.Err as Answer
 use Rattle.nom_choose.specs.declared.slots.Slot.{Slot}
 use Rattle.nom_choose.specs.declared.slots.Slot.TheVariants.{Waiting, Applied}
-use Rattle.nom_branch.specs.Members.{Choice, IsOver, or_waiting}
+use Rattle.nom_branch.specs.Members.{Member, Choice, IsOver, or_waiting, tried, with_last}
 use Rattle.nom_branch.specs.Members.Choice.{NoChoice, Among}
 use Rattle.nom_choose.specs.Tries.{Fills, TriesFirst, TriesAfter, Tries}
 use Rattle.nom_branch.specs.Rounds.{SlotHolds, IsApplied, waits, applies, as_answer, WhereRefused, ShowsRound, HasTried}
+use Rattle.nom_branch.specs.laws.NestedLaws.{or_others, last_tried, others_over}
 use Rattle.nom_internal.proofs.Cased.{labelled_shown}
 use Rattle.nom_internal.proofs.Shown.{both_built}
 use Rattle.nom_internal.proofs.Choices.{shown_map, next_labelled, or_shown}
@@ -195,6 +196,14 @@ pub step_applied : {I T V E : Type 0} (Joins : E → E → E → Type 0) (Grows 
 step_applied Joins Grows m put o (Some v) h = (h, v, refl)
 step_applied Joins Grows m put NoChoice None h = absurd h
 step_applied Joins Grows m put (Among n) None h = absurd h
+
+-- the same of one more member, after the others
+pub more_applied : {I T V E : Type 0} (Joins : E → E → E → Type 0) (Grows : Type 0) (ms : List (Member I T E)) (m : Meaning I V E) (t : T × Option V) →
+    IsOver (tried Joins Grows (with_last ms m) t) → IsOver (tried Joins Grows ms t.0) × (v : V) × (t.1 ≡ Some v)
+more_applied Joins Grows ms m t h =
+    let over = step_applied Joins Grows m (λ v. (t.0, Some v)) (or_others Joins Grows t NoChoice ms) t.1
+    (subst (λ z. IsOver z) (last_tried Joins Grows m t NoChoice ms) h) in
+    (others_over Joins Grows t NoChoice NoChoice ms (λ u. u) over.0, over.1, over.2)
 
 -- what is taken from the place of an applied member
 pub taken_built : {V O : Type 0} (outputs : Bool) (IsOutput : V → O → Type 0) (x : Option V) (v : V) (slot : Slot O) (r : Option O) → x ≡ Some v →

@@ -1,9 +1,10 @@
 -- How a permutation runs its rounds.
 use Rattle.std.specs.Prelude.{◌≡◌, ℕ, Bool, true, List, [], Result, Ok, Err, Option, Some, None, refl}
-use Rattle.std.proofs.Common.{sym, ap, subst, zero, suc}
+use Rattle.std.proofs.Common.{sym, ◌∙◌, ap, subst, zero, suc}
 use Rattle.nom_internal.specs.Prelude.{PResult, Needed, Incomplete, Error, Failure, OutOfMemory, Model, InputLaws, IsSuffixOf, Built, modes, Accept, Shown}
-use Rattle.nom_internal.specs.Prelude.{Meaning, ShowsMeaning, closed_meaning, OnError, ClosesResult}
+use Rattle.nom_internal.specs.Prelude.{Errors, Meaning, ShowsMeaning, closed_meaning, OnError, ClosesError, ClosesResult}
 use Rattle.nom_error.specs.declared.answer.Err as Answer
+use Rattle.nom_error.specs.declared.kind.ErrorKind.TheVariants as Kind
 use Rattle.nom_branch.specs.Members.{Member, Choice, IsOver, tried}
 use Rattle.nom_branch.specs.Members.Choice.{NoChoice, Among}
 use Rattle.nom_branch.specs.Rounds.{applies, as_answer, ShowsRound, HasTried}
@@ -27,7 +28,7 @@ module _ {I A T E : Type 0} (w : Model I A) (Closes : I → E → E → Type 0) 
       answered (Err OutOfMemory) g = ap as_answer g
 
   -- what a round that tried some member shows
-  pub round_shown : (t : T) (o : Choice I T E) (round : Option (Result I (Answer.Err E (Option E) Needed)))
+  round_shown : (t : T) (o : Choice I T E) (round : Option (Result I (Answer.Err E (Option E) Needed)))
       (r closed : Result I (Answer.Err E (Option E) Needed)) → round ≡ Some r → HasTried w (modes outputs errors s) i Held t o round →
       ClosesResult (Closes i) Grows r closed → ShowsRound w (modes outputs errors s) i Held (round_meaning Closes Grows t o) closed
   round_shown t NoChoice round r closed e h g = cc (e, h.0)
@@ -36,11 +37,10 @@ module _ {I A T E : Type 0} (w : Model I A) (Closes : I → E → E → Type 0) 
       close_shown m r closed (subst (λ z. ShowsRound w (modes outputs errors s) i Held m z) same h.2) g
 
 module _ {I A T E : Type 0} (w : Model I A) (outputs errors s : Bool) (i : I) (Held : T → Type 0) (t : T) where
-  -- a round that tried none
-  pub round_over : (o : Choice I T E) (round : Option (Result I (Answer.Err E (Option E) Needed))) → round ≡ None →
+  tried_none : (o : Choice I T E) (round : Option (Result I (Answer.Err E (Option E) Needed))) → round ≡ None →
       HasTried w (modes outputs errors s) i Held t o round → IsOver o × Held t
-  round_over NoChoice round e h = (tt, h.1)
-  round_over (Among m) round e h = cc (e, h.1)
+  tried_none NoChoice round e h = (tt, h.1)
+  tried_none (Among m) round e h = cc (e, h.1)
 
   tried_some : (o : Choice I T E) (round : Option (Result I (Answer.Err E (Option E) Needed))) (r : Result I (Answer.Err E (Option E) Needed)) →
       round ≡ Some r → HasTried w (modes outputs errors s) i Held t o round → IsOver o → ⊥
@@ -48,7 +48,7 @@ module _ {I A T E : Type 0} (w : Model I A) (outputs errors s : Bool) (i : I) (H
   tried_some (Among m) round r e h k = k
 
 -- a round's answer that is closed as an acceptance is one
-pub closed_applies : {I E : Type 0} (Q : Option E → Answer.Err E (Option E) Needed → Type 0) (j : I)
+closed_applies : {I E : Type 0} (Q : Option E → Answer.Err E (Option E) Needed → Type 0) (j : I)
     (r closed : Result I (Answer.Err E (Option E) Needed)) → closed ≡ Ok j →
     OnError (λ x z. (f : Answer.Err E (Option E) Needed) × Q x f × (z ≡ Err f)) r closed → applies (Some r) ≡ 1
 closed_applies Q j (Ok k) closed e h = refl
@@ -76,43 +76,62 @@ module _ {I A T E : Type 0} (w : Model I A) (l : InputLaws w) (Joins : E → E �
         (j, Accept 0 t, rest_none w l j k, over_answer n t j k h, refl);
   }
 
-module _ {I A T O E : Type 0} (w : Model I A) (Joins : E → E → E → Type 0) (Closes : I → E → E → Type 0) (Grows : Type 0) (ms : List (Member I T E))
-    (IsOutput : T → O → Type 0) (outputs errors s : Bool) where
+module _ {I A T O E : Type 0} (w : Model I A) (e : Errors I E) (ms : List (Member I T E)) (IsOutput : T → O → Type 0) (outputs errors s : Bool) where
   -- what n rounds after the trees t show
   abbrev pub ShowsRounds : ℕ → T → I → PResult I O E → Type 0
-  ShowsRounds n t i r = ShowsMeaning w IsOutput (rounds_meaning w Joins Closes Grows ms n t) (modes outputs errors s) i r
+  ShowsRounds n t i r = ShowsMeaning w IsOutput (rounds_meaning w e.joined (λ i. e.appended i Kind.Permutation) e.grows ms n t) (modes outputs errors s) i r
 
-module _ {I A T O E : Type 0} (w : Model I A) (l : InputLaws w) (Joins : E → E → E → Type 0) (Closes : I → E → E → Type 0) (Grows : Type 0)
-    (ms : List (Member I T E)) (IsOutput : T → O → Type 0) (outputs errors s : Bool) where
+  -- a round after the trees t, and what it answers
+  pub record IsRound (i : I) (Held : T → Type 0) (t : T) (round : Option (Result I (Answer.Err E (Option E) Needed))) : Type 0 where
+    pub shown : HasTried w (modes outputs errors s) i Held t (tried e.joined e.grows ms t) round
+
+module _ {I A T O E : Type 0} {w : Model I A} {e : Errors I E} {ms : List (Member I T E)} {IsOutput : T → O → Type 0} {outputs errors s : Bool} {i : I}
+    {Held : T → Type 0} {t : T} {round : Option (Result I (Answer.Err E (Option E) Needed))} (a : IsRound w e ms IsOutput outputs errors s i Held t round) where
   abbrev Rounds : ℕ → T → I → PResult I O E → Type 0
-  Rounds n t i r = ShowsRounds w Joins Closes Grows ms IsOutput outputs errors s n t i r
+  Rounds n t i r = ShowsRounds w e ms IsOutput outputs errors s n t i r
+
+  abbrev choice : Choice I T E
+  choice = tried e.joined e.grows ms t
+
+  abbrev this_round : Meaning I T E
+  this_round = round_meaning (λ i. e.appended i Kind.Permutation) e.grows t choice
+
+  -- a round that tried none
+  pub round_over : round ≡ None → IsOver choice × Held t
+  round_over is = tried_none w outputs errors s i Held t choice round is a.shown
 
   -- once every member is applied, the rounds accept where they stand
-  pub rounds_over : (n : ℕ) (t : T) (j : I) (b : Option O) → w.IsKnown j → IsOver (tried Joins Grows ms t) → Built outputs (IsOutput t) b →
-      Rounds n t j (Ok (j, b))
-  rounds_over n t j b k h g = Shown (Accept 0 t) (over_answer w l Joins Closes Grows ms s n t j k h) (j, b, rest_none w l j k, g, refl)
+  pub rounds_over : InputLaws w → (n : ℕ) {b : Option O} → w.IsKnown i → IsOver choice → Built outputs (IsOutput t) b → Rounds n t i (Ok (i, b))
+  rounds_over l n {b} k h g =
+      Shown (Accept 0 t) (over_answer w l e.joined (λ i. e.appended i Kind.Permutation) e.grows ms s n t i k h) (i, b, rest_none w l i k, g, refl)
 
-  module _ (i : I) (Held : T → Type 0) (t : T) where
-    -- a round accepts: what the rounds after it show, they show with it
-    pub rounds_more : (n m : ℕ) (j : I) → n ≡ suc m →
-        ShowsRound w (modes outputs errors s) i Held (round_meaning Closes Grows t (tried Joins Grows ms t)) (Ok j) → w.IsKnown j × (u : T) × Held u ×
+  -- a round that tried some member, and its answer as it is closed
+  module _ {r closed : Result I (Answer.Err E (Option E) Needed)} (is : round ≡ Some r)
+      (h : ClosesResult (e.appended i Kind.Permutation) e.grows r closed) where
+    shown_closed : {f : Result I (Answer.Err E (Option E) Needed)} → closed ≡ f → ShowsRound w (modes outputs errors s) i Held this_round f
+    shown_closed q = subst (λ z. ShowsRound w (modes outputs errors s) i Held this_round z) q
+        (round_shown w (λ i. e.appended i Kind.Permutation) e.grows outputs errors s i Held t choice round r closed is a.shown h)
+
+    -- it applied one
+    pub round_applies : {j : I} → closed ≡ Ok j → applies round ≡ 1
+    round_applies {j} q = ap applies is ∙ closed_applies (ClosesError (e.appended i Kind.Permutation) e.grows) j r closed q h
+
+    -- it accepts: what the rounds after it show, they show with it
+    pub rounds_more : InputLaws w → {n m : ℕ} {j : I} → closed ≡ Ok j → n ≡ suc m → w.IsKnown j × (u : T) × Held u ×
         ((r : PResult I O E) → Rounds m u j r → Rounds n t i r)
-    rounds_more n m j e h =
-        let a = round_meaning Closes Grows t (tried Joins Grows ms t) in
-        let next = rounds_meaning w Joins Closes Grows ms m in
-        let c = accepts {w = w} {IsOutput = λ u _. Held u} {mode = modes true errors s} {i = i} {Answers = a.answers s i} {IsError = a.blames s i} h in (
+    rounds_more l {n} {m} {j} q fewer =
+        let next = rounds_meaning w e.joined (λ i. e.appended i Kind.Permutation) e.grows ms m in
+        let c = accepts {w = w} {IsOutput = λ u _. Held u} {mode = modes true errors s} {i = i} {Answers = this_round.answers s i}
+        {IsError = this_round.blames s i} (shown_closed q) in (
           c.rest_is.known,
           c.tree,
           c.built_is.2,
-          λ r k. subst (λ z. Rounds z t i r) (sym e)
-              (next_shown w l (λ _ u. u) (a.answers s) (a.blames s) (a.may_run_out (modes outputs errors s)) (λ u. (next u).answers s) (λ u. (next u).blames s)
+          λ r k. subst (λ z. Rounds z t i r) (sym fewer) (next_shown w l (λ _ u. u) (this_round.answers s) (this_round.blames s)
+              (this_round.may_run_out (modes outputs errors s)) (λ u. (next u).answers s) (λ u. (next u).blames s)
               (λ u. (next u).may_run_out (modes outputs errors s)) IsOutput (modes outputs errors s) i j c.length c.tree c.answered c.rest_is r k),
         )
 
-    -- a round that doesn't accept ends them
-    pub rounds_end : (n : ℕ) (round : Option (Result I (Answer.Err E (Option E) Needed))) (r : Result I (Answer.Err E (Option E) Needed))
-        (f : Answer.Err E (Option E) Needed) → (n ≡ 0 → IsOver (tried Joins Grows ms t)) → round ≡ Some r →
-        HasTried w (modes outputs errors s) i Held t (tried Joins Grows ms t) round →
-        ShowsRound w (modes outputs errors s) i Held (round_meaning Closes Grows t (tried Joins Grows ms t)) (Err f) → Rounds n t i (Err f)
-    rounds_end zero round r f o e k h = absurd (tried_some w outputs errors s i Held t (tried Joins Grows ms t) round r e k (o refl))
-    rounds_end (suc n) round r f o e k h = then_err l {built = true} {mode = modes outputs errors s} {r = Err f} h (refl, refl)
+    -- it doesn't accept, and ends them
+    pub rounds_end : InputLaws w → (n : ℕ) {f : Answer.Err E (Option E) Needed} → closed ≡ Err f → (n ≡ 0 → IsOver choice) → Rounds n t i (Err f)
+    rounds_end l zero q o = absurd (tried_some w outputs errors s i Held t choice round r is a.shown (o refl))
+    rounds_end l (suc n) {f} q o = then_err l {built = true} {mode = modes outputs errors s} {r = Err f} (shown_closed q) (refl, refl)

@@ -8,43 +8,34 @@ use Rattle.nom_choose.specs.Lists as Lists
 
 module _ {I O E : Type 0} (errs : Errors I E) where
   -- one branch, and where it refuses another; all branches together are closed by `alt_of`
-  abbrev or_meant : Word I O E → Word I O E → Word I O E
-  or_meant g h = word (Alternatives.or_of errs g.grammar h.grammar)
-
   pub or_of : Word I O E → Word I O E → Word I O E
-  or_of g h = or_meant g h
+  or_of g h = word (Alternatives.or_of errs g.grammar h.grammar)
 
   module _ {g h k l : Word I O E} where
-    pub or_worded : g ≡ h → k ≡ l → or_of g k ≡ or_meant h l
+    pub or_worded : g ≡ h → k ≡ l → or_of g k ≡ word (Alternatives.or_of errs h.grammar l.grammar)
     unfolding or_of
-    or_worded p q = ap₂ or_meant p q
+    or_worded p q = ap₂ or_of p q
 
     pub or_same : g ≡ h → k ≡ l → or_of g k ≡ or_of h l
     or_same p q = ap₂ or_of p q
 
-  abbrev alt_meant : Word I O E → Word I O E
-  alt_meant g = word (Alternatives.alt_of errs g.grammar)
-
   pub alt_of : Word I O E → Word I O E
-  alt_of g = alt_meant g
+  alt_of g = word (Alternatives.alt_of errs g.grammar)
 
   module _ {g h : Word I O E} where
-    pub alt_worded : g ≡ h → alt_of g ≡ alt_meant h
+    pub alt_worded : g ≡ h → alt_of g ≡ word (Alternatives.alt_of errs h.grammar)
     unfolding alt_of
-    alt_worded p = ap alt_meant p
+    alt_worded p = ap alt_of p
 
     pub alt_same : g ≡ h → alt_of g ≡ alt_of h
     alt_same p = ap alt_of p
 
 -- the branches of a list, by their states: an array or a slice of parsers of one type
 module _ {I S O E : Type 0} (errs : Errors I E) (k : Words S I O E) where
-  abbrev list_meant : List S → Word I O E
-  list_meant ss = word (Lists.list_of errs k.grammar ss)
-
   pub list_of : List S → Word I O E
-  list_of ss = list_meant ss
+  list_of ss = word (Lists.list_of errs k.grammar ss)
 
-  pub list_worded : (ss : List S) → list_of ss ≡ list_meant ss
+  pub list_worded : (ss : List S) → list_of ss ≡ word (Lists.list_of errs k.grammar ss)
   unfolding list_of
   list_worded ss = refl
 

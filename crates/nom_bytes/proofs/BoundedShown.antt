@@ -1,5 +1,6 @@
 -- Lemmas on the answers of a run with a bound.
-use Rattle.std.proofs.Common.{◌≡◌, ℕ, ◌-◌, ◌<◌, ◌≤◌, min, max, ◌⊎◌, Option, Some, None, MatchOption, Bool, true, false, not, is_some, [], length, refl, sym, ◌∙◌, ap, subst}
+use Rattle.std.proofs.Common.{◌≡◌, ℕ, ◌-◌, ◌<◌, ◌≤◌, min, max, ◌⊎◌, Option, Some, None, MatchOption}
+use Rattle.std.proofs.Common.{Bool, true, false, not, is_some, [], length, refl, sym, ◌∙◌, ap, subst}
 use Rattle.std.proofs.Common.{arith, append-nil, inl, inr}
 use Rattle.std.proofs.lemmas.Bool.{cases_lt}
 use Rattle.nom_internal.specs.Prelude.{Model, input_len, Slice, LeafAnswers, Outcome, Accept, Refuse, Stop, Needs}

@@ -5,9 +5,9 @@ use Rattle.nom_internal.specs.Prelude.{ErrorKind, Errors, Model, input_len, Slic
 use Rattle.nom_error.specs.declared.kind.ErrorKind.TheVariants as Kind
 
 -- no more than the bound
-abbrev pub IsWithin : Option ℕ → ℕ → Type 0
-IsWithin (Some most) count = count ≤ most
-IsWithin None count = Unit {0}
+abbrev pub IsWithinBound : Option ℕ → ℕ → Type 0
+IsWithinBound (Some most) count = count ≤ most
+IsWithinBound None count = Unit {0}
 
 -- as many as the bound
 abbrev pub IsAtBound : Option ℕ → ℕ → Type 0
@@ -25,7 +25,7 @@ module _ {I A : Type 0} (w : Model I A) (Test : A → Bool → Type 0) (bound : 
   pub record IsRunSlice (streaming : Bool) (i : I) (n : ℕ) (t : Slice w) : Type 0 where
     pub first : IsFirst w i n t
     pub meets : All (λ x. Test x true) t.items
-    pub bounded : IsWithin bound (length t.items)
+    pub bounded : IsWithinBound bound (length t.items)
     pub stops : Stops (λ x. IsAtBound bound (length t.items) ⊎ Test x false) first.rest
     pub followed : streaming ≡ true → 0 < length first.rest
 
@@ -35,7 +35,7 @@ module _ {I A : Type 0} (w : Model I A) (Test : A → Bool → Type 0) (bound : 
   runs least = record {
     Accepts = λ s i n t. (r : IsRunSlice s i n t) × IsEnough least bound (length t.items) (length r.first.rest);
     Refuses = λ s i. (n : ℕ) × (t : Slice w) × (r : IsRunSlice s i n t) × (IsEnough least bound (length t.items) (length r.first.rest) → ⊥);
-    Lacks = λ i k. All (λ x. Test x true) (w.elements i) × IsWithin bound (length (w.elements i)) × (k ≡ Some (max 1 (least - input_len w i)));
+    Lacks = λ i k. All (λ x. Test x true) (w.elements i) × IsWithinBound bound (length (w.elements i)) × (k ≡ Some (max 1 (least - input_len w i)));
   }
 
 module _ {I A : Type 0} (w : Model I A) (Test : A → Bool → Type 0) where

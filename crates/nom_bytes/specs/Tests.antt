@@ -15,25 +15,19 @@ abbrev pub free : {A : Type 0} → (A → Bool → Type 0) → Test A
 free answers = record { answers = answers; Runs = Unit {0}; IsSound = Unit {0} }
 
 module _ {A : Type 0} where
-  abbrev within_meant : (A → Type 0) → Test A
-  within_meant Found = free (λ x b. IsTrue b ↔ Found x)
-
   -- the items in a set
   pub within : (A → Type 0) → Test A
-  within Found = within_meant Found
+  within Found = free (λ x b. IsTrue b ↔ Found x)
 
-  pub within_worded : (Found : A → Type 0) → within Found ≡ within_meant Found
+  pub within_worded : (Found : A → Type 0) → within Found ≡ free (λ x b. IsTrue b ↔ Found x)
   unfolding within
   within_worded Found = refl
 
-  abbrev outside_meant : (A → Type 0) → Test A
-  outside_meant Found = free (λ x b. IsTrue (not b) ↔ Found x)
-
   -- the items that aren't in a set
   pub outside : (A → Type 0) → Test A
-  outside Found = outside_meant Found
+  outside Found = free (λ x b. IsTrue (not b) ↔ Found x)
 
-  pub outside_worded : (Found : A → Type 0) → outside Found ≡ outside_meant Found
+  pub outside_worded : (Found : A → Type 0) → outside Found ≡ free (λ x b. IsTrue (not b) ↔ Found x)
   unfolding outside
   outside_worded Found = refl
 
@@ -46,25 +40,21 @@ module _ {A : Type 0} where
 
 -- By which items a closure takes, and what it gives for one. `IsValue` are the values of the items' type.
 module _ {A : Type 0} (IsValue : A → Type 0) where
-  abbrev passing_meant : (A → Type 0) → (A → Bool → Type 0) → Test A
-  passing_meant Takes Gives = record { answers = Gives; Runs = (x : A) → Takes x; IsSound = IsFixed IsValue Gives }
-
   -- the items for which it gives true
   pub passing : (A → Type 0) → (A → Bool → Type 0) → Test A
-  passing Takes Gives = passing_meant Takes Gives
+  passing Takes Gives = record { answers = Gives; Runs = (x : A) → Takes x; IsSound = IsFixed IsValue Gives }
 
-  pub passing_worded : (Takes : A → Type 0) (Gives : A → Bool → Type 0) → passing Takes Gives ≡ passing_meant Takes Gives
+  pub passing_worded : (Takes : A → Type 0) (Gives : A → Bool → Type 0) → passing Takes Gives ≡
+      record { answers = Gives; Runs = (x : A) → Takes x; IsSound = IsFixed IsValue Gives }
   unfolding passing
   passing_worded Takes Gives = refl
 
-  abbrev failing_meant : (A → Type 0) → (A → Bool → Type 0) → Test A
-  failing_meant Takes Gives = record { answers = λ x b. Gives x (not b); Runs = (x : A) → Takes x; IsSound = IsFixed IsValue Gives }
-
   -- the items for which it gives false
   pub failing : (A → Type 0) → (A → Bool → Type 0) → Test A
-  failing Takes Gives = failing_meant Takes Gives
+  failing Takes Gives = record { answers = λ x b. Gives x (not b); Runs = (x : A) → Takes x; IsSound = IsFixed IsValue Gives }
 
-  pub failing_worded : (Takes : A → Type 0) (Gives : A → Bool → Type 0) → failing Takes Gives ≡ failing_meant Takes Gives
+  pub failing_worded : (Takes : A → Type 0) (Gives : A → Bool → Type 0) → failing Takes Gives ≡
+      record { answers = λ x b. Gives x (not b); Runs = (x : A) → Takes x; IsSound = IsFixed IsValue Gives }
   unfolding failing
   failing_worded Takes Gives = refl
 

@@ -59,8 +59,6 @@ impl<I: Input, E: ParseError<I>> Parser<I> for Take<I, E> {
 }
 
 impl<I: Input, E: ParseError<I>> StreamParser<I> for Take<I, E> {
-    ghost Pins = { λ _. Unit {0} };
-
     ghost pinned = { λ p k h. slice_pinned I.views };
 
     ghost steady = { λ count k. take_steady I.model E.errors I.lack count };
@@ -112,8 +110,6 @@ impl<T: Copy, I: Input + Compare<T>, E: ParseError<I>> Parser<I> for Tag<T, I, E
 }
 
 impl<T: Copy, I: Input + Compare<T>, E: ParseError<I>> StreamParser<I> for Tag<T, I, E> {
-    ghost Pins = { λ _. Unit {0} };
-
     ghost pinned = { λ p k h. slice_pinned I.views };
 
     ghost steady = { λ tag k. tag_steady I.model I.lawful E.errors I.tag_size I.compares I.comparing tag };

@@ -60,8 +60,6 @@ impl<T: Copy, I: Input + Compare<T>, E: ParseError<I>> Parser<I> for TagNoCase<T
 }
 
 impl<T: Copy, I: Input + Compare<T>, E: ParseError<I>> StreamParser<I> for TagNoCase<T, I, E> {
-    ghost Pins = { λ _. Unit {0} };
-
     ghost pinned = { λ p k h. slice_pinned I.views };
 
     ghost steady = { λ tag k. tag_steady I.model I.lawful E.errors I.tag_size I.compares_no_case I.comparing_no_case tag };

@@ -47,8 +47,6 @@ impl<I: Input, P: Predicate<I::Item>, E: ParseError<I>> Parser<I> for SplitPosit
 }
 
 impl<I: Input, P: Predicate<I::Item>, E: ParseError<I>> StreamParser<I> for SplitPosition<P, I, E> {
-    ghost Pins = { λ _. Unit {0} };
-
     ghost pinned = { λ p k h. slice_pinned I.views };
 
     ghost steady = { λ s k. premised_steady (run_steady I.model I.Item.IsValue I.values (P.answers s) (P.fixed s k) None 0 {E = E} (λ _ _. ⊥) ⊥) };

@@ -55,8 +55,6 @@ impl<T: Copy, I: Input + FindSubstring<T>, E: ParseError<I>> Parser<I> for TakeU
 
 impl<T: Copy, I: Input + FindSubstring<T>, E: ParseError<I>> StreamParser<I>
     for TakeUntil<T, I, E> {
-    ghost Pins = { λ _. Unit {0} };
-
     ghost pinned = { λ p k h. slice_pinned I.views };
 
     ghost steady = { λ needle k. until_steady I.model I.lawful E.errors I.finds I.finding false needle };
@@ -103,8 +101,6 @@ impl<T: Copy, I: Input + FindSubstring<T>, E: ParseError<I>> Parser<I> for TakeU
 
 impl<T: Copy, I: Input + FindSubstring<T>, E: ParseError<I>> StreamParser<I>
     for TakeUntil1<T, I, E> {
-    ghost Pins = { λ _. Unit {0} };
-
     ghost pinned = { λ p k h. slice_pinned I.views };
 
     ghost steady = { λ needle k. until_steady I.model I.lawful E.errors I.finds I.finding true needle };

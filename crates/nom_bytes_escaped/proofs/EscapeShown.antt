@@ -130,7 +130,7 @@ module _ {I A V O E : Type 0} (w : Model I A) (l : InputLaws w) (Gives : I → E
     passed_on f (RanOut e h) = subst (λ y. Goal (Err y)) (cc (e)) (ran_out_within (escape_rule Gives Grows at) all_pieces (always m) c tt h)
     passed_on f (Shown o a h) = passed f o a h
 
--- what stands at a place, by the value that is told
+-- what stands at a place, by the value that is returned
 module _ {I A U W O X : Type 0} (w : Model I A) (outputs : Bool) (IsNormal : U → O → Type 0) (IsEscapable : W → X → Type 0) (i : I)
     (Answers : Outcome (NextPiece (Piece U W)) → Type 0) where
   pub record FoundPiece (j : I) (x : Piece (Option O) (Option X)) : Type 0 where
@@ -141,16 +141,16 @@ module _ {I A U W O X : Type 0} (w : Model I A) (outputs : Bool) (IsNormal : U �
     pub is_piece : IsPiece outputs IsNormal IsEscapable tree x
 
   -- an acceptance, with what stands there
-  pub record Told (j : I) (y : NextPiece (Piece (Option O) (Option X))) : Type 0 where
+  pub record Accepted (j : I) (y : NextPiece (Piece (Option O) (Option X))) : Type 0 where
     pub length : ℕ
     pub tree : NextPiece (Piece U W)
     pub answered : Answers (Accept length tree)
     pub rest_is : IsSuffixOf w i length j
     pub is_next_piece : IsNextPiece outputs IsNormal IsEscapable tree y
 
-  pub next_piece_told : (j : I) (b : Option (NextPiece (Piece (Option O) (Option X)))) (y : NextPiece (Piece (Option O) (Option X))) → b ≡ Some y →
-      Accepts w (IsNextPiece outputs IsNormal IsEscapable) true i Answers j b → Told j y
-  next_piece_told j b y e a =
+  pub next_piece_accepted : (j : I) (b : Option (NextPiece (Piece (Option O) (Option X)))) (y : NextPiece (Piece (Option O) (Option X))) → b ≡ Some y →
+      Accepts w (IsNextPiece outputs IsNormal IsEscapable) true i Answers j b → Accepted j y
+  next_piece_accepted j b y e a =
       let same : (a.built_is).0 ≡ y = cc (e, (a.built_is).1) in
       record {
         length = a.length;
@@ -168,7 +168,7 @@ module _ {I A U W O X : Type 0} (w : Model I A) (outputs : Bool) (IsNormal : U �
   found_of j x n Dangling a r h = absurd (cc (h))
   found_of j x n Done a r h = absurd (cc (h))
 
-  pub piece_found : (j : I) (y : NextPiece (Piece (Option O) (Option X))) (x : Piece (Option O) (Option X)) → y ≡ Found x → Told j y → FoundPiece j x
+  pub piece_found : (j : I) (y : NextPiece (Piece (Option O) (Option X))) (x : Piece (Option O) (Option X)) → y ≡ Found x → Accepted j y → FoundPiece j x
   piece_found j y x e a = found_of j x a.length a.tree a.answered a.rest_is (subst (λ z. IsNextPiece outputs IsNormal IsEscapable a.tree z) e a.is_next_piece)
 
   other_of : (n : ℕ) (t : NextPiece (Piece U W)) → Answers (Accept n t) → IsNextPiece outputs IsNormal IsEscapable t Other → Answers (Accept n Other)
@@ -177,7 +177,7 @@ module _ {I A U W O X : Type 0} (w : Model I A) (outputs : Bool) (IsNormal : U �
   other_of n Dangling a h = absurd (cc (h))
   other_of n Done a h = absurd (cc (h))
 
-  pub other_found : (j : I) (y : NextPiece (Piece (Option O) (Option X))) → y ≡ Other → (a : Told j y) → Answers (Accept a.length Other)
+  pub other_found : (j : I) (y : NextPiece (Piece (Option O) (Option X))) → y ≡ Other → (a : Accepted j y) → Answers (Accept a.length Other)
   other_found j y e a = other_of a.length a.tree a.answered (subst (λ z. IsNextPiece outputs IsNormal IsEscapable a.tree z) e a.is_next_piece)
 
   dangling_of : (n : ℕ) (t : NextPiece (Piece U W)) → Answers (Accept n t) → IsNextPiece outputs IsNormal IsEscapable t Dangling → Answers (Accept n Dangling)
@@ -186,7 +186,7 @@ module _ {I A U W O X : Type 0} (w : Model I A) (outputs : Bool) (IsNormal : U �
   dangling_of n Dangling a h = a
   dangling_of n Done a h = absurd (cc (h))
 
-  pub dangling_found : (j : I) (y : NextPiece (Piece (Option O) (Option X))) → y ≡ Dangling → (a : Told j y) → Answers (Accept a.length Dangling)
+  pub dangling_found : (j : I) (y : NextPiece (Piece (Option O) (Option X))) → y ≡ Dangling → (a : Accepted j y) → Answers (Accept a.length Dangling)
   dangling_found j y e a = dangling_of a.length a.tree a.answered (subst (λ z. IsNextPiece outputs IsNormal IsEscapable a.tree z) e a.is_next_piece)
 
   done_of : (n : ℕ) (t : NextPiece (Piece U W)) → Answers (Accept n t) → IsNextPiece outputs IsNormal IsEscapable t Done → Answers (Accept n Done)
@@ -195,7 +195,7 @@ module _ {I A U W O X : Type 0} (w : Model I A) (outputs : Bool) (IsNormal : U �
   done_of n Dangling a h = absurd (cc (h))
   done_of n Done a h = a
 
-  pub done_found : (j : I) (y : NextPiece (Piece (Option O) (Option X))) → y ≡ Done → (a : Told j y) → Answers (Accept a.length Done)
+  pub done_found : (j : I) (y : NextPiece (Piece (Option O) (Option X))) → y ≡ Done → (a : Accepted j y) → Answers (Accept a.length Done)
   done_found j y e a = done_of a.length a.tree a.answered (subst (λ z. IsNextPiece outputs IsNormal IsEscapable a.tree z) e a.is_next_piece)
 
 -- the same at equal states of the parts, an equal control character and an equal size that lacks

@@ -30,13 +30,13 @@ IsExtended parts normal_adds escapable_adds text (Escapable value) new = IsAppen
 
 -- texts of the same pieces, whose values are equal as viewed and add alike
 module _ {U W O X P : Type 0} (IsNormal : U → O → Type 0) (IsEscapable : W → X → Type 0) (normal_adds : O → List P) (escapable_adds : X → List P)
-    (o : View O) (x : View X) (normal_alike : (a b : O) → o.value a ≡ o.value b → normal_adds a ≡ normal_adds b)
-    (escapable_alike : (a b : X) → x.value a ≡ x.value b → escapable_adds a ≡ escapable_adds b) (normal : IsPinned o IsNormal)
+    (o : View O) (x : View X) (normal_consistent : (a b : O) → o.value a ≡ o.value b → normal_adds a ≡ normal_adds b)
+    (escapable_consistent : (a b : X) → x.value a ≡ x.value b → escapable_adds a ≡ escapable_adds b) (normal : IsPinned o IsNormal)
     (escapable : IsPinned x IsEscapable) where
   one_added : (v : Piece U W) (ps qs : List P) → Adds IsNormal IsEscapable normal_adds escapable_adds v ps →
       Adds IsNormal IsEscapable normal_adds escapable_adds v qs → ps ≡ qs
-  one_added (Normal u) ps qs a b = a.2 ∙ (normal_alike a.0 b.0 (normal.one_view u a.0 b.0 a.1 b.1) ∙ sym b.2)
-  one_added (Escapable u) ps qs a b = a.2 ∙ (escapable_alike a.0 b.0 (escapable.one_view u a.0 b.0 a.1 b.1) ∙ sym b.2)
+  one_added (Normal u) ps qs a b = a.2 ∙ (normal_consistent a.0 b.0 (normal.one_view u a.0 b.0 a.1 b.1) ∙ sym b.2)
+  one_added (Escapable u) ps qs a b = a.2 ∙ (escapable_consistent a.0 b.0 (escapable.one_view u a.0 b.0 a.1 b.1) ∙ sym b.2)
 
   all_added : (vs : List (Piece U W)) (ps qs : List P) → AddAll IsNormal IsEscapable normal_adds escapable_adds vs ps →
       AddAll IsNormal IsEscapable normal_adds escapable_adds vs qs → ps ≡ qs

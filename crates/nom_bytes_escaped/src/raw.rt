@@ -93,8 +93,6 @@ where
     ghost use Rattle.nom_internal.specs.Pinned.{slice_pinned};
     ghost use Rattle.nom_bytes_escaped.specs.laws.EscapeLaws.{escaped_steady};
 
-    ghost Pins = { λ _. Unit {0} };
-
     ghost pinned = { λ p k h. slice_pinned I.views };
 
     ghost steady = { λ s k. escaped_steady I.lawful F.Error.errors (λ x. I.Item.code x ≡ s.1) (F.steady s.0 k.1.0) (G.steady s.2 k.1.1.1) };

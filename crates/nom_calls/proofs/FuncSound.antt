@@ -5,7 +5,7 @@ use Rattle.nom_internal.specs.Prelude.{View, Outcome, Accept, Refuse, Stop, Fail
 use Rattle.nom_internal.specs.Prelude.{ParsesAnswer}
 use Rattle.nom_internal.specs.Prelude.{ParseRanOut, Parsed, Meaning, IsLawful, IsSteady, NeverTooLarge, Agree, Keeps, ParsesMeaning, IsPinned}
 use Rattle.nom_traits.specs.Cuts.{CutsAs, CutsNowhere, suffix_at, suffix_somewhere}
-use Rattle.nom_calls.specs.Func.{Tells, TakenAs, TellOne, TellsItems, FuncRunsOut, IsParser, IsStreamParser, Answers, AnswersBy}
+use Rattle.nom_calls.specs.Func.{HasOutcome, TakenAs, TellOne, TellsItems, FuncRunsOut, IsParser, IsStreamParser, Answers, AnswersBy}
 use Rattle.nom_calls.specs.Func.{StreamsBy}
 use Rattle.nom_calls.specs.Func.FuncRunsOut.{RunsOutInside, RunsOutNoRest}
 
@@ -21,7 +21,7 @@ module _ {I A O E : Type 0} (w : Model I A) (view : View O) where
   taken_rest i n j v r o s e t = taken_there i n j v o s r e (subst (λ x. TakenAs w view i x o) e t)
 
   -- and as that alone
-  pub taken_once : (i : I) (r : IResult I O E) (o p : Outcome view.Value) → Tells w view i r o → TakenAs w view i r p → p ≡ o
+  pub taken_once : (i : I) (r : IResult I O E) (o p : Outcome view.Value) → HasOutcome w view i r o → TakenAs w view i r p → p ≡ o
   taken_once i (Ok (j, v)) o p h k = taken_rest i h.0 j v (Ok (j, v)) p h.1 refl k ∙ sym h.2
   taken_once i (Err (Incomplete d)) o p h k = k ∙ sym h
   taken_once i (Err (Error e)) o p h k = k ∙ sym h

@@ -75,18 +75,18 @@ module _ {I A V E : Type 0} (w : Model I A) (m : Meaning I V E) where
 
 -- the outputs of a beginning of some trees have the views of the first outputs of all
 module _ {V O : Type 0} {view : View O} {IsOutput : V → O → Type 0} (pinned : IsPinned view IsOutput) where
-  first_alike : (ts more : List V) (vs vs' : List O) → AllZip IsOutput ts vs → AllZip IsOutput (ts ++ more) vs' → (rest : List view.Value) ×
+  first_consistent : (ts more : List V) (vs vs' : List O) → AllZip IsOutput ts vs → AllZip IsOutput (ts ++ more) vs' → (rest : List view.Value) ×
       (map view.value vs' ≡ map view.value vs ++ rest)
-  first_alike [] more [] vs' h k = (map view.value vs', refl)
-  first_alike [] more (v ∷ vs) vs' h k = absurd h
-  first_alike (t ∷ ts) more [] vs' h k = absurd h
-  first_alike (t ∷ ts) more (v ∷ vs) [] h k = absurd k
-  first_alike (t ∷ ts) more (v ∷ vs) (u ∷ us) h k =
-      let others = first_alike ts more vs us h.1 k.1 in
+  first_consistent [] more [] vs' h k = (map view.value vs', refl)
+  first_consistent [] more (v ∷ vs) vs' h k = absurd h
+  first_consistent (t ∷ ts) more [] vs' h k = absurd h
+  first_consistent (t ∷ ts) more (v ∷ vs) [] h k = absurd k
+  first_consistent (t ∷ ts) more (v ∷ vs) (u ∷ us) h k =
+      let others = first_consistent ts more vs us h.1 k.1 in
       (others.0, cc (pinned.one_view t v u h.0 k.0, others.1))
 
 module _ {I A V O E : Type 0} (w : Model I A) (l : InputLaws w) (m : Meaning I V E) (view : View O) (Pins : Type 0) (IsOutput : V → O → Type 0) where
   pub outputs_stay : IsSteady w m → (Pins → IsPinned view IsOutput) → OutputsStay w m view Pins IsOutput
   outputs_stay k pinned ended limit x y ts us vs vs' kx ky r a b h j p =
       let stay = items_stay w l m k ended limit x y ts us kx ky r a b in
-      first_alike (pinned p) ts stay.0 vs vs' h (subst (λ z. AllZip IsOutput z vs') stay.1 j)
+      first_consistent (pinned p) ts stay.0 vs vs' h (subst (λ z. AllZip IsOutput z vs') stay.1 j)

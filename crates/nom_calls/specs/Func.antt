@@ -65,16 +65,16 @@ pub record AreRelated {I A : Type 0} (w : Model I A) (longer : Bool) (i j : I) :
 module _ {I A O E : Type 0} (w : Model I A) (view : View O) where
   -- The outcome that an answer at i tells: its tree is the view of the output, and a failure is one of the function's own. Want
   -- of memory tells none, and nor does an acceptance that leaves no rest.
-  abbrev pub Tells : I → IResult I O E → Outcome view.Value → Type 0
-  Tells i (Ok (j, v)) o = (n : ℕ) × IsSuffixOf w i n j × (o ≡ Accept n (view.value v))
-  Tells i (Err (Incomplete k)) o = o ≡ Stop (Needs (size_of k))
-  Tells i (Err (Error e)) o = o ≡ Refuse
-  Tells i (Err (Failure e)) o = o ≡ Stop (Fails Outright)
-  Tells i (Err OutOfMemory) o = ⊥
+  abbrev pub HasOutcome : I → IResult I O E → Outcome view.Value → Type 0
+  HasOutcome i (Ok (j, v)) o = (n : ℕ) × IsSuffixOf w i n j × (o ≡ Accept n (view.value v))
+  HasOutcome i (Err (Incomplete k)) o = o ≡ Stop (Needs (size_of k))
+  HasOutcome i (Err (Error e)) o = o ≡ Refuse
+  HasOutcome i (Err (Failure e)) o = o ≡ Stop (Fails Outright)
+  HasOutcome i (Err OutOfMemory) o = ⊥
 
   -- it tells the outcome that the input's items have
   abbrev pub TellsItems : (List A → Outcome view.Value) → I → IResult I O E → Type 0
-  TellsItems outcome i r = Tells i r (outcome (w.elements i))
+  TellsItems outcome i r = HasOutcome i r (outcome (w.elements i))
 
   -- The outcome that an answer at i is taken as: of an acceptance the rest is the one that is as long as what it left, and where
   -- none is, it is a failure. An answer is taken as the outcome that it tells.

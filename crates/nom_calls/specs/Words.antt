@@ -6,26 +6,21 @@ use Rattle.nom_internal.specs.Word.{Answers, Word, word}
 use Rattle.nom_calls.specs.Func.{IsParser, IsStreamParser, func_of}
 
 module _ {I A O E : Type 0} (w : Model I A) (errs : Errors I E) (view : View O) where
-  abbrev given_meant : (I → Type 0) → (I → IResult I O E → Type 0) → Word I O E
-  given_meant Takes Gives = word (func_of w view errs Gives Takes (IsParser w view Gives))
-
   -- a function that takes some inputs, and gives some answers at each
   pub given_of : (I → Type 0) → (I → IResult I O E → Type 0) → Word I O E
-  given_of Takes Gives = given_meant Takes Gives
+  given_of Takes Gives = word (func_of w view errs Gives Takes (IsParser w view Gives))
 
-  pub given_worded : (Takes : I → Type 0) (Gives : I → IResult I O E → Type 0) → given_of Takes Gives ≡ given_meant Takes Gives
+  pub given_worded : (Takes : I → Type 0) (Gives : I → IResult I O E → Type 0) → given_of Takes Gives ≡
+      word (func_of w view errs Gives Takes (IsParser w view Gives))
   unfolding given_of
   given_worded Takes Gives = refl
 
-  abbrev stream_given_meant : (I → Type 0) → (I → IResult I O E → Type 0) → Word I O E
-  stream_given_meant Takes Gives = word (func_of w view errs Gives Takes (IsStreamParser w view Gives))
-
   -- the same as a stream parser
   pub stream_given_of : (I → Type 0) → (I → IResult I O E → Type 0) → Word I O E
-  stream_given_of Takes Gives = stream_given_meant Takes Gives
+  stream_given_of Takes Gives = word (func_of w view errs Gives Takes (IsStreamParser w view Gives))
 
-  pub stream_given_worded : (Takes : I → Type 0) (Gives : I → IResult I O E → Type 0) →
-      stream_given_of Takes Gives ≡ stream_given_meant Takes Gives
+  pub stream_given_worded : (Takes : I → Type 0) (Gives : I → IResult I O E → Type 0) → stream_given_of Takes Gives ≡
+      word (func_of w view errs Gives Takes (IsStreamParser w view Gives))
   unfolding stream_given_of
   stream_given_worded Takes Gives = refl
 

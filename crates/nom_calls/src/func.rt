@@ -125,8 +125,6 @@ impl<I: CutRest, O: Viewed + Drop, E: ParseError<I>, F: Fn(I) -> IResult<I, O, E
 
 impl<I: CutRest, O: Viewed + Drop, E: ParseError<I>, F: Fn(I) -> IResult<I, O, E>> StreamParser<I>
     for StreamFunc<F, I, O, E> {
-    ghost Pins = { λ _. Unit {0} };
-
     ghost pinned = { λ p k h. viewed_pinned };
 
     ghost steady = { λ f. stream_func_steady I.model O.view (F.post f) E.errors (F.pre f) };

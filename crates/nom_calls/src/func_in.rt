@@ -97,8 +97,6 @@ impl<
     E: ParseError<I>,
     F: Fn(A, I) -> IResult<I, O, E>,
 > StreamParser<I> for StreamFuncIn<A, F, I, O, E> {
-    ghost Pins = { λ _. Unit {0} };
-
     ghost pinned = { λ p k h. viewed_pinned };
 
     ghost steady = { λ s. stream_func_steady I.model O.view (F.post s.1 s.0) E.errors (F.pre s.1 s.0) };

@@ -9,7 +9,7 @@ use Rattle.nom_character.specs.declared.line.Matched.{Matched}
 use Rattle.nom_character.specs.declared.line.Matched.TheVariants as Found
 use Rattle.nom_character_first.specs.FirstItem.{IsFirstItem}
 use Rattle.nom_character_first.specs.laws.FirstItemLaws.{one_head}
-use Rattle.nom_character.specs.LineMatches.{Match, at_end, one_more, after_return, crlf_in, line_ending_in, line_in, is_line_code, IsMatched, IsNewline}
+use Rattle.nom_character.specs.LineMatches.{Match, at_end, one_item_more, after_return, crlf_in, line_ending_in, line_in, is_line_code, IsMatched, IsNewline}
 use Rattle.nom_character.specs.LineMatches.{IsLineEnd}
 use Rattle.nom_character.specs.LineMatches.Match.{Full, Absent, Partial}
 
@@ -119,7 +119,7 @@ later_none (Full n) = let e : n + 0 ≡ n = omega arith in ap Full e
 later_none Absent = refl
 later_none (Partial lack) = refl
 
-later_more : (a : Match) (k : ℕ) → one_more (later a k) ≡ later a (suc k)
+later_more : (a : Match) (k : ℕ) → one_item_more (later a k) ≡ later a (suc k)
 later_more (Full n) k = let e : (n + k) + 1 ≡ n + suc k = omega arith in ap Full e
 later_more Absent k = refl
 later_more (Partial lack) k = refl
@@ -149,9 +149,9 @@ module _ {A : Type 0} (code : A → ℕ) (s : Bool) where
       let none = neither (code x) (All-head Passes x xs h) in
       let after = after_return code s (Full 0) None (xs ++ ys) in
       let line = line_in code s (xs ++ ys) in
-      by_false (code x == 10) (Full 0) (cond (code x == 13) after (one_more line)) none.0 ∙
-      (by_false (code x == 13) after (one_more line) none.1 ∙
-      (ap one_more (past xs ys (All-tail Passes x xs h)) ∙ later_more (line_in code s ys) (length xs)))
+      by_false (code x == 10) (Full 0) (cond (code x == 13) after (one_item_more line)) none.0 ∙
+      (by_false (code x == 13) after (one_item_more line) none.1 ∙
+      (ap one_item_more (past xs ys (All-tail Passes x xs h)) ∙ later_more (line_in code s ys) (length xs)))
 
 module _ {I A : Type 0} (w : Model I A) (l : InputLaws w) (code : A → ℕ) (s : Bool) where
   module _ (i : I) (x : A) (p : IsFirstItem w i x) where
@@ -159,7 +159,7 @@ module _ {I A : Type 0} (w : Model I A) (l : InputLaws w) (code : A → ℕ) (s 
     line_ends t = (
       refl,
       ap (line_in code s) p.whole ∙
-          by_true (code x == 10) (Full 0) (cond (code x == 13) (after_return code s (Full 0) None p.rest) (one_more (line_in code s p.rest))) t,
+          by_true (code x == 10) (Full 0) (cond (code x == 13) (after_return code s (Full 0) None p.rest) (one_item_more (line_in code s p.rest))) t,
     )
 
     module _ (y : A) (q : IsFirstItem w i y) (t : is_line_code (code y) ≡ true) (f : (code x == 10) ≡ false) (j : I) (r : IsSuffixOf w i (w.item_len x) j) where
@@ -168,7 +168,7 @@ module _ {I A : Type 0} (w : Model I A) (l : InputLaws w) (code : A → ℕ) (s 
           let same : x ≡ y = one_head w i x y p q in
           let is = other_one (code x) (subst (λ z. is_line_code (code z) ≡ true) (sym same) t) f in
           let after = after_return code s (Full 0) None (w.elements j) in
-          let line = one_more (line_in code s (w.elements j)) in
+          let line = one_item_more (line_in code s (w.elements j)) in
           ap (line_in code s) (after_head w l i j x p r) ∙
           (by_false (code x == 10) (Full 0) (cond (code x == 13) after line) f ∙ by_true (code x == 13) after line is)
 

@@ -18,10 +18,10 @@ at_end true lack pattern = Partial lack
 at_end false lack pattern = pattern
 
 -- one item more
-abbrev pub one_more : Match → Match
-one_more (Full n) = Full (n + 1)
-one_more Absent = Absent
-one_more (Partial lack) = Partial lack
+abbrev pub one_item_more : Match → Match
+one_item_more (Full n) = Full (n + 1)
+one_item_more Absent = Absent
+one_item_more (Partial lack) = Partial lack
 
 -- By whether more may come. A list of items is one of code points: 13 is '\r' and 10 is '\n'.
 module _ {A : Type 0} (code : A → ℕ) (streaming : Bool) where
@@ -43,7 +43,7 @@ module _ {A : Type 0} (code : A → ℕ) (streaming : Bool) where
   -- the items before the first `\n` or `\r\n`; before that no `\r` may stand
   abbrev pub line_in : List A → Match
   line_in [] = at_end streaming None (Full 0)
-  line_in (x ∷ xs) = cond (code x == 10) (Full 0) (cond (code x == 13) (after_return (Full 0) None xs) (one_more (line_in xs)))
+  line_in (x ∷ xs) = cond (code x == 10) (Full 0) (cond (code x == 13) (after_return (Full 0) None xs) (one_item_more (line_in xs)))
 
 module _ {I A : Type 0} (w : Model I A) (pattern : Bool → List A → Match) where
   -- the first items that match; where the pattern is absent, it is refused; where it begins, more is needed

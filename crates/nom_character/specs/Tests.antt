@@ -7,25 +7,19 @@ use Rattle.nom_bytes.specs.Tests.{Test, free}
 
 -- `code` is the code point of an item
 module _ {A : Type 0} (code : A → ℕ) where
-  abbrev char_within_meant : (ℕ → Type 0) → Test A
-  char_within_meant Found = free (λ x b. IsTrue b ↔ Found (code x))
-
   -- the items whose characters are in a set
   pub char_within : (ℕ → Type 0) → Test A
-  char_within Found = char_within_meant Found
+  char_within Found = free (λ x b. IsTrue b ↔ Found (code x))
 
-  pub char_within_worded : (Found : ℕ → Type 0) → char_within Found ≡ char_within_meant Found
+  pub char_within_worded : (Found : ℕ → Type 0) → char_within Found ≡ free (λ x b. IsTrue b ↔ Found (code x))
   unfolding char_within
   char_within_worded Found = refl
 
-  abbrev char_outside_meant : (ℕ → Type 0) → Test A
-  char_outside_meant Found = free (λ x b. IsTrue (not b) ↔ Found (code x))
-
   -- the items whose characters aren't in a set
   pub char_outside : (ℕ → Type 0) → Test A
-  char_outside Found = char_outside_meant Found
+  char_outside Found = free (λ x b. IsTrue (not b) ↔ Found (code x))
 
-  pub char_outside_worded : (Found : ℕ → Type 0) → char_outside Found ≡ char_outside_meant Found
+  pub char_outside_worded : (Found : ℕ → Type 0) → char_outside Found ≡ free (λ x b. IsTrue (not b) ↔ Found (code x))
   unfolding char_outside
   char_outside_worded Found = refl
 
@@ -36,14 +30,11 @@ module _ {A : Type 0} (code : A → ℕ) where
     pub char_outside_same : xs ≡ ys → char_outside (Contains xs) ≡ char_outside (Contains ys)
     char_outside_same p = ap (λ zs. char_outside (Contains zs)) p
 
-  abbrev char_is_meant : ℕ → Test A
-  char_is_meant wanted = free (λ x b. b ≡ (code x == wanted))
-
   -- the items of one character
   pub char_is : ℕ → Test A
-  char_is wanted = char_is_meant wanted
+  char_is wanted = free (λ x b. b ≡ (code x == wanted))
 
-  pub char_is_worded : (wanted : ℕ) → char_is wanted ≡ char_is_meant wanted
+  pub char_is_worded : (wanted : ℕ) → char_is wanted ≡ free (λ x b. b ≡ (code x == wanted))
   unfolding char_is
   char_is_worded wanted = refl
 
@@ -51,14 +42,11 @@ module _ {A : Type 0} (code : A → ℕ) where
   char_is_same p = ap char_is p
 
 module _ {A : Type 0} where
-  abbrev any_item_meant : Test A
-  any_item_meant = free (λ x b. b ≡ true)
-
   -- all items
   pub any_item : Test A
-  any_item = any_item_meant
+  any_item = free (λ x b. b ≡ true)
 
-  pub any_item_worded : any_item ≡ any_item_meant
+  pub any_item_worded : any_item ≡ free (λ x b. b ≡ true)
   unfolding any_item
   any_item_worded = refl
 

@@ -117,8 +117,6 @@ impl<I: Input, E: ParseError<I>> StreamParser<I> for ClassRun<I, E>
 where
     I::Item: AsChar,
 {
-    ghost Pins = { λ _. Unit {0} };
-
     ghost pinned = { λ p k h. slice_pinned I.views };
 
     ghost steady = { λ s k. class_steady I.model I.Item.IsValue I.values I.Item.code E.errors s.0 s.1 };
@@ -162,8 +160,6 @@ impl<I: Input, E: ParseError<I>> StreamParser<I> for Digit1<I, E>
 where
     I::Item: AsChar,
 {
-    ghost Pins = { λ _. Unit {0} };
-
     ghost pinned = { λ p k h. slice_pinned I.views };
 
     ghost steady = { λ _ k. class_steady I.model I.Item.IsValue I.values I.Item.code E.errors Class.Digit (Some Kind.Digit) };
@@ -207,8 +203,6 @@ impl<I: Input, E: ParseError<I>> StreamParser<I> for MultiSpace0<I, E>
 where
     I::Item: AsChar,
 {
-    ghost Pins = { λ _. Unit {0} };
-
     ghost pinned = { λ p k h. slice_pinned I.views };
 
     ghost steady = { λ _ k. class_steady I.model I.Item.IsValue I.values I.Item.code E.errors Class.MultiSpace None };

@@ -7,7 +7,7 @@ ghost use Rattle.nom_character_first.specs.FirstItem.{anychar_meaning, char_mean
 ghost use Rattle.nom_character.specs.LineMatches.{crlf_meaning, line_ending_meaning, line_meaning};
 
 use crate::class::ClassRun;
-use crate::line::{Crlf, LineEnding, NotLineEnding};
+use crate::line::{Crlf, LineEnding, NotLineEnding, line_match};
 use crate::predicate::{CharOutside, CharWhere, CharWithin};
 use crate::{AnyChar, Char, Fixed, Satisfy};
 use nom_calls::answer::answer;
@@ -319,7 +319,7 @@ where
     T::Item: AsChar,
     ensures { AnswersBy T.model T.view (IsModelledBy T.model) (crlf_meaning T.model T.Item.code E.errors) false input result }
 {
-    let mut parser = Crlf::<T, E> { error: PhantomData };
+    let mut parser = line_match::<Crlf, T, E>();
     answer(&mut parser, input)
 }
 
@@ -332,7 +332,7 @@ where
     T::Item: AsChar,
     ensures { AnswersBy T.model T.view (IsModelledBy T.model) (line_ending_meaning T.model T.Item.code E.errors) false input result }
 {
-    let mut parser = LineEnding::<T, E> { error: PhantomData };
+    let mut parser = line_match::<LineEnding, T, E>();
     answer(&mut parser, input)
 }
 
@@ -346,6 +346,6 @@ where
     T::Item: AsChar,
     ensures { AnswersBy T.model T.view (IsModelledBy T.model) (line_meaning T.model T.Item.code E.errors) false input result }
 {
-    let mut parser = NotLineEnding::<T, E> { error: PhantomData };
+    let mut parser = line_match::<NotLineEnding, T, E>();
     answer(&mut parser, input)
 }

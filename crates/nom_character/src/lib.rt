@@ -18,7 +18,7 @@ mod scan;
 pub mod streaming;
 
 pub use crate::class::{ClassRun, Digit1, MultiSpace0};
-pub use crate::line::{Crlf, LineEnding, NotLineEnding};
+pub use crate::line::{Crlf, LineEnding, LineMatch, LinePattern, NotLineEnding};
 pub use crate::line_ends::{crlf, line_ending, newline, not_line_ending, tab};
 pub use crate::one::{AnyChar, Char, Satisfy};
 use crate::predicate::{CharOutside, CharWhere, CharWithin};

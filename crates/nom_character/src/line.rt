@@ -1,11 +1,10 @@
 //! Ends of lines, and the items before them.
-ghost use Rattle.std.specs.Prelude.{◌≡◌, Bool, List, true};
-ghost use Rattle.nom_internal.specs.Prelude.{modes, size_of, Slice, IsModelledBy, ShowsMeaning, slice_pinned, sliced};
+ghost use Rattle.std.specs.Prelude.{◌≡◌, ℕ, Bool, List, true};
+ghost use Rattle.nom_internal.specs.Prelude.{ErrorKind, modes, size_of, Slice, IsModelledBy, ShowsMeaning, slice_pinned, sliced};
 ghost use Rattle.nom_error.specs.declared.kind.ErrorKind.TheVariants as Kind;
 ghost use Rattle.nom_character_first.specs.FirstItem.{IsFirstItem};
-ghost use Rattle.nom_character.specs.LineMatches.{Match, IsMatched, IsNewline, IsLineEnd, is_line_code, match_meaning, crlf_in, crlf_meaning};
-ghost use Rattle.nom_character.specs.LineMatches.{line_ending_in, line_ending_meaning, line_in, line_meaning};
-ghost use Rattle.nom_character.specs.laws.LineMatchLaws.{match_lawful, match_steady, crlf_laws, line_ending_laws, line_laws};
+ghost use Rattle.nom_character.specs.LineMatches.{Match, IsMatched, IsNewline, IsLineEnd, is_line_code, match_meaning, crlf_in, line_ending_in, line_in};
+ghost use Rattle.nom_character.specs.laws.LineMatchLaws.{LineMatchLaws, match_lawful, match_steady, crlf_laws, line_ending_laws, line_laws};
 ghost use Rattle.nom_character.specs.Words as Words;
 
 use nom_character_first::first::{after, first};
@@ -64,41 +63,6 @@ where
     }
 }
 
-/// Matches `\r\n` at the start of the input.
-#[inline(always)]
-fn crlf_at<I: Input, S: IsStreaming>(input: I) -> Matched<I>
-where
-    I::Item: AsChar,
-    ensures { IsMatched I.model (crlf_in I.Item.code) S.STREAMING input result }
-{
-    match first(input) {
-        Some(item) if item.as_char() == '\r' => {
-            newline_at::<I, S>(after(input, item), Needed::new(2))
-        }
-        Some(_) => Matched::Absent,
-        None if S::STREAMING => Matched::Partial(Needed::new(2)),
-        None => Matched::Absent,
-    }
-}
-
-/// Matches `\n` or `\r\n` at the start of the input.
-#[inline(always)]
-fn line_ending_at<I: Input, S: IsStreaming>(input: I) -> Matched<I>
-where
-    I::Item: AsChar,
-    ensures { IsMatched I.model (line_ending_in I.Item.code) S.STREAMING input result }
-{
-    match first(input) {
-        Some(item) if item.as_char() == '\n' => Matched::Full(after(input, item)),
-        Some(item) if item.as_char() == '\r' => {
-            newline_at::<I, S>(after(input, item), Needed::new(2))
-        }
-        Some(_) => Matched::Absent,
-        None if S::STREAMING => Matched::Partial(Needed::new(1)),
-        None => Matched::Absent,
-    }
-}
-
 /// Matches the end of a line at the start of an input whose first item is `\r` or `\n`.
 ///
 /// The end belongs to the rest: the whole input is the rest after the line before it.
@@ -120,33 +84,140 @@ where
     }
 }
 
-/// Matches the items before the first end of a line.
-#[inline(always)]
-fn line_at<I: Input, S: IsStreaming>(input: I) -> Matched<I>
-where
-    I::Item: AsChar,
-    ensures { IsMatched I.model (line_in I.Item.code) S.STREAMING input result }
-{
-    let is_end = |item: I::Item| -> bool
-        ensures { result ≡ is_line_code (I.Item.code item) }
+/// A pattern, matched at the start of an input.
+pub trait LinePattern {
+    /// The match in a list of items of these code points, by whether more may come.
+    ghost pattern: { (A : Type 0) → (A → ℕ) → Bool → List A → Match };
+
+    ghost kind: { ErrorKind };
+
+    ghost laws: { (A : Type 0) (code : A → ℕ) → LineMatchLaws (pattern A code) };
+
+    /// Returns the match at the start of the input.
+    fn matched<I: Input, S: IsStreaming>(input: I) -> Matched<I>
+    where
+        I::Item: AsChar,
+        ensures { IsMatched I.model (pattern I.Item I.Item.code) S.STREAMING input result };
+
+    /// Returns the kind of a refusal.
+    fn kind() -> ErrorKind
+        ensures { result ≡ kind };
+}
+
+/// The pattern of `crlf`: `\r\n`.
+pub struct Crlf;
+
+impl LinePattern for Crlf {
+    ghost pattern = { λ A. crlf_in };
+
+    ghost kind = { Kind.CrLf };
+
+    ghost laws = { λ A. crlf_laws };
+
+    #[inline(always)]
+    fn matched<I: Input, S: IsStreaming>(input: I) -> Matched<I>
+    where
+        I::Item: AsChar,
     {
-        let c = item.as_char();
-        c == '\n' || c == '\r'
-    };
-    match input.position(is_end) {
-        Some(n) => line_end_at::<I, S>(input.take_from(n)),
-        None if S::STREAMING => Matched::Partial(Needed::Unknown),
-        None => Matched::Full(input.take_from(input.input_len())),
+        match first(input) {
+            Some(item) if item.as_char() == '\r' => {
+                newline_at::<I, S>(after(input, item), Needed::new(2))
+            }
+            Some(_) => Matched::Absent,
+            None if S::STREAMING => Matched::Partial(Needed::new(2)),
+            None => Matched::Absent,
+        }
+    }
+
+    #[inline(always)]
+    fn kind() -> ErrorKind {
+        ErrorKind::CrLf
     }
 }
 
-/// The parser that `crlf` returns: `\r\n`.
+/// The pattern of `line_ending`: `\n` or `\r\n`.
+pub struct LineEnding;
+
+impl LinePattern for LineEnding {
+    ghost pattern = { λ A. line_ending_in };
+
+    ghost kind = { Kind.CrLf };
+
+    ghost laws = { λ A. line_ending_laws };
+
+    #[inline(always)]
+    fn matched<I: Input, S: IsStreaming>(input: I) -> Matched<I>
+    where
+        I::Item: AsChar,
+    {
+        match first(input) {
+            Some(item) if item.as_char() == '\n' => Matched::Full(after(input, item)),
+            Some(item) if item.as_char() == '\r' => {
+                newline_at::<I, S>(after(input, item), Needed::new(2))
+            }
+            Some(_) => Matched::Absent,
+            None if S::STREAMING => Matched::Partial(Needed::new(1)),
+            None => Matched::Absent,
+        }
+    }
+
+    #[inline(always)]
+    fn kind() -> ErrorKind {
+        ErrorKind::CrLf
+    }
+}
+
+/// The pattern of `not_line_ending`: the items before the first end of a line.
+pub struct NotLineEnding;
+
+impl LinePattern for NotLineEnding {
+    ghost pattern = { λ A. line_in };
+
+    ghost kind = { Kind.Tag };
+
+    ghost laws = { λ A. line_laws };
+
+    #[inline(always)]
+    fn matched<I: Input, S: IsStreaming>(input: I) -> Matched<I>
+    where
+        I::Item: AsChar,
+    {
+        let is_end = |item: I::Item| -> bool
+            ensures { result ≡ is_line_code (I.Item.code item) }
+        {
+            let c = item.as_char();
+            c == '\n' || c == '\r'
+        };
+        match input.position(is_end) {
+            Some(n) => line_end_at::<I, S>(input.take_from(n)),
+            None if S::STREAMING => Matched::Partial(Needed::Unknown),
+            None => Matched::Full(input.take_from(input.input_len())),
+        }
+    }
+
+    #[inline(always)]
+    fn kind() -> ErrorKind {
+        ErrorKind::Tag
+    }
+}
+
+/// The parser that `crlf`, `line_ending` and `not_line_ending` return: the items that the pattern matches.
 #[derive(Drop)]
-pub struct Crlf<I, E> {
+pub struct LineMatch<P, I, E> {
+    pub pattern: PhantomData<P>,
     pub error: PhantomData<(I, E)>,
 }
 
-impl<I: Input, E: ParseError<I>> Parser<I> for Crlf<I, E>
+/// Returns the parser of a pattern.
+#[inline(always)]
+pub(crate) fn line_match<P, I, E>() -> LineMatch<P, I, E> {
+    LineMatch {
+        pattern: PhantomData,
+        error: PhantomData,
+    }
+}
+
+impl<P: LinePattern, I: Input, E: ParseError<I>> Parser<I> for LineMatch<P, I, E>
 where
     I::Item: AsChar,
 {
@@ -160,120 +231,26 @@ where
 
     ghost Tree = { Slice I.model };
 
-    ghost grammar = { λ _. sliced I.model (crlf_meaning I.model I.Item.code E.errors) };
+    ghost grammar = { λ _. sliced I.model (match_meaning I.model (P.pattern I.Item I.Item.code) E.errors P.kind) };
 
-    ghost word = { λ _. Words.crlf_of I.model E.errors I.Item.code };
+    ghost word = { λ _. Words.match_of I.model E.errors (P.pattern I.Item I.Item.code) P.kind };
 
-    ghost worded = { λ _. Words.crlf_worded I.model E.errors I.Item.code };
-
-    #[inline(always)]
-    fn process<OM: OutputMode>(&mut self, input: I) -> PResult<I, I, E> {
-        let found = crlf_at::<I, OM::Incomplete>(input);
-        answer::<OM, I, E>(input, found, ErrorKind::CrLf)
-    }
-
-    ghost lawful = { λ _ k. match_lawful I.model (crlf_in I.Item.code) (crlf_laws I.Item.code) E.errors Kind.CrLf };
-}
-
-impl<I: Input, E: ParseError<I>> StreamParser<I> for Crlf<I, E>
-where
-    I::Item: AsChar,
-{
-    ghost Pins = { λ _. Unit {0} };
-
-    ghost pinned = { λ p k h. slice_pinned I.views };
-
-    ghost steady = { λ _ k. match_steady I.model (crlf_in I.Item.code) (crlf_laws I.Item.code) E.errors Kind.CrLf };
-}
-
-/// The parser that `line_ending` returns: `\n` or `\r\n`.
-#[derive(Drop)]
-pub struct LineEnding<I, E> {
-    pub error: PhantomData<(I, E)>,
-}
-
-impl<I: Input, E: ParseError<I>> Parser<I> for LineEnding<I, E>
-where
-    I::Item: AsChar,
-{
-    type Output = I;
-
-    type Error = E;
-
-    ghost State = { Unit {0} };
-
-    ghost state = { λ _. tt };
-
-    ghost Tree = { Slice I.model };
-
-    ghost grammar = { λ _. sliced I.model (line_ending_meaning I.model I.Item.code E.errors) };
-
-    ghost word = { λ _. Words.line_ending_of I.model E.errors I.Item.code };
-
-    ghost worded = { λ _. Words.line_ending_worded I.model E.errors I.Item.code };
+    ghost worded = { λ _. Words.match_worded I.model E.errors (P.pattern I.Item I.Item.code) P.kind };
 
     #[inline(always)]
     fn process<OM: OutputMode>(&mut self, input: I) -> PResult<I, I, E> {
-        let found = line_ending_at::<I, OM::Incomplete>(input);
-        answer::<OM, I, E>(input, found, ErrorKind::CrLf)
+        let found = P::matched::<I, OM::Incomplete>(input);
+        answer::<OM, I, E>(input, found, P::kind())
     }
 
-    ghost lawful = { λ _ k. match_lawful I.model (line_ending_in I.Item.code) (line_ending_laws I.Item.code) E.errors Kind.CrLf };
+    ghost lawful = { λ _ k. match_lawful I.model (P.pattern I.Item I.Item.code) (P.laws I.Item I.Item.code) E.errors P.kind };
 }
 
-impl<I: Input, E: ParseError<I>> StreamParser<I> for LineEnding<I, E>
+impl<P: LinePattern, I: Input, E: ParseError<I>> StreamParser<I> for LineMatch<P, I, E>
 where
     I::Item: AsChar,
 {
-    ghost Pins = { λ _. Unit {0} };
-
     ghost pinned = { λ p k h. slice_pinned I.views };
 
-    ghost steady = { λ _ k. match_steady I.model (line_ending_in I.Item.code) (line_ending_laws I.Item.code) E.errors Kind.CrLf };
-}
-
-/// The parser that `not_line_ending` returns: the items before the first end of a line.
-#[derive(Drop)]
-pub struct NotLineEnding<I, E> {
-    pub error: PhantomData<(I, E)>,
-}
-
-impl<I: Input, E: ParseError<I>> Parser<I> for NotLineEnding<I, E>
-where
-    I::Item: AsChar,
-{
-    type Output = I;
-
-    type Error = E;
-
-    ghost State = { Unit {0} };
-
-    ghost state = { λ _. tt };
-
-    ghost Tree = { Slice I.model };
-
-    ghost grammar = { λ _. sliced I.model (line_meaning I.model I.Item.code E.errors) };
-
-    ghost word = { λ _. Words.not_line_ending_of I.model E.errors I.Item.code };
-
-    ghost worded = { λ _. Words.not_line_ending_worded I.model E.errors I.Item.code };
-
-    #[inline(always)]
-    fn process<OM: OutputMode>(&mut self, input: I) -> PResult<I, I, E> {
-        let found = line_at::<I, OM::Incomplete>(input);
-        answer::<OM, I, E>(input, found, ErrorKind::Tag)
-    }
-
-    ghost lawful = { λ _ k. match_lawful I.model (line_in I.Item.code) (line_laws I.Item.code) E.errors Kind.Tag };
-}
-
-impl<I: Input, E: ParseError<I>> StreamParser<I> for NotLineEnding<I, E>
-where
-    I::Item: AsChar,
-{
-    ghost Pins = { λ _. Unit {0} };
-
-    ghost pinned = { λ p k h. slice_pinned I.views };
-
-    ghost steady = { λ _ k. match_steady I.model (line_in I.Item.code) (line_laws I.Item.code) E.errors Kind.Tag };
+    ghost steady = { λ _ k. match_steady I.model (P.pattern I.Item I.Item.code) (P.laws I.Item I.Item.code) E.errors P.kind };
 }

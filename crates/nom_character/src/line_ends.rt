@@ -1,7 +1,7 @@
 //! Parsers of line ends and tabs. Each runs in the requested mode, and works as a part of other parsers.
 ghost use Rattle.std.specs.Prelude.{◌≡◌};
 
-use crate::line::{Crlf, LineEnding, NotLineEnding};
+use crate::line::{Crlf, LineEnding, LineMatch, NotLineEnding, line_match};
 use crate::one::Char;
 use std::marker::PhantomData;
 
@@ -38,8 +38,8 @@ pub fn tab<I, E>() -> Char<I, E>
 /// Any other input is refused with `CrLf`. On an empty input, and on a single `\r`, streaming needs 2, and
 /// complete refuses with `CrLf`.
 #[inline(always)]
-pub fn crlf<I, E>() -> Crlf<I, E> {
-    Crlf { error: PhantomData }
+pub fn crlf<I, E>() -> LineMatch<Crlf, I, E> {
+    line_match()
 }
 
 /// Matches the end of a line, `\n` or `\r\n`.
@@ -47,8 +47,8 @@ pub fn crlf<I, E>() -> Crlf<I, E> {
 /// Any other input is refused with `CrLf`. On an empty input, streaming needs 1. On a single `\r`, it needs
 /// 2. Complete refuses both with `CrLf`.
 #[inline(always)]
-pub fn line_ending<I, E>() -> LineEnding<I, E> {
-    LineEnding { error: PhantomData }
+pub fn line_ending<I, E>() -> LineMatch<LineEnding, I, E> {
+    line_match()
 }
 
 /// Accepts the items before the first `\n` or `\r\n`. There may be none.
@@ -57,6 +57,6 @@ pub fn line_ending<I, E>() -> LineEnding<I, E> {
 /// all items. If the first of these is an `\r`, a `\n` must follow. The parser refuses with `Tag` if another
 /// item follows. If the input ends after the `\r`, streaming needs more, of an unknown amount.
 #[inline(always)]
-pub fn not_line_ending<I, E>() -> NotLineEnding<I, E> {
-    NotLineEnding { error: PhantomData }
+pub fn not_line_ending<I, E>() -> LineMatch<NotLineEnding, I, E> {
+    line_match()
 }

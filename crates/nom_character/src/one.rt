@@ -64,8 +64,6 @@ impl<I: Input, E: ParseError<I>> StreamParser<I> for Char<I, E>
 where
     I::Item: AsChar,
 {
-    ghost Pins = { λ _. Unit {0} };
-
     ghost pinned = { λ p k h. value_pinned };
 
     ghost steady = { λ wanted k. first_item_steady I.model I.Item.IsValue I.values I.Item.code (λ x b. b ≡ (I.Item.code x == wanted))
@@ -118,8 +116,6 @@ impl<I: Input, P: Predicate<I::Item>, E: ParseError<I>> StreamParser<I> for Sati
 where
     I::Item: AsChar,
 {
-    ghost Pins = { λ _. Unit {0} };
-
     ghost pinned = { λ p k h. value_pinned };
 
     ghost steady = { λ s k. premised_steady (first_item_steady I.model I.Item.IsValue I.values I.Item.code (P.answers s.0) (P.fixed s.0 k) None E.errors
@@ -176,8 +172,6 @@ impl<I: Input, E: ParseError<I>> StreamParser<I> for AnyChar<I, E>
 where
     I::Item: AsChar,
 {
-    ghost Pins = { λ _. Unit {0} };
-
     ghost pinned = { λ p k h. value_pinned };
 
     ghost steady = { λ _ k. first_item_steady I.model I.Item.IsValue I.values I.Item.code (λ x b. b ≡ true) (test_is_fixed I.Item.IsValue (λ x. true)) (Some 1)

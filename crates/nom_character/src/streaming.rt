@@ -7,7 +7,7 @@ ghost use Rattle.nom_character_first.specs.FirstItem.{anychar_meaning, char_mean
 ghost use Rattle.nom_character.specs.LineMatches.{crlf_meaning, line_ending_meaning, line_meaning};
 
 use crate::class::ClassRun;
-use crate::line::{Crlf, LineEnding, NotLineEnding};
+use crate::line::{Crlf, LineEnding, NotLineEnding, line_match};
 use crate::predicate::{CharOutside, CharWhere, CharWithin};
 use crate::{AnyChar, Char, Fixed, Satisfy};
 use nom_calls::answer::stream_answer;
@@ -343,7 +343,7 @@ where
     T::Item: AsChar,
     ensures { StreamsBy T.model T.view (IsModelledBy T.model) (crlf_meaning T.model T.Item.code E.errors) true input result }
 {
-    let mut parser = Crlf::<T, E> { error: PhantomData };
+    let mut parser = line_match::<Crlf, T, E>();
     stream_answer(&mut parser, input)
 }
 
@@ -357,7 +357,7 @@ where
     T::Item: AsChar,
     ensures { StreamsBy T.model T.view (IsModelledBy T.model) (line_ending_meaning T.model T.Item.code E.errors) true input result }
 {
-    let mut parser = LineEnding::<T, E> { error: PhantomData };
+    let mut parser = line_match::<LineEnding, T, E>();
     stream_answer(&mut parser, input)
 }
 
@@ -372,6 +372,6 @@ where
     T::Item: AsChar,
     ensures { StreamsBy T.model T.view (IsModelledBy T.model) (line_meaning T.model T.Item.code E.errors) true input result }
 {
-    let mut parser = NotLineEnding::<T, E> { error: PhantomData };
+    let mut parser = line_match::<NotLineEnding, T, E>();
     stream_answer(&mut parser, input)
 }

@@ -7,14 +7,12 @@ use Rattle.nom_character_integer.specs.CountedDigits.{digits_meaning}
 
 -- of a type of numbers up to the greatest, `of_number` is the value of a number; `code` is the code point of an item
 module _ {I A T E : Type 0} (w : Model I A) (errs : Errors I E) (code : A → ℕ) (of_number : ℕ → T) (greatest : ℕ) where
-  abbrev digits_meant : (base m n : ℕ) → Word I T E
-  digits_meant base m n = word (record { meaning = digits_meaning w code base m n greatest errs; IsOutput = λ v x. x ≡ of_number v })
-
   -- a number in m to n digits of a base
   pub digits_of : (base m n : ℕ) → Word I T E
-  digits_of base m n = digits_meant base m n
+  digits_of base m n = word (record { meaning = digits_meaning w code base m n greatest errs; IsOutput = λ v x. x ≡ of_number v })
 
-  pub digits_worded : (base m n : ℕ) → digits_of base m n ≡ digits_meant base m n
+  pub digits_worded : (base m n : ℕ) → digits_of base m n ≡
+      word (record { meaning = digits_meaning w code base m n greatest errs; IsOutput = λ v x. x ≡ of_number v })
   unfolding digits_of
   digits_worded base m n = refl
 

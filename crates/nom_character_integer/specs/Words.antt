@@ -7,14 +7,12 @@ use Rattle.nom_character_integer.specs.Integers.{integer_meaning}
 
 -- of a type of integers, `fits` are those that it has, and `value` is what one stands for; `code` is the code point of an item
 module _ {I A T E : Type 0} (w : Model I A) (errs : Errors I E) (code : A → ℕ) (value : T → ℤ) (fits : ℤ → Type 0) where
-  abbrev integer_meant : (signed : Bool) → Word I T E
-  integer_meant signed = word (record { meaning = integer_meaning w code signed fits errs; IsOutput = λ z x. value x ≡ z })
-
   -- an integer in decimal digits, by whether a sign may stand first
   pub integer_of : (signed : Bool) → Word I T E
-  integer_of signed = integer_meant signed
+  integer_of signed = word (record { meaning = integer_meaning w code signed fits errs; IsOutput = λ z x. value x ≡ z })
 
-  pub integer_worded : (signed : Bool) → integer_of signed ≡ integer_meant signed
+  pub integer_worded : (signed : Bool) → integer_of signed ≡
+      word (record { meaning = integer_meaning w code signed fits errs; IsOutput = λ z x. value x ≡ z })
   unfolding integer_of
   integer_worded signed = refl
 

@@ -257,8 +257,6 @@ impl<I: Input, T: Unsigned, E: ParseError<I>> StreamParser<I> for Digits<T, I, E
 where
     I::Item: AsChar,
 {
-    ghost Pins = { λ _. Unit {0} };
-
     ghost pinned = { λ p k h. record { one_view = λ t x y f g. ap T.view.value (f ∙ sym g) } };
 
     ghost steady = { λ s k. digits_steady I.model I.Item.code s.0 s.1 s.2 T.GREATEST E.errors };

@@ -9,5 +9,5 @@ abbrev pub value_alloc_by : {I V O P E : Type 0} → (Premise : Type 0) → (Res
 value_alloc_by Premise Makes g = map_alloc_by (λ _. Premise) (λ _. Makes) g
 
 -- the values that are made are equal as viewed
-pub record MakesAlike {R : Type 0} (view : View R) (Makes : R → Type 0) : Type 0 where
+pub record MakesConsistently {R : Type 0} (view : View R) (Makes : R → Type 0) : Type 0 where
   pub same : (a b : R) → Makes a → Makes b → view.value a ≡ view.value b

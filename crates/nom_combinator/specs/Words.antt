@@ -12,235 +12,185 @@ use Rattle.nom_combinator.specs.Outputs as Outputs
 use Rattle.nom_combinator.specs.Verdicts as Verdicts
 
 module _ {I O E : Type 0} where
-  abbrev cut_meant : Word I O E → Word I O E
-  cut_meant g = word (Verdicts.cut_of g.grammar)
-
   pub cut_of : Word I O E → Word I O E
-  cut_of g = cut_meant g
+  cut_of g = word (Verdicts.cut_of g.grammar)
 
   module _ {g h : Word I O E} where
-    pub cut_worded : g ≡ h → cut_of g ≡ cut_meant h
+    pub cut_worded : g ≡ h → cut_of g ≡ word (Verdicts.cut_of h.grammar)
     unfolding cut_of
-    cut_worded p = ap cut_meant p
+    cut_worded p = ap cut_of p
 
     pub cut_same : g ≡ h → cut_of g ≡ cut_of h
     cut_same p = ap cut_of p
 
-  abbrev opt_meant : Word I O E → Word I (Option O) E
-  opt_meant g = word (Verdicts.opt_of g.grammar)
-
   pub opt_of : Word I O E → Word I (Option O) E
-  opt_of g = opt_meant g
+  opt_of g = word (Verdicts.opt_of g.grammar)
 
   module _ {g h : Word I O E} where
-    pub opt_worded : g ≡ h → opt_of g ≡ opt_meant h
+    pub opt_worded : g ≡ h → opt_of g ≡ word (Verdicts.opt_of h.grammar)
     unfolding opt_of
-    opt_worded p = ap opt_meant p
+    opt_worded p = ap opt_of p
 
     pub opt_same : g ≡ h → opt_of g ≡ opt_of h
     opt_same p = ap opt_of p
 
-  abbrev peek_meant : Word I O E → Word I O E
-  peek_meant g = word (Verdicts.peek_of g.grammar)
-
   pub peek_of : Word I O E → Word I O E
-  peek_of g = peek_meant g
+  peek_of g = word (Verdicts.peek_of g.grammar)
 
   module _ {g h : Word I O E} where
-    pub peek_worded : g ≡ h → peek_of g ≡ peek_meant h
+    pub peek_worded : g ≡ h → peek_of g ≡ word (Verdicts.peek_of h.grammar)
     unfolding peek_of
-    peek_worded p = ap peek_meant p
+    peek_worded p = ap peek_of p
 
     pub peek_same : g ≡ h → peek_of g ≡ peek_of h
     peek_same p = ap peek_of p
 
   -- a part that runs where b is true
-  abbrev cond_meant : Bool → Word I O E → Word I (Option O) E
-  cond_meant b g = word (Conditions.cond_of b g.grammar)
-
   pub cond_of : Bool → Word I O E → Word I (Option O) E
-  cond_of b g = cond_meant b g
+  cond_of b g = word (Conditions.cond_of b g.grammar)
 
   module _ {g h : Word I O E} where
-    pub cond_worded : (b : Bool) → g ≡ h → cond_of b g ≡ cond_meant b h
+    pub cond_worded : (b : Bool) → g ≡ h → cond_of b g ≡ word (Conditions.cond_of b h.grammar)
     unfolding cond_of
-    cond_worded b p = ap (cond_meant b) p
+    cond_worded b p = ap (cond_of b) p
 
     pub cond_same : {b b' : Bool} → b ≡ b' → g ≡ h → cond_of b g ≡ cond_of b' h
     cond_same q p = ap₂ cond_of q p
 
 module _ {I O E : Type 0} (errs : Errors I E) where
-  abbrev not_meant : Word I O E → Word I (Unit {0}) E
-  not_meant g = word (Verdicts.not_of errs g.grammar)
-
   pub not_of : Word I O E → Word I (Unit {0}) E
-  not_of g = not_meant g
+  not_of g = word (Verdicts.not_of errs g.grammar)
 
   module _ {g h : Word I O E} where
-    pub not_worded : g ≡ h → not_of g ≡ not_meant h
+    pub not_worded : g ≡ h → not_of g ≡ word (Verdicts.not_of errs h.grammar)
     unfolding not_of
-    not_worded p = ap not_meant p
+    not_worded p = ap not_of p
 
     pub not_same : g ≡ h → not_of g ≡ not_of h
     not_same p = ap not_of p
 
-  abbrev complete_meant : Word I O E → Word I O E
-  complete_meant g = word (Verdicts.complete_of errs g.grammar)
-
   pub complete_of : Word I O E → Word I O E
-  complete_of g = complete_meant g
+  complete_of g = word (Verdicts.complete_of errs g.grammar)
 
   module _ {g h : Word I O E} where
-    pub complete_worded : g ≡ h → complete_of g ≡ complete_meant h
+    pub complete_worded : g ≡ h → complete_of g ≡ word (Verdicts.complete_of errs h.grammar)
     unfolding complete_of
-    complete_worded p = ap complete_meant p
+    complete_worded p = ap complete_of p
 
     pub complete_same : g ≡ h → complete_of g ≡ complete_of h
     complete_same p = ap complete_of p
 
   -- those of the outputs that a closure accepts
-  abbrev verify_meant : (O → Type 0) → (O → Bool → Type 0) → Word I O E → Word I O E
-  verify_meant Takes Says g = word (Outputs.verify_by errs Takes Says g.grammar)
-
   pub verify_of : (O → Type 0) → (O → Bool → Type 0) → Word I O E → Word I O E
-  verify_of Takes Says g = verify_meant Takes Says g
+  verify_of Takes Says g = word (Outputs.verify_by errs Takes Says g.grammar)
 
   module _ {g h : Word I O E} where
-    pub verify_worded : (Takes : O → Type 0) (Says : O → Bool → Type 0) → g ≡ h → verify_of Takes Says g ≡ verify_meant Takes Says h
+    pub verify_worded : (Takes : O → Type 0) (Says : O → Bool → Type 0) → g ≡ h → verify_of Takes Says g ≡ word (Outputs.verify_by errs Takes Says h.grammar)
     unfolding verify_of
-    verify_worded Takes Says p = ap (verify_meant Takes Says) p
+    verify_worded Takes Says p = ap (verify_of Takes Says) p
 
     pub verify_same : {Takes Takes' : O → Type 0} {Says Says' : O → Bool → Type 0} → Takes ≡ Takes' → Says ≡ Says' → g ≡ h →
         verify_of Takes Says g ≡ verify_of Takes' Says' h
     verify_same a b p = λ i. verify_of (a i) (b i) (p i)
 
 module _ {I O E : Type 0} (contexts : Contexts I E) where
-  abbrev context_meant : List ℕ → Word I O E → Word I O E
-  context_meant name g = word (Contexts.context_of contexts name g.grammar)
-
   pub context_of : List ℕ → Word I O E → Word I O E
-  context_of name g = context_meant name g
+  context_of name g = word (Contexts.context_of contexts name g.grammar)
 
   module _ {g h : Word I O E} where
-    pub context_worded : (name : List ℕ) → g ≡ h → context_of name g ≡ context_meant name h
+    pub context_worded : (name : List ℕ) → g ≡ h → context_of name g ≡ word (Contexts.context_of contexts name h.grammar)
     unfolding context_of
-    context_worded name p = ap (context_meant name) p
+    context_worded name p = ap (context_of name) p
 
     pub context_same : {name name' : List ℕ} → name ≡ name' → g ≡ h → context_of name g ≡ context_of name' h
     context_same q p = ap₂ context_of q p
 
 module _ {I A O E : Type 0} (w : Model I A) where
-  abbrev recognize_meant : Word I O E → Word I I E
-  recognize_meant g = word (Verdicts.recognize_of w g.grammar)
-
   pub recognize_of : Word I O E → Word I I E
-  recognize_of g = recognize_meant g
+  recognize_of g = word (Verdicts.recognize_of w g.grammar)
 
   module _ {g h : Word I O E} where
-    pub recognize_worded : g ≡ h → recognize_of g ≡ recognize_meant h
+    pub recognize_worded : g ≡ h → recognize_of g ≡ word (Verdicts.recognize_of w h.grammar)
     unfolding recognize_of
-    recognize_worded p = ap recognize_meant p
+    recognize_worded p = ap recognize_of p
 
     pub recognize_same : g ≡ h → recognize_of g ≡ recognize_of h
     recognize_same p = ap recognize_of p
 
-  abbrev consumed_meant : Word I O E → Word I (I × O) E
-  consumed_meant g = word (Verdicts.consumed_of w g.grammar)
-
   pub consumed_of : Word I O E → Word I (I × O) E
-  consumed_of g = consumed_meant g
+  consumed_of g = word (Verdicts.consumed_of w g.grammar)
 
   module _ {g h : Word I O E} where
-    pub consumed_worded : g ≡ h → consumed_of g ≡ consumed_meant h
+    pub consumed_worded : g ≡ h → consumed_of g ≡ word (Verdicts.consumed_of w h.grammar)
     unfolding consumed_of
-    consumed_worded p = ap consumed_meant p
+    consumed_worded p = ap consumed_of p
 
     pub consumed_same : g ≡ h → consumed_of g ≡ consumed_of h
     consumed_same p = ap consumed_of p
 
 module _ {I A O E : Type 0} (w : Model I A) (errs : Errors I E) where
-  abbrev all_consuming_meant : Word I O E → Word I O E
-  all_consuming_meant g = word (Ends.all_consuming_of w errs g.grammar)
-
   pub all_consuming_of : Word I O E → Word I O E
-  all_consuming_of g = all_consuming_meant g
+  all_consuming_of g = word (Ends.all_consuming_of w errs g.grammar)
 
   module _ {g h : Word I O E} where
-    pub all_consuming_worded : g ≡ h → all_consuming_of g ≡ all_consuming_meant h
+    pub all_consuming_worded : g ≡ h → all_consuming_of g ≡ word (Ends.all_consuming_of w errs h.grammar)
     unfolding all_consuming_of
-    all_consuming_worded p = ap all_consuming_meant p
+    all_consuming_worded p = ap all_consuming_of p
 
     pub all_consuming_same : g ≡ h → all_consuming_of g ≡ all_consuming_of h
     all_consuming_same p = ap all_consuming_of p
 
 module _ {I A E : Type 0} (w : Model I A) (errs : Errors I E) where
-  abbrev eof_meant : Word I I E
-  eof_meant = word (sliced w (Ends.eof_meaning w errs))
-
   pub eof_of : Word I I E
-  eof_of = eof_meant
+  eof_of = word (sliced w (Ends.eof_meaning w errs))
 
-  pub eof_worded : eof_of ≡ eof_meant
+  pub eof_worded : eof_of ≡ word (sliced w (Ends.eof_meaning w errs))
   unfolding eof_of
   eof_worded = refl
 
 module _ {I A E : Type 0} (w : Model I A) where
-  abbrev rest_meant : Word I I E
-  rest_meant = word (sliced w (Ends.rest_meaning w))
-
   pub rest_of : Word I I E
-  rest_of = rest_meant
+  rest_of = word (sliced w (Ends.rest_meaning w))
 
-  pub rest_worded : rest_of ≡ rest_meant
+  pub rest_worded : rest_of ≡ word (sliced w (Ends.rest_meaning w))
   unfolding rest_of
   rest_worded = refl
 
-  abbrev rest_len_meant : Word I ℕ E
-  rest_len_meant = word (valued (Ends.rest_len_meaning w))
-
   pub rest_len_of : Word I ℕ E
-  rest_len_of = rest_len_meant
+  rest_len_of = word (valued (Ends.rest_len_meaning w))
 
-  pub rest_len_worded : rest_len_of ≡ rest_len_meant
+  pub rest_len_worded : rest_len_of ≡ word (valued (Ends.rest_len_meaning w))
   unfolding rest_len_of
   rest_len_worded = refl
 
 module _ {I O E : Type 0} (errs : Errors I E) where
-  abbrev fail_meant : Word I O E
-  fail_meant = word (valued (Ends.fail_meaning errs))
-
   pub fail_of : Word I O E
-  fail_of = fail_meant
+  fail_of = word (valued (Ends.fail_meaning errs))
 
-  pub fail_worded : fail_of ≡ fail_meant
+  pub fail_worded : fail_of ≡ word (valued (Ends.fail_meaning errs))
   unfolding fail_of
   fail_worded = refl
 
 -- a clone of a value: which values are clones of which, and what makes it sure that memory is found for one of this value
 module _ {I O E Q : Type 0} (IsClone : Q → Q → Type 0) where
-  abbrev value_meant : Q → Type 0 → Word I O E → Word I Q E
-  value_meant value IsSure g = word (Outputs.value_by value IsSure (IsClone value) g.grammar)
-
   pub value_of : Q → Type 0 → Word I O E → Word I Q E
-  value_of value IsSure g = value_meant value IsSure g
+  value_of value IsSure g = word (Outputs.value_by value IsSure (IsClone value) g.grammar)
 
   module _ {g h : Word I O E} where
-    pub value_worded : (value : Q) (IsSure : Type 0) → g ≡ h → value_of value IsSure g ≡ value_meant value IsSure h
+    pub value_worded : (value : Q) (IsSure : Type 0) → g ≡ h → value_of value IsSure g ≡ word (Outputs.value_by value IsSure (IsClone value) h.grammar)
     unfolding value_of
-    value_worded value IsSure p = ap (value_meant value IsSure) p
+    value_worded value IsSure p = ap (value_of value IsSure) p
 
     pub value_same : {value value' : Q} {IsSure IsSure' : Type 0} → value ≡ value' → IsSure ≡ IsSure' → g ≡ h →
         value_of value IsSure g ≡ value_of value' IsSure' h
     value_same a b p = λ i. value_of (a i) (b i) (p i)
 
 module _ {I E Q : Type 0} (IsClone : Q → Q → Type 0) where
-  abbrev success_meant : Q → Type 0 → Word I Q E
-  success_meant value IsSure = word (record { meaning = Ends.clone_meaning value IsSure; IsOutput = λ _. IsClone value })
-
   pub success_of : Q → Type 0 → Word I Q E
-  success_of value IsSure = success_meant value IsSure
+  success_of value IsSure = word (record { meaning = Ends.clone_meaning value IsSure; IsOutput = λ _. IsClone value })
 
-  pub success_worded : (value : Q) (IsSure : Type 0) → success_of value IsSure ≡ success_meant value IsSure
+  pub success_worded : (value : Q) (IsSure : Type 0) → success_of value IsSure ≡
+      word (record { meaning = Ends.clone_meaning value IsSure; IsOutput = λ _. IsClone value })
   unfolding success_of
   success_worded value IsSure = refl
 

@@ -1,6 +1,6 @@
 //! A parser whose outputs are mapped by a closure that may take memory.
 ghost use Rattle.std.specs.Prelude.{Ok};
-ghost use Rattle.nom_internal.specs.Prelude.{JudgedSideCondition, SeesAlike};
+ghost use Rattle.nom_internal.specs.Prelude.{JudgedSideCondition, SeesConsistently};
 ghost use Rattle.nom_internal.specs.laws.MappedLaws.{given_pinned};
 ghost use Rattle.nom_combinator.specs.MapAlloc.{map_alloc_by};
 ghost use Rattle.nom_combinator.specs.laws.MapAllocLaws.{map_alloc_lawful, map_alloc_steady};
@@ -60,7 +60,7 @@ impl<
     O: Viewed + Drop,
     G: Fn(F::Output) -> Result<O, OutOfMemory>,
 > StreamParser<I> for MapAlloc<F, G> {
-    ghost Pins = { λ p. F.Pins p.parser × SeesAlike F.Output.view O.view (λ a o. G.post p.map a (Ok o)) };
+    ghost Pins = { λ p. F.Pins p.parser × SeesConsistently F.Output.view O.view (λ a o. G.post p.map a (Ok o)) };
 
     ghost pinned = { λ p k h. given_pinned (F.pinned p.parser k h.0) h.1 };
 

@@ -1,7 +1,7 @@
 //! A value in place of a parser's output, made by a closure that may take memory.
 ghost use Rattle.std.specs.Prelude.{Ok};
 ghost use Rattle.nom_internal.specs.Prelude.{JudgedSideCondition};
-ghost use Rattle.nom_combinator.specs.ValueAlloc.{MakesAlike, value_alloc_by};
+ghost use Rattle.nom_combinator.specs.ValueAlloc.{MakesConsistently, value_alloc_by};
 ghost use Rattle.nom_combinator.specs.laws.MapAllocLaws.{map_alloc_lawful, map_alloc_steady};
 ghost use Rattle.nom_combinator.specs.laws.ValueAllocLaws.{made_pinned};
 ghost use Rattle.nom_combinator.specs.AllocWords as Words;
@@ -62,7 +62,7 @@ impl<
     G: Fn() -> Result<O, OutOfMemory>,
     F: StreamParser<I> + Drop,
 > StreamParser<I> for ValueAlloc<G, F> {
-    ghost Pins = { λ p. MakesAlike O.view (λ o. G.post p.make (Ok o)) };
+    ghost Pins = { λ p. MakesConsistently O.view (λ o. G.post p.make (Ok o)) };
 
     ghost pinned = { λ p k h. made_pinned h };
 

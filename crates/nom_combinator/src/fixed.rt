@@ -1,6 +1,6 @@
 //! Parsers whose answer is fixed, whatever the input.
 ghost use Rattle.std.specs.Prelude.{◌≡◌};
-ghost use Rattle.nom_internal.specs.Cloned.{ClonesAlike, clones_pinned};
+ghost use Rattle.nom_internal.specs.Cloned.{ClonesConsistently, clones_pinned};
 ghost use Rattle.nom_internal.specs.Prelude.{OfRest, value_pinned, valued};
 ghost use Rattle.nom_combinator.specs.Ends.{clone_meaning, fail_meaning};
 ghost use Rattle.nom_combinator.specs.laws.EndLaws.{clone_lawful, clone_steady, fail_lawful, fail_steady};
@@ -60,7 +60,7 @@ impl<I: Items, O: Clone, E: ParseError<I>> Parser<I> for Success<O, I, E> {
 }
 
 impl<I: Items, O: Clone + Viewed, E: ParseError<I>> StreamParser<I> for Success<O, I, E> {
-    ghost Pins = { λ p. ClonesAlike O.view O.is_clone p.value };
+    ghost Pins = { λ p. ClonesConsistently O.view O.is_clone p.value };
 
     ghost pinned = { λ p k h. clones_pinned h };
 
@@ -99,8 +99,6 @@ impl<I: Items, O: Drop, E: ParseError<I>> Parser<I> for Fail<O, I, E> {
 }
 
 impl<I: Items, O: Drop + Viewed, E: ParseError<I>> StreamParser<I> for Fail<O, I, E> {
-    ghost Pins = { λ _. Unit {0} };
-
     ghost pinned = { λ p k h. value_pinned };
 
     ghost steady = { λ _ k. fail_steady O I.model E.errors };

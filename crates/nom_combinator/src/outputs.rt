@@ -2,7 +2,7 @@
 ghost use Rattle.std.specs.Prelude.{◌≡◌, true};
 ghost use Rattle.std.specs.Borrow.{Bor};
 ghost use Rattle.std.specs.Fn.{FnReturnsAt};
-ghost use Rattle.nom_internal.specs.Cloned.{ClonesAlike, clones_pinned};
+ghost use Rattle.nom_internal.specs.Cloned.{ClonesConsistently, clones_pinned};
 ghost use Rattle.nom_internal.specs.Prelude.{JudgedSideCondition, with_outputs};
 ghost use Rattle.nom_internal.specs.laws.JudgedLaws.{judged_lawful, judged_steady};
 ghost use Rattle.nom_combinator.specs.Outputs.{value_by, verify_by};
@@ -131,7 +131,7 @@ impl<I: Items, O: Clone, F: Parser<I> + Drop> Parser<I> for Value<O, F> {
 }
 
 impl<I: Items, O: Clone + Viewed, F: StreamParser<I> + Drop> StreamParser<I> for Value<O, F> {
-    ghost Pins = { λ p. ClonesAlike O.view O.is_clone p.value };
+    ghost Pins = { λ p. ClonesConsistently O.view O.is_clone p.value };
 
     ghost pinned = { λ p k h. clones_pinned h };
 

@@ -51,8 +51,6 @@ impl<I: Input, F: Parser<I> + Drop> Parser<I> for Recognize<F> {
 }
 
 impl<I: Input, F: StreamParser<I> + Drop> StreamParser<I> for Recognize<F> {
-    ghost Pins = { λ _. Unit {0} };
-
     ghost pinned = { λ p k h. slice_pinned I.views };
 
     ghost steady = { λ s k. recognized_steady I.lawful (F.steady s k) };

@@ -206,8 +206,6 @@ impl<I: Items, F: Parser<I> + Drop> Parser<I> for Not<F> {
 impl<I: Items, F: StreamParser<I> + Drop> StreamParser<I> for Not<F> {
     ghost use Rattle.nom_internal.specs.Pinned.{value_pinned};
 
-    ghost Pins = { λ _. Unit {0} };
-
     ghost pinned = { λ p k h. value_pinned };
 
     ghost steady = { λ s k. not_steady (F.steady s k) };

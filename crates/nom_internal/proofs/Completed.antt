@@ -12,10 +12,10 @@ module _ {I A V O E : Type 0} (w : Model I A) (l : InputLaws w) (view : View O) 
   -- of one decided outcome the errors of either mode are those of both
   module _ (o : Outcome V) (a : m.answers true x o) (b : m.answers false x o) (d : IsDecided o) (e : E) where
     first_blamed : m.blames true x e → IsBlamed w view Pins IsOutput m x e
-    first_blamed h = (h, laws.blames_alike settles true x o e known a b d h)
+    first_blamed h = (h, laws.blames_consistent settles true x o e known a b d h)
 
     second_blamed : m.blames false x e → IsBlamed w view Pins IsOutput m x e
-    second_blamed h = (laws.blames_alike settles false x o e known b a d h, h)
+    second_blamed h = (laws.blames_consistent settles false x o e known b a d h, h)
 
   of_one : (o : Outcome V) (r s : IResult I O E) → m.answers true x o → m.answers false x o → IsDecided o →
       ParsesOutcome w IsOutput x (m.blames true x) o r → ParsesOutcome w IsOutput x (m.blames false x) o s → Shown r s

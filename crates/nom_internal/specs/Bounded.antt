@@ -17,8 +17,8 @@ module _ {J B P : Type 0} (v : Model J B) (IsOutput : P → J → Type 0) where
     pub known : v.IsKnown j
 
   -- the outputs of one tree are equal as viewed
-  abbrev pub AreAlike : Type 0
-  AreAlike = (u : P) (j k : J) → IsOutput u j → IsOutput u k → IsSame v j k
+  abbrev pub AreConsistent : Type 0
+  AreConsistent = (u : P) (j k : J) → IsOutput u j → IsOutput u k → IsSame v j k
 
 -- an outcome of which nothing is consumed
 abbrev pub held : {V : Type 0} → Outcome V → Outcome V
@@ -44,7 +44,7 @@ abbrev pub bounded_family : {I J B P Q E : Type 0} → Model J B → (P → J �
 bounded_family v IsOutput m = record {
   at = λ u. case_meaning (bounded_case (IsBound v IsOutput u)) m;
   Runs = m.Runs;
-  IsSound = m.IsSound × AreAlike v IsOutput;
+  IsSound = m.IsSound × AreConsistent v IsOutput;
   IsFrugal = m.IsFrugal;
   Settles = m.Settles;
   NeverFails = m.NeverFails;

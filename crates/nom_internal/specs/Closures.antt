@@ -22,5 +22,5 @@ pub record IsJudge {V P R : Type 0} (IsOutput : V → P → Type 0) (Gives : P �
 
 -- A closure gives results that are equal as viewed for arguments that are. No verdict rests on it: it is asked only where outputs
 -- are compared.
-pub record SeesAlike {P R : Type 0} (argument : View P) (result : View R) (Gives : P → R → Type 0) : Type 0 where
+pub record SeesConsistently {P R : Type 0} (argument : View P) (result : View R) (Gives : P → R → Type 0) : Type 0 where
   pub consistent : (p q : P) (r x : R) → argument.value p ≡ argument.value q → Gives p r → Gives q x → result.value r ≡ result.value x

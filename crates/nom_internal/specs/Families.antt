@@ -77,7 +77,7 @@ module _ {P V I A Q E : Type 0} (w : Model I A) (IsValue : P → V → Type 0) (
       let key : (x : P) × IsValue x v = (u, z.is_value) in
       let first = subst (λ n. (f.at n).answers s i o) (one u a.value v a.is_value z.is_value) a.fact in
       let second = subst (λ n. (f.at n).answers (not s) i o) (one u b.value v b.is_value z.is_value) b.fact in
-      record { value = v; is_value = z.is_value; fact = (l.lawful v key).blames_alike (l.settles t v key) s i o e h first second d z.fact }
+      record { value = v; is_value = z.is_value; fact = (l.lawful v key).blames_consistent (l.settles t v key) s i o e h first second d z.fact }
 
   at_lawful : (u : P) → IsLawful w ((of_value IsValue f).at u)
   at_lawful u = record {
@@ -99,7 +99,7 @@ module _ {P V I A Q E : Type 0} (w : Model I A) (IsValue : P → V → Type 0) (
       fact =
           (l.lawful a.value (u, a.is_value)).settles (l.settles t a.value (u, a.is_value)) x y o kx ky r a.fact k;
     };
-    blames_alike = same_blame u;
+    blames_consistent = same_blame u;
     never_fails = λ cause g s i h a. (l.lawful a.value (u, a.is_value)).never_fails cause (l.never_fails cause g a.value (u, a.is_value)) s i h a.fact;
   }
 

@@ -48,7 +48,7 @@ pub record LeafLaws {I A V : Type 0} (w : Model I A) (leaf : Leaf I V) : Type 0 
       leaf.Accepts s x n v → leaf.Accepts s y n v
   pub refused_stays : (longer s : Bool) → (longer ≡ true → s ≡ true) → (x y : I) → w.IsKnown x → w.IsKnown y → Related w longer x y → leaf.Refuses s x →
       leaf.Refuses s y
-  pub lack_alike : (x y : I) (k : Option ℕ) → w.IsKnown x → w.IsKnown y → IsSame w x y → leaf.Lacks x k → leaf.Lacks y k
+  pub lack_consistent : (x y : I) (k : Option ℕ) → w.IsKnown x → w.IsKnown y → IsSame w x y → leaf.Lacks x k → leaf.Lacks y k
   -- a streaming answer is the complete one
   pub accepted_settles : (i : I) (n : ℕ) (v : V) → w.IsKnown i → leaf.Accepts true i n v → leaf.Accepts false i n v
   pub refused_settles : (i : I) → w.IsKnown i → leaf.Refuses true i → leaf.Refuses false i
@@ -60,7 +60,7 @@ module _ {I A V : Type 0} {w : Model I A} {leaf : Leaf I V} (l : LeafLaws w leaf
   answers_carry longer s only x y Refuse kx ky r a d = l.refused_stays longer s only x y kx ky r a
   answers_carry longer s only x y (Stop (Fails cause)) kx ky r a d = absurd a
   answers_carry true s only x y (Stop (Needs k)) kx ky r a d = absurd d
-  answers_carry false s only x y (Stop (Needs k)) kx ky r a d = (a.0, l.lack_alike x y k kx ky r a.1)
+  answers_carry false s only x y (Stop (Needs k)) kx ky r a d = (a.0, l.lack_consistent x y k kx ky r a.1)
 
   one_answer : (s : Bool) (i : I) (o p : Outcome V) → w.IsKnown i → LeafAnswers leaf s i o → LeafAnswers leaf s i p → o ≡ p
   one_answer s i (Accept n u) (Accept m v) h a b = let e = l.one_accepted s i n m u v h a b in cc (e.0, e.1)
@@ -94,7 +94,7 @@ module _ {I A V : Type 0} {w : Model I A} {leaf : Leaf I V} (l : LeafLaws w leaf
       consistent = λ s x y o kx ky r a d. answers_carry false s (λ e. cc) x y o kx ky r a d;
       frugal = λ mode i h f r. f r.1 r.2;
       settles = λ t x y o kx ky r a d. answers_settle y o ky (answers_carry false true (λ e. refl) x y o kx ky r a tt) d;
-      blames_alike = λ t s i o e h a b d z. z;
+      blames_consistent = λ t s i o e h a b d z. z;
       never_fails = λ cause g s i h a. a;
     }
 

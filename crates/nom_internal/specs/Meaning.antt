@@ -67,7 +67,7 @@ module _ {I A V E : Type 0} (w : Model I A) (m : Meaning I V E) where
     pub frugal : (mode : Modes) (i : I) → w.IsKnown i → m.IsFrugal mode → m.may_run_out mode i → ⊥
     -- where it settles, a decided streaming outcome is the complete one, and the errors of either mode are the other's
     pub settles : m.Settles → Carries w true (m.answers true) (m.answers false)
-    pub blames_alike : m.Settles → (s : Bool) → SameBlame w (m.answers s) (m.answers (not s)) (m.blames s) (m.blames (not s))
+    pub blames_consistent : m.Settles → (s : Bool) → SameBlame w (m.answers s) (m.answers (not s)) (m.blames s) (m.blames (not s))
     pub never_fails : (cause : Cause) → m.NeverFails cause → (s : Bool) (i : I) → w.IsKnown i → m.answers s i (Stop (Fails cause)) → ⊥
 
   -- the law of a stream parser: a decided streaming outcome stays on every longer input
@@ -83,7 +83,7 @@ module _ {I A V E : Type 0} {w : Model I A} {m : Meaning I V E} {Runs IsSound : 
     consistent = l.consistent;
     frugal = l.frugal;
     settles = l.settles;
-    blames_alike = l.blames_alike;
+    blames_consistent = l.blames_consistent;
     never_fails = l.never_fails;
   }
 

@@ -16,7 +16,7 @@ pub use Rattle.nom_traits.specs.CompareTags.{text_is_bytes}
 pub use Rattle.nom_traits.specs.Compares.{CompareLaws, ComparesBytes, ComparesBytesNoCase, ComparesText, ComparesTextNoCase, IsFound}
 pub use Rattle.nom_traits.specs.Digits.{digits_after, value_more, value_of}
 pub use Rattle.nom_traits.specs.Input.{AreValues, Extends, InputLaws, IsBoundary, IsPrefixOf, IsSame, IsSuffixOf, Model, Related, input_len, items_len, placed}
-pub use Rattle.nom_traits.specs.Rests.{items_len-append, items_len-ones, place_more, rest_alike, rest_place, rest_related, rest_rest, same_cut, same_front}
+pub use Rattle.nom_traits.specs.Rests.{items_len-append, items_len-ones, place_more, rest_consistent, rest_place, rest_related, rest_rest, same_cut, same_front}
 pub use Rattle.nom_traits.specs.Rests.{same_self, same_sym, same_then}
 pub use Rattle.nom_traits.specs.Runs.{EndsAt, IsPosition, Stops}
 pub use Rattle.nom_traits.specs.Slices.{IsCount, IsFirst, IsModelledBy, Slice, first_fewer, first_place, first_related, front_seen, place_first, place_slice}
@@ -32,7 +32,7 @@ pub use Rattle.nom_internal.specs.Choice.{ClosesError, ClosesResult, EitherOutpu
 pub use Rattle.nom_internal.specs.Choice.{OnError, OnRefusal, OrBlames, OtherwiseBlames, ShowsNext, either_meaning, either_of, or_meaning, otherwise_meaning}
 pub use Rattle.nom_internal.specs.Choice.NextBlames.{NextFails, NextRefuses}
 pub use Rattle.nom_internal.specs.Choice.OrBlames.{FirstFails, FirstRefuses}
-pub use Rattle.nom_internal.specs.Closures.{GivesFor, IsCallable, IsAsked, IsJudge, SeesAlike}
+pub use Rattle.nom_internal.specs.Closures.{GivesFor, IsCallable, IsAsked, IsJudge, SeesConsistently}
 pub use Rattle.nom_internal.specs.Families.{AnyKey, Family, IsLawfulFamily, IsOne, OfValue, always, always_lawful, of_value, of_value_lawful, of_value_steady}
 pub use Rattle.nom_internal.specs.Grammar.{GivesAt, Grammar, Parses, Shows, sliced, valued}
 pub use Rattle.nom_internal.specs.Judged.{Judged, JudgedBlames, OfError, OnUnfit, judged_case, judged_meaning, kept_if}

@@ -30,7 +30,7 @@ success_laws w v = record {
   refused_lacks = λ i k h a b. b;
   accepted_stays = λ longer s only x y n u kx ky r a. a;
   refused_stays = λ longer s only x y kx ky r a. a;
-  lack_alike = λ x y k kx ky r a. a;
+  lack_consistent = λ x y k kx ky r a. a;
   accepted_settles = λ i n u h a. a;
   refused_settles = λ i h a. a;
 }

@@ -1,6 +1,6 @@
 -- The words of this crate's parsers. `cut_worded` says of a word which grammar it is; `cut_same`, that words of equal parts are equal.
 use Rattle.std.specs.Prelude.{◌≡◌, Bool, Option, Result}
-use Rattle.std.proofs.Common.{refl, ap, ap₂, subst}
+use Rattle.std.proofs.Common.{ap, ap₂, subst}
 use Rattle.nom_error.specs.Errors.{Errors, Externals}
 use Rattle.nom_traits.specs.Input.{Model}
 use Rattle.nom_internal.specs.Bounded as Bounded
@@ -15,112 +15,91 @@ use Rattle.nom_internal.specs.Tuples as Tuples
 use Rattle.nom_internal.specs.Word.{Word, Words, word}
 
 module _ {I A E : Type 0} (w : Model I A) {O P : Type 0} where
-  abbrev pub pair_meant : Word I O E → Word I P E → Word I (O × P) E
-  pair_meant g h = word (Sequence.pair_of w g.grammar h.grammar)
-
   pub pair_of : Word I O E → Word I P E → Word I (O × P) E
-  pair_of g h = pair_meant g h
+  pair_of g h = word (Sequence.pair_of w g.grammar h.grammar)
 
   module _ {g h : Word I O E} {k l : Word I P E} where
-    pub pair_worded : g ≡ h → k ≡ l → pair_of g k ≡ pair_meant h l
+    pub pair_worded : g ≡ h → k ≡ l → pair_of g k ≡ word (Sequence.pair_of w h.grammar l.grammar)
     unfolding pair_of
-    pair_worded p q = ap₂ pair_meant p q
+    pair_worded p q = ap₂ pair_of p q
 
     pub pair_same : g ≡ h → k ≡ l → pair_of g k ≡ pair_of h l
     pair_same p q = ap₂ pair_of p q
 
 -- a tuple, by the nested pairs of its outputs
 module _ {I E F O : Type 0} (pairs : F → O) where
-  abbrev pub tuple_meant : Word I O E → Word I F E
-  tuple_meant g = word (Tuples.tuple_of pairs g.grammar)
-
   pub tuple_of : Word I O E → Word I F E
-  tuple_of g = tuple_meant g
+  tuple_of g = word (Tuples.tuple_of pairs g.grammar)
 
   module _ {g h : Word I O E} where
-    pub tuple_worded : g ≡ h → tuple_of g ≡ tuple_meant h
+    pub tuple_worded : g ≡ h → tuple_of g ≡ word (Tuples.tuple_of pairs h.grammar)
     unfolding tuple_of
-    tuple_worded p = ap tuple_meant p
+    tuple_worded p = ap tuple_of p
 
     pub tuple_same : g ≡ h → tuple_of g ≡ tuple_of h
     tuple_same p = ap tuple_of p
 
 -- `or`, as a method
 module _ {I E : Type 0} (Joins : E → E → E → Type 0) (Grows : Type 0) {O : Type 0} where
-  abbrev either_meant : Word I O E → Word I O E → Word I O E
-  either_meant g h = word (Choice.either_of Joins Grows g.grammar h.grammar)
-
   pub either_of : Word I O E → Word I O E → Word I O E
-  either_of g h = either_meant g h
+  either_of g h = word (Choice.either_of Joins Grows g.grammar h.grammar)
 
   module _ {g h k l : Word I O E} where
-    pub either_worded : g ≡ h → k ≡ l → either_of g k ≡ either_meant h l
+    pub either_worded : g ≡ h → k ≡ l → either_of g k ≡ word (Choice.either_of Joins Grows h.grammar l.grammar)
     unfolding either_of
-    either_worded p q = ap₂ either_meant p q
+    either_worded p q = ap₂ either_of p q
 
     pub either_same : g ≡ h → k ≡ l → either_of g k ≡ either_of h l
     either_same p q = ap₂ either_of p q
 
 -- a parser in one mode
 module _ {I O E : Type 0} (mode : Bool) where
-  abbrev fixed_meant : Word I O E → Word I O E
-  fixed_meant g = word (Cases.fixed_of mode g.grammar)
-
   pub fixed_of : Word I O E → Word I O E
-  fixed_of g = fixed_meant g
+  fixed_of g = word (Cases.fixed_of mode g.grammar)
 
   module _ {g h : Word I O E} where
-    pub fixed_worded : g ≡ h → fixed_of g ≡ fixed_meant h
+    pub fixed_worded : g ≡ h → fixed_of g ≡ word (Cases.fixed_of mode h.grammar)
     unfolding fixed_of
-    fixed_worded p = ap fixed_meant p
+    fixed_worded p = ap fixed_of p
 
     pub fixed_same : g ≡ h → fixed_of g ≡ fixed_of h
     fixed_same p = ap fixed_of p
 
 -- a part on the output of another
 module _ {I A J B E : Type 0} (w : Model I A) (v : Model J B) {O : Type 0} where
-  abbrev and_then_meant : Word I J E → Word J O E → Word I O E
-  and_then_meant g h = word (Bounded.and_then_of w v g.grammar h.grammar)
-
   pub and_then_of : Word I J E → Word J O E → Word I O E
-  and_then_of g h = and_then_meant g h
+  and_then_of g h = word (Bounded.and_then_of w v g.grammar h.grammar)
 
   module _ {g h : Word I J E} {k l : Word J O E} where
-    pub and_then_worded : g ≡ h → k ≡ l → and_then_of g k ≡ and_then_meant h l
+    pub and_then_worded : g ≡ h → k ≡ l → and_then_of g k ≡ word (Bounded.and_then_of w v h.grammar l.grammar)
     unfolding and_then_of
-    and_then_worded p q = ap₂ and_then_meant p q
+    and_then_worded p q = ap₂ and_then_of p q
 
     pub and_then_same : g ≡ h → k ≡ l → and_then_of g k ≡ and_then_of h l
     and_then_same p q = ap₂ and_then_of p q
 
 -- the parser that a closure returns for an output, by its state
 module _ {I A O H S E X : Type 0} (w : Model I A) (give : Maker O H S) (k : Words S I X E) where
-  abbrev flat_map_meant : Word I O E → Word I X E
-  flat_map_meant g = word (FlatMap.flat_map_by w give g.grammar k.grammar)
-
   pub flat_map_of : Word I O E → Word I X E
-  flat_map_of g = flat_map_meant g
+  flat_map_of g = word (FlatMap.flat_map_by w give g.grammar k.grammar)
 
   module _ {g h : Word I O E} where
-    pub flat_map_worded : g ≡ h → flat_map_of g ≡ flat_map_meant h
+    pub flat_map_worded : g ≡ h → flat_map_of g ≡ word (FlatMap.flat_map_by w give h.grammar k.grammar)
     unfolding flat_map_of
-    flat_map_worded p = ap flat_map_meant p
+    flat_map_worded p = ap flat_map_of p
 
     pub flat_map_same : g ≡ h → flat_map_of g ≡ flat_map_of h
     flat_map_same p = ap flat_map_of p
 
 -- outputs that a closure maps
 module _ {I O P E : Type 0} where
-  abbrev map_meant : (O → Type 0) → (O → P → Type 0) → Word I O E → Word I P E
-  map_meant Takes Gives g = word (Mapped.map_by Takes Gives g.grammar)
-
   pub map_of : (O → Type 0) → (O → P → Type 0) → Word I O E → Word I P E
-  map_of Takes Gives g = map_meant Takes Gives g
+  map_of Takes Gives g = word (Mapped.map_by Takes Gives g.grammar)
 
   module _ {g h : Word I O E} where
-    pub map_worded : (Takes : O → Type 0) (Gives : O → P → Type 0) → g ≡ h → map_of Takes Gives g ≡ map_meant Takes Gives h
+    pub map_worded : (Takes : O → Type 0) (Gives : O → P → Type 0) → g ≡ h → map_of Takes Gives g ≡ word (Mapped.map_by Takes Gives h.grammar)
     unfolding map_of
-    map_worded Takes Gives p = ap (map_meant Takes Gives) p
+    map_worded Takes Gives p = ap (map_of Takes Gives) p
 
     pub map_same : {Takes Takes' : O → Type 0} {Gives Gives' : O → P → Type 0} → Takes ≡ Takes' → Gives ≡ Gives' → g ≡ h →
         map_of Takes Gives g ≡ map_of Takes' Gives' h
@@ -129,16 +108,14 @@ module _ {I O P E : Type 0} where
 
 -- outputs that a closure maps or refuses
 module _ {I O P E : Type 0} (errs : Errors I E) where
-  abbrev map_opt_meant : (O → Type 0) → (O → Option P → Type 0) → Word I O E → Word I P E
-  map_opt_meant Takes Gives g = word (Judged.map_opt_by errs Takes Gives g.grammar)
-
   pub map_opt_of : (O → Type 0) → (O → Option P → Type 0) → Word I O E → Word I P E
-  map_opt_of Takes Gives g = map_opt_meant Takes Gives g
+  map_opt_of Takes Gives g = word (Judged.map_opt_by errs Takes Gives g.grammar)
 
   module _ {g h : Word I O E} where
-    pub map_opt_worded : (Takes : O → Type 0) (Gives : O → Option P → Type 0) → g ≡ h → map_opt_of Takes Gives g ≡ map_opt_meant Takes Gives h
+    pub map_opt_worded : (Takes : O → Type 0) (Gives : O → Option P → Type 0) → g ≡ h → map_opt_of Takes Gives g ≡
+        word (Judged.map_opt_by errs Takes Gives h.grammar)
     unfolding map_opt_of
-    map_opt_worded Takes Gives p = ap (map_opt_meant Takes Gives) p
+    map_opt_worded Takes Gives p = ap (map_opt_of Takes Gives) p
 
     pub map_opt_same : {Takes Takes' : O → Type 0} {Gives Gives' : O → Option P → Type 0} → Takes ≡ Takes' → Gives ≡ Gives' → g ≡ h →
         map_opt_of Takes Gives g ≡ map_opt_of Takes' Gives' h
@@ -147,16 +124,14 @@ module _ {I O P E : Type 0} (errs : Errors I E) where
 
 -- outputs that a closure maps or refuses with an error
 module _ {I O P X E : Type 0} (externals : Externals I X E) where
-  abbrev map_res_meant : (O → Type 0) → (O → Result P X → Type 0) → Word I O E → Word I P E
-  map_res_meant Takes Gives g = word (Judged.map_res_by externals Takes Gives g.grammar)
-
   pub map_res_of : (O → Type 0) → (O → Result P X → Type 0) → Word I O E → Word I P E
-  map_res_of Takes Gives g = map_res_meant Takes Gives g
+  map_res_of Takes Gives g = word (Judged.map_res_by externals Takes Gives g.grammar)
 
   module _ {g h : Word I O E} where
-    pub map_res_worded : (Takes : O → Type 0) (Gives : O → Result P X → Type 0) → g ≡ h → map_res_of Takes Gives g ≡ map_res_meant Takes Gives h
+    pub map_res_worded : (Takes : O → Type 0) (Gives : O → Result P X → Type 0) → g ≡ h → map_res_of Takes Gives g ≡
+        word (Judged.map_res_by externals Takes Gives h.grammar)
     unfolding map_res_of
-    map_res_worded Takes Gives p = ap (map_res_meant Takes Gives) p
+    map_res_worded Takes Gives p = ap (map_res_of Takes Gives) p
 
     pub map_res_same : {Takes Takes' : O → Type 0} {Gives Gives' : O → Result P X → Type 0} → Takes ≡ Takes' → Gives ≡ Gives' → g ≡ h →
         map_res_of Takes Gives g ≡ map_res_of Takes' Gives' h
@@ -165,16 +140,13 @@ module _ {I O P X E : Type 0} (externals : Externals I X E) where
 
 -- outputs and errors that are converted
 module _ {I O P E F : Type 0} (Gives : O → P → Type 0) (Converts : E → F → Type 0) where
-  abbrev into_meant : Word I O E → Word I P F
-  into_meant g = word (Mapped.into_by Gives Converts g.grammar)
-
   pub into_of : Word I O E → Word I P F
-  into_of g = into_meant g
+  into_of g = word (Mapped.into_by Gives Converts g.grammar)
 
   module _ {g h : Word I O E} where
-    pub into_worded : g ≡ h → into_of g ≡ into_meant h
+    pub into_worded : g ≡ h → into_of g ≡ word (Mapped.into_by Gives Converts h.grammar)
     unfolding into_of
-    into_worded p = ap into_meant p
+    into_worded p = ap into_of p
 
     pub into_same : g ≡ h → into_of g ≡ into_of h
     into_same p = ap into_of p

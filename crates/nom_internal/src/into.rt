@@ -1,5 +1,5 @@
 //! A parser whose outputs and errors are converted.
-ghost use Rattle.nom_internal.specs.Closures.{SeesAlike};
+ghost use Rattle.nom_internal.specs.Closures.{SeesConsistently};
 ghost use Rattle.nom_internal.specs.Mapped.{into_by, ConvertsSome, ConvertsResult};
 ghost use Rattle.nom_internal.specs.laws.MappedLaws.{given_pinned, renamed_lawful, renamed_steady};
 ghost use Rattle.nom_internal.specs.Words as Words;
@@ -89,7 +89,7 @@ impl<
     O: From<F::Output> + Viewed + Drop,
     E: From<F::Error> + ParseError<I>,
 > StreamParser<I> for Into<F, O, E> {
-    ghost Pins = { λ p. F.Pins p.parser × SeesAlike F.Output.view O.view O.from_gives };
+    ghost Pins = { λ p. F.Pins p.parser × SeesConsistently F.Output.view O.view O.from_gives };
 
     ghost pinned = { λ p k h. given_pinned (F.pinned p.parser k h.0) h.1 };
 

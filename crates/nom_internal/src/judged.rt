@@ -2,7 +2,7 @@
 ghost use Rattle.std.specs.Prelude.{true, Some, Ok};
 ghost use Rattle.nom_error.specs.Answers.{Refuses};
 ghost use Rattle.nom_error.specs.Modes.{with_outputs};
-ghost use Rattle.nom_internal.specs.Closures.{SeesAlike};
+ghost use Rattle.nom_internal.specs.Closures.{SeesConsistently};
 ghost use Rattle.nom_internal.specs.Judged.{map_opt_by, map_res_by};
 ghost use Rattle.nom_internal.specs.Results.{JudgedSideCondition};
 ghost use Rattle.nom_internal.specs.laws.JudgedLaws.{judged_lawful, judged_steady};
@@ -73,7 +73,7 @@ impl<
     O: Viewed + Drop,
     G: Fn(A) -> Option<O>,
 > StreamParser<I> for MapOpt<F, G> {
-    ghost Pins = { λ p. F.Pins p.parser × SeesAlike A.view O.view (λ a o. G.post p.map a (Some o)) };
+    ghost Pins = { λ p. F.Pins p.parser × SeesConsistently A.view O.view (λ a o. G.post p.map a (Some o)) };
 
     ghost pinned = { λ p k h. given_pinned (F.pinned p.parser k.0 h.0) h.1 };
 
@@ -170,7 +170,7 @@ impl<
 where
     F::Error: FromExternalError<I, X>,
 {
-    ghost Pins = { λ p. F.Pins p.parser × SeesAlike A.view O.view (λ a o. G.post p.map a (Ok o)) };
+    ghost Pins = { λ p. F.Pins p.parser × SeesConsistently A.view O.view (λ a o. G.post p.map a (Ok o)) };
 
     ghost pinned = { λ p k h. given_pinned (F.pinned p.parser k.0 h.0) h.1 };
 

@@ -1,5 +1,5 @@
 //! A parser whose outputs a closure maps.
-ghost use Rattle.nom_internal.specs.Closures.{SeesAlike};
+ghost use Rattle.nom_internal.specs.Closures.{SeesConsistently};
 ghost use Rattle.nom_internal.specs.Mapped.{map_by};
 ghost use Rattle.nom_internal.specs.laws.MappedLaws.{given_pinned, map_lawful, map_steady};
 ghost use Rattle.nom_internal.specs.Words as Words;
@@ -61,7 +61,7 @@ impl<
     O: Viewed + Drop,
     G: Fn(A) -> O,
 > StreamParser<I> for Map<F, G> {
-    ghost Pins = { λ p. F.Pins p.parser × SeesAlike A.view O.view (G.post p.map) };
+    ghost Pins = { λ p. F.Pins p.parser × SeesConsistently A.view O.view (G.post p.map) };
 
     ghost pinned = { λ p k h. given_pinned (F.pinned p.parser k h.0) h.1 };
 

@@ -222,7 +222,7 @@ pub trait StreamParser<I: Items>: Parser<I, Output: Viewed> {
     /// The condition under which the outputs that a tree represents have equal views.
     ///
     /// It is that closures return results with equal views for arguments with equal views.
-    ghost Pins: { Self → Type 0 };
+    ghost Pins: { Self → Type 0 } = { λ _. Unit {0} };
 
     /// Does nothing. A parser is called through `Parser`.
     #[inline(always)]

@@ -12,6 +12,7 @@ ghost use Rattle.nom_internal.specs.Tuples.{tuple_of};
 ghost use Rattle.nom_internal.specs.Pinned.{pair_pinned};
 ghost use Rattle.nom_internal.specs.laws.TupleLaws.{built_lawful, pair_lawful, built_steady, pair_steady, flat_pinned, single_pinned};
 ghost use Rattle.nom_internal.specs.TupleWords as Words;
+ghost use Rattle.nom_internal.specs.Words.{pair_worded, tuple_worded};
 ghost use Rattle.nom_internal.specs.Words as Plain;
 
 use crate::built::built;
@@ -55,7 +56,7 @@ impl<I: Items, A: Parser<I>> Parser<I> for (A,) {
 
     ghost word = { λ s. Plain.tuple_of (λ o. o.0) (A.word s) };
 
-    ghost worded = { λ s. Plain.tuple_worded (λ o. o.0) (A.worded s) };
+    ghost worded = { λ s. tuple_worded (λ o. o.0) (A.worded s) };
 
     ghost SideCondition = { λ mode old new i. A.SideCondition (with_outputs true mode) old.0 new.0 i };
 
@@ -91,7 +92,7 @@ impl<I: Items, A: Parser<I>, B: Parser<I, Error = A::Error>> Parser<I> for (A, B
 
     ghost word = { λ s. Words.tuple_of_two I.model (A.word s.0) (B.word s.1) };
 
-    ghost worded = { λ s. Words.tuple_of_two_worded I.model (A.worded s.0) (B.worded s.1) };
+    ghost worded = { λ s. tuple_worded (λ o. (o.0, o.1)) (pair_worded I.model (A.worded s.0) (B.worded s.1)) };
 
     ghost SideCondition = { λ mode old new i. ThenSideCondition (A.SideCondition (with_outputs true mode) old.0 new.0 i) (B.SideCondition (with_outputs
         true mode) old.1
@@ -140,7 +141,7 @@ impl<I: Items, A: Parser<I>, B: Parser<I, Error = A::Error>, C: Parser<I, Error 
 
     ghost word = { λ s. Words.tuple_of_three I.model (A.word s.0) (B.word s.1) (C.word s.2) };
 
-    ghost worded = { λ s. Words.tuple_of_three_worded I.model (A.worded s.0) (B.worded s.1) (C.worded s.2) };
+    ghost worded = { λ s. tuple_worded (λ o. (o.0, (o.1, o.2))) (pair_worded I.model (A.worded s.0) (pair_worded I.model (B.worded s.1) (C.worded s.2))) };
 
     ghost SideCondition = { λ mode old new i. ThenSideCondition (A.SideCondition (with_outputs true mode) old.0 new.0 i) (λ j. ThenSideCondition
         (B.SideCondition (with_outputs
@@ -202,7 +203,7 @@ impl<
 
     ghost word = { λ s. Words.tuple_of_four I.model (A.word s.0) (B.word s.1) (C.word s.2) (D.word s.3) };
 
-    ghost worded = { λ s. Words.tuple_of_four_worded I.model (A.worded s.0) (B.worded s.1) (C.worded s.2) (D.worded s.3) };
+    ghost worded = { λ s. tuple_worded (λ o. (o.0, (o.1, (o.2, o.3)))) (pair_worded I.model (A.worded s.0) (pair_worded I.model (B.worded s.1) (pair_worded I.model (C.worded s.2) (D.worded s.3)))) };
 
     ghost SideCondition = { λ mode old new i. ThenSideCondition (A.SideCondition (with_outputs true mode) old.0 new.0 i) (λ j. ThenSideCondition
         (B.SideCondition (with_outputs

@@ -27,9 +27,10 @@ module _ (old new : Faults) where
   abbrev pub OneFault : Error → Type 0
   OneFault e = (new.count ≡ one_more old.count) × (new.last ≡ Some e)
 
-  -- a call gave this error: the interruption is passed over, or the call failed
+  -- a call gave this error: the interruption is passed over, or the call failed, and no other error is counted as an interruption
   abbrev pub CountsError : Error → Type 0
-  CountsError e = (IsPassed new e → NoFault × (new.interruptions ≡ old.interruptions + 1)) × ((IsPassed new e → ⊥) → OneFault e)
+  CountsError e = (IsPassed new e → NoFault × (new.interruptions ≡ old.interruptions + 1)) × ((IsPassed new e → ⊥) → OneFault e) ×
+      ((error_kind e ≡ Interrupted → ⊥) → new.interruptions ≡ old.interruptions)
 
   -- of one read
   abbrev pub CountsRead : {T : Type 0} → Result T Error → Type 0

@@ -67,7 +67,7 @@ impl Faults {
     }
 
     /// Counts a call that gave this error: it was interrupted, or it failed.
-    pub fn give(&mut self, error: io::Error)
+    pub fn count_error(&mut self, error: io::Error)
         ensures { CountsError self.old self.new error }
     {
         if is_interrupted(error) {

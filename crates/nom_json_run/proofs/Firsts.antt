@@ -1,11 +1,9 @@
 -- The first byte from a place on.
-use Rattle.std.specs.Prelude.{◌≡◌, ℕ, suc, ◌+◌, ◌-◌, ◌==◌, ◌<◌, ◌≤◌, Bool, true, false, if◌then◌else◌, List, [], ◌∷◌}
+use Rattle.std.specs.Prelude.{◌≡◌, ℕ, ◌+◌, ◌==◌, ◌<◌, ◌≤◌, Bool, true, false, if◌then◌else◌, List, [], ◌∷◌}
 use Rattle.std.specs.Prelude.{Option, None, Some, length, drop, slice_index, refl}
 use Rattle.std.proofs.Common.{arith, sym, ◌∙◌, ap, length-drop}
 use Rattle.std.proofs.lemmas.List.{drop_more, drop_all}
-use Rattle.nom_json_run.specs.Classes.{in_class}
-use Rattle.nom_json_run.specs.declared.class.Class.TheVariants.{Hex}
-use Rattle.nom_json_run.specs.Json.{after_all, after_hex, after_one, after_word, begins, first_is, rest}
+use Rattle.nom_json_run.specs.Json.{after_all, after_one, after_word, begins, first_is, rest}
 
 pub first_over : (test : ℕ → Bool) (bs : List ℕ) (i : ℕ) → length bs ≤ i → first_is test (drop i bs) ≡ false
 first_over test bs i h = ap (first_is test) (drop_all i bs h)
@@ -45,25 +43,6 @@ one_taken test bs i e = sym (ap (λ t. if t then rest (drop i bs) else drop i bs
 pub one_over : (test : ℕ → Bool) (xs : List ℕ) → first_is test xs ≡ false → xs ≡ after_one test xs
 one_over test xs e = sym (ap (λ t. if t then rest xs else xs) e)
 
-hex_count : (k : ℕ) → k < 4 → 4 - k ≡ suc (4 - (k + 1))
-hex_count k h = omega (arith, h)
-
-pub hex_step : (bs : List ℕ) (s k : ℕ) → k < 4 → first_is (in_class Hex) (drop (s + k) bs) ≡ true →
-    after_hex (4 - (k + 1)) (drop (s + (k + 1)) bs) ≡ after_hex (4 - k) (drop (s + k) bs)
-hex_step bs s k h e =
-    let p : (s + k) + 1 ≡ s + (k + 1) = omega arith in
-    sym (ap (λ m. after_hex m (drop (s + k) bs)) (hex_count k h) ∙ (taken (in_class Hex) bs (s + k) (after_hex (4 - (k + 1))) None e
-    ∙ ap (λ i. after_hex (4 - (k + 1)) (drop i bs)) p))
-
-pub hex_stop : (bs : List ℕ) (s k : ℕ) → k < 4 → first_is (in_class Hex) (drop (s + k) bs) ≡ false → after_hex (4 - k) (drop (s + k) bs) ≡ None
-hex_stop bs s k h e = ap (λ m. after_hex m (drop (s + k) bs)) (hex_count k h)
-    ∙ passed_over (after_hex (4 - (k + 1)) (rest (drop (s + k) bs))) None (first_is (in_class Hex) (drop (s + k) bs)) e
-
-pub hex_start : (bs : List ℕ) (s : ℕ) → after_hex 4 (drop (s + 0) bs) ≡ after_hex 4 (drop s bs)
-hex_start bs s =
-    let e : s + 0 ≡ s = omega arith in
-    ap (λ i. after_hex 4 (drop i bs)) e
-
 pub word_start : (w v bs : List ℕ) (s : ℕ) → w ≡ v → after_word w (drop (s + 0) bs) ≡ after_word v (drop s bs)
 word_start w v bs s f =
     let e : s + 0 ≡ s = omega arith in
@@ -83,6 +62,3 @@ word_stop w bs s k h e = ap (λ v. after_word v (drop (s + k) bs)) (drop_more w 
 
 pub word_end : (w bs : List ℕ) (s k : ℕ) → length w ≤ k → after_word (drop k w) (drop (s + k) bs) ≡ Some (drop (s + k) bs)
 word_end w bs s k h = ap (λ v. after_word v (drop (s + k) bs)) (drop_all k w h)
-
-pub hex_end : (bs : List ℕ) (s k : ℕ) → k ≡ 4 → after_hex (4 - k) (drop (s + k) bs) ≡ Some (drop (s + 4) bs)
-hex_end bs s k e = ap (λ n. after_hex (4 - n) (drop (s + n) bs)) e

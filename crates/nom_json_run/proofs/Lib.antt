@@ -2,7 +2,6 @@ pub mod Alike
 pub mod Firsts
 pub mod Listed
 pub mod Strings
-pub mod Texts
 pub mod Values
 pub mod Walks
 pub mod Wanted

@@ -6,8 +6,8 @@ use Rattle.nom_io.specs.Written.{Wrote, WroteFront}
 use Rattle.nom_io.proofs.Written.{wrote_none, wrote_then}
 use Rattle.nom_run.specs.declared.error.RunError.{RunError}
 use Rattle.nom_run.specs.declared.error.RunError.TheVariants as Error
-use Rattle.nom_run.specs.Runs.{Tells}
-use Rattle.nom_run.specs.Runs.Tells.{Whole, Cut, NoMemory}
+use Rattle.nom_run.specs.Runs.{WritesText}
+use Rattle.nom_run.specs.Runs.WritesText.{Whole, Cut, NoMemory}
 use Rattle.nom_stream.specs.declared.stream.Stop as Stops
 use Rattle.nom_stream.specs.declared.stream.Stop.TheVariants as Stop
 use Rattle.nom_stream.specs.declared.stream.Stream.{Stream}
@@ -36,15 +36,15 @@ module _ {R A : Type 0} {left : R → Option (List ℕ)} {s t u : Stream R A} {o
     lines = subst (CheckedLines left s (count + 1) u g.text) (sym w) (good g.lines d j);
     wrote = subst (Wrote old b) (ap (λ m. g.text ++ m) e ∙ append-nil g.text) (wrote_then g.wrote p);
   }
-  going_line n x then_ more d (inr (j, e, w)) p = record {
+  going_line n x then_ more d (inr (j, w)) p = record {
     text = g.text ++ more;
-    lines = subst (CheckedLines left s (count + 1) u (g.text ++ more)) (sym w) (bad g.lines d j e);
+    lines = subst (CheckedLines left s (count + 1) u (g.text ++ more)) (sym w) (bad g.lines d j);
     wrote = wrote_then g.wrote p;
   }
 
   -- what is answered where a line came, and where none did
   pub going_on : {b : Account} {Lacks : Type 0} (n x : ℕ) {then_ : Bool} → Decides left line_of t u (Ok (Some (n, x))) →
-      Tells (λ text next. IsLine (count + 1) x (last_of n u.held) text wrong next) a b Lacks (Ok then_) → Going left s u old b (count + 1) then_
+      WritesText (λ text next. IsLine (count + 1) x (last_of n u.held) text wrong next) a b Lacks (Ok then_) → Going left s u old b (count + 1) then_
   going_on {b} n x {then_} d (Whole text next e i w) =
       let is : next ≡ then_ = cc (e) in
       subst (Going left s u old b (count + 1)) is (going_line n x next text d i w)
@@ -56,7 +56,7 @@ module _ {R A : Type 0} {left : R → Option (List ℕ)} {s t u : Stream R A} {o
 
   module _ {b : Account} {Kept : Type 0} (kept : Kept → b ≡ a) where
     pub on_line : (n x : ℕ) {error : RunError} → Decides left line_of t u (Ok (Some (n, x))) →
-        Tells (λ text next. IsLine (count + 1) x (last_of n u.held) text wrong next) a b Kept (Err error) → ListsLines left s u old b (Err error)
+        WritesText (λ text next. IsLine (count + 1) x (last_of n u.held) text wrong next) a b Kept (Err error) → ListsLines left s u old b (Err error)
     on_line n x d (Whole text next e i w) = absurd (cc (e))
     on_line n x {error} d (Cut text next e i w) =
         let is : Error.Write ≡ error = cc (e) in
@@ -66,7 +66,7 @@ module _ {R A : Type 0} {left : R → Option (List ℕ)} {s t u : Stream R A} {o
         subst (λ z. ListsLines left s u old b (Err z)) is (count, t, wrong, still g (kept k), inr (inr (n, x, d)))
 
     pub on_stop : (why : Stops.Stop) {r : Result ℕ RunError} → Decides left line_of t u (Err why) →
-        ((why ≡ Stop.TooLong) × Tells (λ text status. (text ≡ long_line (count + 1)) × (status ≡ 3)) a b Kept r)
+        ((why ≡ Stop.TooLong) × WritesText (λ text status. (text ≡ long_line (count + 1)) × (status ≡ 3)) a b Kept r)
         ⊎ ((why ≡ Stop.OutOfMemory) × Kept × (r ≡ Err Error.OutOfMemory)) ⊎ (IsUnread why × Kept × (r ≡ Err Error.Read)) →
         ListsLines left s u old b r
     on_stop why d (inl (h, Whole text status e i w)) = subst (ListsLines left s u old b) (sym e) (record {

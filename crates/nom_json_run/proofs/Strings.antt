@@ -1,15 +1,13 @@
 -- Characters of strings, by their first byte.
-use Rattle.std.specs.Prelude.{◌≡◌, ℕ, ◌+◌, ◌==◌, ◌↔◌, Bool, true, false, if◌then◌else◌, List, [], ◌∷◌, Option, None, Some, drop, refl}
+use Rattle.std.specs.Prelude.{◌≡◌, ℕ, ◌+◌, ◌==◌, ◌↔◌, Bool, true, false, if◌then◌else◌, List, [], ◌∷◌, Some, drop, refl}
 use Rattle.std.proofs.Common.{arith, sym, ◌∙◌, ap, subst}
-use Rattle.nom_json_run.specs.Json.{JsonCharacters, after_all, after_escape, begins, first_is, rest}
+use Rattle.nom_json_run.specs.Json.{JsonCharacters, Leaves, after_all, after_escape, begins, first_is, rest}
 use Rattle.nom_json_run.specs.Json.JsonCharacters.{close, plain, escape}
 use Rattle.nom_json_run.specs.Classes.{in_class}
 use Rattle.nom_json_run.specs.declared.class.Class.TheVariants.{Plain}
 use Rattle.nom_json_run.specs.Scans.{EndsNowhere, EndsOnly}
+use Rattle.nom_json_run.proofs.Alike.{both}
 use Rattle.nom_json_run.proofs.Firsts.{rest_at}
-
-pub both : {A B C : Type 0} → (A ↔ B) → (B ↔ C) → A ↔ C
-both f g = (λ a. g.0 (f.0 a), λ c. f.1 (g.1 c))
 
 -- a byte is of one class alone
 no_quote : (xs : List ℕ) → first_is (in_class Plain) xs ≡ true → begins 34 xs ≡ true → ⊥
@@ -57,31 +55,24 @@ closes bs i p r = (
   λ e. close p (e ∙ sym (rest_at (λ b. b == 34) bs i p)),
 )
 
-same_some : (a b : List ℕ) (o : Option (List ℕ)) → o ≡ Some a → o ≡ Some b → a ≡ b
-same_some a b o e f = cc
+escape_from : (xs r : List ℕ) → begins 92 xs ≡ true → JsonCharacters xs r → (k : List ℕ) × (after_escape (rest xs) ≡ Some k) × JsonCharacters k r
+escape_from xs r p (close q e) = absurd (not_both xs q p)
+escape_from xs r p (plain q h) = absurd (no_backslash xs q p)
+escape_from xs r p (escape k q e h) = (k, e, h)
 
-escape_to : (xs k r : List ℕ) → begins 92 xs ≡ true → after_escape (rest xs) ≡ Some k → JsonCharacters xs r → JsonCharacters k r
-escape_to xs k r p f (close q e) = absurd (not_both xs q p)
-escape_to xs k r p f (plain q h) = absurd (no_backslash xs q p)
-escape_to xs k r p f (escape j q e h) = subst (λ ys. JsonCharacters ys r) (same_some j k (after_escape (rest xs)) e f) h
+-- past a backslash, what follows it stands there
+pub escape_there : (bs : List ℕ) (i : ℕ) → begins 92 (drop i bs) ≡ true → (r : List ℕ) →
+    JsonCharacters (drop i bs) r ↔ ((k : List ℕ) × (after_escape (drop (i + 1) bs) ≡ Some k) × JsonCharacters k r)
+escape_there bs i p r =
+    let e = rest_at (λ b. b == 92) bs i p in (
+      λ h. let f = escape_from (drop i bs) r p h in (f.0, ap after_escape (sym e) ∙ f.1, f.2),
+      λ f. escape f.0 p (ap after_escape e ∙ f.1) f.2,
+    )
 
--- past a backslash and what follows it
-pub escape_pass : (bs : List ℕ) (i : ℕ) (k : List ℕ) → begins 92 (drop i bs) ≡ true → after_escape (drop (i + 1) bs) ≡ Some k → (r : List ℕ) →
+pub escape_pass : (bs : List ℕ) (i : ℕ) (k : List ℕ) → begins 92 (drop i bs) ≡ true → EndsOnly (Leaves after_escape (drop (i + 1) bs)) k → (r : List ℕ) →
     JsonCharacters (drop i bs) r ↔ JsonCharacters k r
-escape_pass bs i k p f r =
-    let g : after_escape (rest (drop i bs)) ≡ Some k = ap after_escape (rest_at (λ b. b == 92) bs i p) ∙ f in
-    (λ h. escape_to (drop i bs) k r p g h, λ h. escape k p g h)
-
-none_some : (a : List ℕ) (o : Option (List ℕ)) → o ≡ Some a → o ≡ None → ⊥
-none_some a o e f = cc
-
-escape_none : (xs r : List ℕ) → begins 92 xs ≡ true → after_escape (rest xs) ≡ None → JsonCharacters xs r → ⊥
-escape_none xs r p f (close q e) = not_both xs q p
-escape_none xs r p f (plain q h) = no_backslash xs q p
-escape_none xs r p f (escape j q e h) = none_some j (after_escape (rest xs)) e f
-
-pub no_escape : (bs : List ℕ) (i : ℕ) → begins 92 (drop i bs) ≡ true → after_escape (drop (i + 1) bs) ≡ None → EndsNowhere (JsonCharacters (drop i bs))
-no_escape bs i p f r h = escape_none (drop i bs) r p (ap after_escape (rest_at (λ b. b == 92) bs i p) ∙ f) h
+escape_pass bs i k p only r =
+    both (escape_there bs i p r) (λ f. subst (λ xs. JsonCharacters xs r) ((only f.0).0 f.1) f.2, λ h. (k, (only k).1 refl, h))
 
 pub no_character : (xs : List ℕ) → first_is (in_class Plain) xs ≡ false → begins 34 xs ≡ false → begins 92 xs ≡ false → EndsNowhere (JsonCharacters xs)
 no_character xs p q s r (close e f) = differs (begins 34 xs) e q

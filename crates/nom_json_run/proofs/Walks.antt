@@ -1,16 +1,18 @@
 -- Steps through a text, by the brackets that lie open.
 use Rattle.std.specs.Prelude.{◌≡◌, ℕ, ◌+◌, ◌==◌, ◌<◌, ◌≤◌, ◌↔◌, true, false, List, [], ◌∷◌, length, drop, refl}
-use Rattle.std.proofs.Common.{arith, sym, ◌∙◌, ap, subst, inl, inr, length-drop}
+use Rattle.std.proofs.Common.{arith, sym, ap, subst, inl, inr, length-drop}
 use Rattle.nom_json_run.specs.Json.{JsonInside, JsonItem, JsonItems, JsonValue, after_spaces, begins, closing, opening, rest}
 use Rattle.nom_json_run.specs.Json.JsonValue.{brackets}
 use Rattle.nom_json_run.specs.Json.JsonInside.{nothing, some}
 use Rattle.nom_json_run.specs.Json.JsonItems.{last, more}
-use Rattle.nom_json_run.specs.Scans.{BeginsAs}
-use Rattle.nom_json_run.specs.Walk.{ClosesAll, ClosesAfter, ClosesInside, Further}
+use Rattle.nom_json_run.specs.Scans.{BeginsAs, EndsNowhere, FailsAt, FailsFor}
+use Rattle.nom_json_run.specs.Walk.{ClosesAll, ClosesAfter, ClosesInside, Further, IsKey, Stepped}
 use Rattle.nom_json_run.specs.declared.bracket.Bracket.{Bracket}
 use Rattle.nom_json_run.specs.declared.bracket.Bracket.TheVariants.{Array, Object}
-use Rattle.nom_json_run.proofs.Alike.{first_there}
-use Rattle.nom_json_run.proofs.Firsts.{rest_at}
+use Rattle.nom_json_run.specs.declared.bracket.Awaits.TheVariants.{Value}
+use Rattle.nom_json_run.specs.declared.bracket.Fault.{Fault}
+use Rattle.nom_json_run.specs.declared.bracket.Step.TheVariants.{Go}
+use Rattle.nom_json_run.proofs.Alike.{before, both, byte_passed, fails_map, first_there, for_all}
 use Rattle.nom_json_run.proofs.Values.{bracket_from, differ, item_none, one_head}
 
 opened_to : (o : Bracket) (inner : List Bracket) (i : List ℕ) → begins (opening o) i ≡ true → ClosesAfter (JsonValue i) inner →
@@ -25,14 +27,6 @@ opened o inner i j e s = (
   λ h. subst (ClosesInside o inner) (sym s) (opened_to o inner i e h),
   λ h. let g = subst (ClosesInside o inner) s h in (after_spaces g.0, brackets o g.0 e g.1 refl, g.2),
 )
-
--- the same of all bytes that begin so
-pub opened_in : (o : Bracket) (inner : List Bracket) (bytes : List ℕ) (at inside : ℕ) → at + 1 ≤ inside → begins (opening o) (drop at bytes) ≡ true →
-    ((bs : List ℕ) → BeginsAs bytes inside bs → drop inside bs ≡ after_spaces (drop (at + 1) bs)) → (bs : List ℕ) → BeginsAs bytes inside bs →
-    ClosesAfter (JsonValue (drop at bs)) inner ↔ ClosesInside o inner (drop inside bs)
-opened_in o inner bytes at inside le e follows bs s =
-    let there = first_there (λ b. b == opening o) bytes bs at inside true (omega (arith, le)) s e in
-    opened o inner (drop at bs) (drop inside bs) there (follows bs s ∙ ap after_spaces (sym (rest_at (λ b. b == opening o) bs at there)))
 
 items_none : (o : Bracket) (i j : List ℕ) → begins (closing o) i ≡ true → JsonItems o i j → ⊥
 items_none o i j e (last it) = item_none o i e j it
@@ -73,6 +67,15 @@ items_on o inner i n = (
   λ h. let c = h.2 in (rest c.0, some c.0 (items_from o i h.0 c.0 h.1 c.1) c.2 refl, c.3),
 )
 
+-- an item that follows the opening bracket
+pub item_opened : (o : Bracket) (inner : List Bracket) (bytes : List ℕ) (at item : ℕ) → at + 1 ≤ item → begins (opening o) (drop at bytes) ≡ true →
+    begins (closing o) (drop item bytes) ≡ false → ((bs : List ℕ) → BeginsAs bytes item bs → drop item bs ≡ after_spaces (drop (at + 1) bs)) →
+    (bs : List ℕ) → BeginsAs bytes item bs → ClosesAfter (JsonValue (drop at bs)) inner ↔ ClosesAfter (JsonItem o (drop item bs)) (o ∷ inner)
+item_opened o inner bytes at item le e none follows bs s =
+    let p = byte_passed (opening o) bytes at item le e follows bs s in
+    both (opened o inner (drop at bs) (drop item bs) p.0 p.1)
+    (items_on o inner (drop item bs) (first_there (λ b. b == closing o) bytes bs item item false (omega arith) s none))
+
 closing_to : (o : Bracket) (inner : List Bracket) (r j : List ℕ) → begins (closing o) r ≡ true → Further o r j → ClosesAll inner (after_spaces (rest j)) →
     ClosesAll inner (after_spaces (rest r))
 closing_to o inner r j e (inl p) c = subst (λ xs. ClosesAll inner (after_spaces (rest xs))) (sym p) c
@@ -104,13 +107,6 @@ comma_on o inner r i b s = (
   λ h. let c = h.2 in (c.0, inr (b, subst (λ xs. JsonItems o xs c.0) s (items_from o i h.0 c.0 h.1 c.1)), c.2, c.3),
 )
 
-pub comma_in : (o : Bracket) (inner : List Bracket) (bytes : List ℕ) (at item : ℕ) → at + 1 ≤ item → begins 44 (drop at bytes) ≡ true →
-    ((bs : List ℕ) → BeginsAs bytes item bs → drop item bs ≡ after_spaces (drop (at + 1) bs)) → (bs : List ℕ) → BeginsAs bytes item bs →
-    ClosesAll (o ∷ inner) (drop at bs) ↔ ClosesAfter (JsonItem o (drop item bs)) (o ∷ inner)
-comma_in o inner bytes at item le e follows bs s =
-    let there = first_there (λ b. b == 44) bytes bs at item true (omega (arith, le)) s e in
-    comma_on o inner (drop at bs) (drop item bs) there (follows bs s ∙ ap after_spaces (sym (rest_at (λ b. b == 44) bs at there)))
-
 neither_to : (o : Bracket) (r j : List ℕ) → begins (closing o) r ≡ false → begins 44 r ≡ false → Further o r j → begins (closing o) j ≡ true → ⊥
 neither_to o r j n m (inl p) e = differ (begins (closing o) r) (subst (λ xs. begins (closing o) xs ≡ true) (sym p) e) n
 neither_to o r j n m (inr f) e = differ (begins 44 r) f.0 m
@@ -123,8 +119,23 @@ pub key_on : (o : Bracket) (inner : List Bracket) (i k : List ℕ) → ((r : Lis
     ClosesAfter (JsonItem o i) inner ↔ ClosesAfter (JsonValue k) inner
 key_on o inner i k same = (λ h. (h.0, (same h.0).0 h.1, h.2), λ h. (h.0, (same h.0).1 h.1, h.2))
 
-pub no_key : (o : Bracket) (inner : List Bracket) (i : List ℕ) → ((r : List ℕ) → JsonItem o i r → ⊥) → ClosesAfter (JsonItem o i) inner → ⊥
-no_key o inner i none h = none h.0 h.1
+-- an item at a place, in a step from an earlier one
+pub item_goes : (bytes : List ℕ) (Before : List ℕ → Type 0) (o : Bracket) (inner lie : List Bracket) (at item stop : ℕ) → at < item → lie ≡ o ∷ inner →
+    ((bs : List ℕ) → BeginsAs bytes item bs → Before (drop at bs) ↔ ClosesAfter (JsonItem o (drop item bs)) (o ∷ inner)) → IsKey bytes o item stop →
+    Stepped bytes Before at lie (Go stop Value)
+item_goes bytes Before o inner lie at item stop less pushed same key = (
+  omega (arith, less, key.begins),
+  key.within,
+  λ bs s. subst (λ xs. Before (drop at bs) ↔ ClosesAfter (JsonValue (drop stop bs)) xs) (sym pushed)
+      (both (same bs (before bytes bs item stop key.begins s)) (key_on o (o ∷ inner) (drop item bs) (drop stop bs) (key.same bs s))),
+)
+
+pub item_stops : (bytes : List ℕ) (Before : List ℕ → Type 0) (o : Bracket) (inner : List Bracket) (at item : ℕ) (fault : Fault) → at ≤ item →
+    ((bs : List ℕ) → BeginsAs bytes item bs → Before (drop at bs) ↔ ClosesAfter (JsonItem o (drop item bs)) (o ∷ inner)) →
+    FailsAt bytes (λ i. EndsNowhere (JsonItem o i)) item fault → FailsFor bytes (λ i. Before i → ⊥) at fault
+item_stops bytes Before o inner at item fault le same failed = for_all bytes (λ i. Before i → ⊥) at fault
+    (fails_map bytes (λ i. EndsNowhere (JsonItem o i)) (λ i. Before i → ⊥) at item fault le
+    (λ bs s none b. let h = (same bs s).0 b in none h.0 h.1) failed)
 
 pub no_value : (inner : List Bracket) (i : List ℕ) → ((r : List ℕ) → JsonValue i r → ⊥) → ClosesAfter (JsonValue i) inner → ⊥
 no_value inner i none h = none h.0 h.1

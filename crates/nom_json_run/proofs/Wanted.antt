@@ -7,7 +7,7 @@ use Rattle.std.specs.Prelude.{◌⊎◌, ◌||◌, MatchResult, slice_index_or}
 use Rattle.std.specs.Borrow.{Bor}
 use Rattle.nom_report.specs.declared.value.Report.{Report}
 use Rattle.nom_report.specs.Around.{around}
-use Rattle.nom_report.specs.Kept.{Adds, Joins, Kept, just, kept}
+use Rattle.nom_report.specs.Kept.{AddsExpectation, Joins, Kept, just, kept}
 use Rattle.nom_report.specs.Left.{slice_place}
 use Rattle.nom_report.specs.Reports.{IsFurthest, IsInside, IsLabelled, Wants}
 use Rattle.nom_report.specs.Wanted.{Wanted, WantedChar, WantedKind, WantedLabel}
@@ -25,14 +25,14 @@ only : (a b : Wanted) (i : ℕ) → i < 1 → b ≡ slice_index_or (a ∷ []) i 
 only a b zero h e = e
 only a b (suc i) h e = absurd (omega (arith, h))
 
-added : (a b : Wanted) (m both c : Kept) → (b ≡ a → ⊥) → Adds (just a) b c → both ≡ c → m.wanted ≡ both.wanted → m.more ≡ both.more || false →
+added : (a b : Wanted) (m both c : Kept) → (b ≡ a → ⊥) → AddsExpectation (just a) b c → both ≡ c → m.wanted ≡ both.wanted → m.more ≡ both.more || false →
     m ≡ record { wanted = a ∷ b ∷ []; more = false }
-added a b m both c d (Adds.IsKnown among e) s w o = absurd (d (only a b among.0 among.1.0 among.1.1))
-added a b m both c d (Adds.HasRoom new room e) s w o =
+added a b m both c d (AddsExpectation.IsKnown among e) s w o = absurd (d (only a b among.0 among.1.0 among.1.1))
+added a b m both c d (AddsExpectation.HasRoom new room e) s w o =
     let make : List Wanted → Bool → Kept = λ xs y. record { wanted = xs; more = y } in
     let same = s ∙ e in
     ap (λ xs. make xs m.more) (w ∙ ap (λ k. k.wanted) same) ∙ ap (make (a ∷ b ∷ [])) (o ∙ ap (λ k. k.more || false) same)
-added a b m both c d (Adds.IsLeftOut new full e) s w o = absurd (omega (arith, full))
+added a b m both c d (AddsExpectation.IsLeftOut new full e) s w o = absurd (omega (arith, full))
 
 joined : (a b : Wanted) (k l m : Kept) → k ≡ just a → l ≡ just b → (b ≡ a → ⊥) → Joins k l m → m ≡ record { wanted = a ∷ b ∷ []; more = false }
 joined a b k l m p q d j =

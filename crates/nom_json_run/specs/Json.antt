@@ -5,6 +5,7 @@ use Rattle.std.specs.Prelude.{◌≡◌, ℕ, zero, suc, Bool, true, false, ◌=
 use Rattle.std.specs.Prelude.{codes, IsUtf8}
 use Rattle.nom_json_run.specs.declared.bracket.Bracket.{Bracket}
 use Rattle.nom_json_run.specs.declared.bracket.Bracket.TheVariants.{Array, Object}
+use Rattle.nom_json_run.specs.declared.class.Class.{Class}
 use Rattle.nom_json_run.specs.declared.class.Class.TheVariants.{Space, Digit, Hex, Minus, Sign, Mark, Plain, Letter}
 use Rattle.nom_json_run.specs.Classes.{in_class}
 
@@ -61,20 +62,24 @@ and_then None next = None
 and_then (Some bs) next = next bs
 
 -- number = '-'? integer fraction exponent
+abbrev pub after_unsigned : List ℕ → Option (List ℕ)
+after_unsigned bs = and_then (and_then (after_integer bs) after_fraction) after_exponent
+
 abbrev pub after_number : List ℕ → Option (List ℕ)
-after_number bs = and_then (and_then (after_integer (after_one (in_class Minus) bs)) after_fraction) after_exponent
+after_number bs = after_unsigned (after_one (in_class Minus) bs)
+
+-- what follows a byte of a class
+abbrev pub after_class : Class → List ℕ → Option (List ℕ)
+after_class class bs = if first_is (in_class class) bs then Some (rest bs) else None
 
 -- what follows that many digits in base 16
 abbrev pub after_hex : ℕ → List ℕ → Option (List ℕ)
 after_hex zero bs = Some bs
-after_hex (suc n) bs = if first_is (in_class Hex) bs then after_hex n (rest bs) else None
-
-abbrev pub after_letter : List ℕ → Option (List ℕ)
-after_letter bs = if first_is (in_class Letter) bs then Some (rest bs) else None
+after_hex (suc n) bs = and_then (after_hex n bs) (after_class Hex)
 
 -- escape = letter | 'u' hex hex hex hex, after a backslash
 abbrev pub after_escape : List ℕ → Option (List ℕ)
-after_escape bs = if begins 117 bs then after_hex 4 (rest bs) else after_letter bs
+after_escape bs = if begins 117 bs then after_hex 4 (rest bs) else after_class Letter bs
 
 -- the characters of a string, and the quote that closes it
 pub data JsonCharacters : (i r : List ℕ) → Type 0 where
@@ -82,12 +87,17 @@ pub data JsonCharacters : (i r : List ℕ) → Type 0 where
   plain : {i r : List ℕ} → first_is (in_class Plain) i ≡ true → JsonCharacters (rest i) r → JsonCharacters i r
   escape : {i r : List ℕ} (j : List ℕ) → begins 92 i ≡ true → after_escape (rest i) ≡ Some j → JsonCharacters j r → JsonCharacters i r
 
+-- what is left after a part
+abbrev pub Leaves : (List ℕ → Option (List ℕ)) → (i r : List ℕ) → Type 0
+Leaves after i r = after i ≡ Some r
+
+-- a part, and white space after it
+abbrev pub Spaced : (List ℕ → List ℕ → Type 0) → List ℕ → List ℕ → Type 0
+Spaced Part i r = (j : List ℕ) × Part i j × (r ≡ after_spaces j)
+
 -- string = '"' characters '"'
-pub record JsonString (i r : List ℕ) : Type 0 where
-  pub opens : begins 34 i ≡ true
-  pub after : List ℕ
-  pub characters : JsonCharacters (rest i) after
-  pub spaces : r ≡ after_spaces after
+abbrev pub JsonString : (i r : List ℕ) → Type 0
+JsonString i r = (begins 34 i ≡ true) × Spaced JsonCharacters (rest i) r
 
 -- Arrays and objects are the two kinds of brackets, with items between them.
 abbrev pub opening : Bracket → ℕ
@@ -101,10 +111,10 @@ closing Object = 125
 mutual
   -- value = "null" | "true" | "false" | number | string | '[' items? ']' | '{' items? '}'
   pub data JsonValue : (i r : List ℕ) → Type 0 where
-    null : {i r : List ℕ} (j : List ℕ) → after_word (codes "null") i ≡ Some j → r ≡ after_spaces j → JsonValue i r
-    truth : {i r : List ℕ} (j : List ℕ) → after_word (codes "true") i ≡ Some j → r ≡ after_spaces j → JsonValue i r
-    untruth : {i r : List ℕ} (j : List ℕ) → after_word (codes "false") i ≡ Some j → r ≡ after_spaces j → JsonValue i r
-    number : {i r : List ℕ} (j : List ℕ) → after_number i ≡ Some j → r ≡ after_spaces j → JsonValue i r
+    null : {i r : List ℕ} → Spaced (Leaves (after_word (codes "null"))) i r → JsonValue i r
+    truth : {i r : List ℕ} → Spaced (Leaves (after_word (codes "true"))) i r → JsonValue i r
+    untruth : {i r : List ℕ} → Spaced (Leaves (after_word (codes "false"))) i r → JsonValue i r
+    number : {i r : List ℕ} → Spaced (Leaves after_number) i r → JsonValue i r
     text : {i r : List ℕ} → JsonString i r → JsonValue i r
     brackets : {i r : List ℕ} (o : Bracket) (j : List ℕ) → begins (opening o) i ≡ true → JsonInside o (after_spaces (rest i)) j → r ≡ after_spaces j →
         JsonValue i r

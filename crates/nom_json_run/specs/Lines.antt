@@ -1,9 +1,8 @@
 -- JSON Lines: what is told of lines that come one after another.
-use Rattle.std.specs.Prelude.{◌≡◌, ℕ, ◌+◌, ◌-◌, ◌^◌, ◌==◌, ◌⊎◌, min, Bool, true, false, if◌then◌else◌, List, [], ◌++◌, take, count_by}
-use Rattle.std.specs.Prelude.{IsUtf8, Option, None, Some, Result, Ok, Err, codes}
+use Rattle.std.specs.Prelude.{◌≡◌, ℕ, ◌+◌, ◌-◌, ◌^◌, ◌==◌, ◌⊎◌, Bool, true, false, if◌then◌else◌, List, [], ◌++◌, take, count_by}
+use Rattle.std.specs.Prelude.{Option, None, Some, Result, Ok, Err, codes}
 use Rattle.std.specs.Fmt.{decimal}
 use Rattle.std.specs.List.{before_first}
-use Rattle.std.specs.Str.Lossy.{utf8_valid_len}
 use Rattle.nom_located.specs.Lines.{begins_character}
 use Rattle.nom_stream.specs.Lines.{line_of}
 use Rattle.nom_io.specs.Account.{Account}
@@ -15,10 +14,8 @@ use Rattle.nom_stream.specs.declared.stream.Stop.TheVariants as Stop
 use Rattle.nom_stream.specs.declared.stream.Stream.{Stream}
 use Rattle.nom_stream.specs.Held.{last_of}
 use Rattle.nom_stream.specs.Streams.{Decides}
-use Rattle.nom_json_run.specs.declared.bracket.Fault.{Fault}
 use Rattle.nom_json_run.specs.Json.{IsJson}
-use Rattle.nom_json_run.specs.Report.{IsOctetsReport, IsTextReport}
-use Rattle.nom_json_run.specs.Walk.{IsFault}
+use Rattle.nom_json_run.specs.Report.{IsFaultReport}
 
 -- the text for a line that is no JSON text: its number, a column in it, and what is wrong there
 abbrev pub fault_line : (number column : ℕ) (message : List ℕ) → List ℕ
@@ -32,25 +29,15 @@ long_line number = fault_line number 1 (codes "error: the line is longer than ma
 abbrev pub report_line : (number : ℕ) (before report : List ℕ) → List ℕ
 report_line number before report = fault_line number (1 + count_by begins_character before) (before_first (λ b. b == 10) report)
 
--- The text for a fault of a line with so many bytes before its end. What is missing behind the end is missing before it.
-abbrev pub IsFaultLine : (number inside : ℕ) (bytes : List ℕ) (fault : Fault) (text : List ℕ) → Type 0
-IsFaultLine number inside bytes fault text =
-    (report : List ℕ) × IsTextReport [] bytes fault report × (text ≡ report_line number (take (min fault.at inside) bytes) report)
-
--- the text for a line of which the bytes are no text from a place on
-abbrev pub IsOctetsLine : (number : ℕ) (bytes : List ℕ) (at : ℕ) (text : List ℕ) → Type 0
-IsOctetsLine number bytes at text = (report : List ℕ) × IsOctetsReport [] bytes at report × (text ≡ report_line number (take at bytes) report)
-
--- the text for a line: of the fault of the bytes; or of the first place from which on they are no text
+-- the text for a line with so many bytes before its end, which is no JSON text: what is missing behind the end is missing before it
 abbrev pub IsLineText : (number inside : ℕ) (bytes text : List ℕ) → Type 0
 IsLineText number inside bytes text =
-    (IsUtf8 bytes × ((fault : Fault) × IsFault bytes fault × IsFaultLine number inside bytes fault text)) ⊎
-    ((IsUtf8 bytes → ⊥) × IsOctetsLine number bytes (utf8_valid_len bytes) text)
+    (place : ℕ) × (report : List ℕ) × IsFaultReport [] bytes inside place report × (text ≡ report_line number (take place bytes) report)
 
 -- Of a line that is a JSON text nothing is told; of another its text. Whether any line was wrong, before and then.
 abbrev pub IsLine : (number inside : ℕ) (bytes text : List ℕ) (before then_ : Bool) → Type 0
 IsLine number inside bytes text before then_ =
-    (IsJson bytes × (text ≡ []) × (then_ ≡ before)) ⊎ ((IsJson bytes → ⊥) × IsLineText number inside bytes text × (then_ ≡ true))
+    (IsJson bytes × (text ≡ []) × (then_ ≡ before)) ⊎ (IsLineText number inside bytes text × (then_ ≡ true))
 
 -- no line comes, other than for a limit or for want of memory: so it is where a read failed
 abbrev pub IsUnread : Stops.Stop → Type 0
@@ -69,7 +56,7 @@ pub data CheckedLines {R A : Type 0} (left : R → Option (List ℕ)) (s : Strea
   good : {count : ℕ} {t u : Stream R A} {n x : ℕ} {text : List ℕ} {wrong : Bool} → CheckedLines left s count t text wrong →
       Decides left line_of t u (Ok (Some (n, x))) → IsJson (last_of n u.held) → CheckedLines left s (count + 1) u text wrong
   bad : {count : ℕ} {t u : Stream R A} {n x : ℕ} {text more : List ℕ} {wrong : Bool} → CheckedLines left s count t text wrong →
-      Decides left line_of t u (Ok (Some (n, x))) → (IsJson (last_of n u.held) → ⊥) → IsLineText (count + 1) x (last_of n u.held) more →
+      Decides left line_of t u (Ok (Some (n, x))) → IsLineText (count + 1) x (last_of n u.held) more →
       CheckedLines left s (count + 1) u (text ++ more) true
 
 module _ {R A : Type 0} (left : R → Option (List ℕ)) (s t : Stream R A) (a b : Account) where

@@ -1,5 +1,5 @@
 -- The report on a file.
-use Rattle.std.specs.Prelude.{◌≡◌, ℕ, ◌-◌, ◌^◌, ◌⊎◌, false, List, [], ◌∷◌, length, drop, codes, IsUtf8, Result, Ok}
+use Rattle.std.specs.Prelude.{◌≡◌, ℕ, ◌-◌, ◌^◌, ◌≤◌, ◌⊎◌, false, List, [], ◌∷◌, length, drop, min, codes, IsUtf8, Result, Ok}
 use Rattle.std.specs.Borrow.{Bor}
 use Rattle.std.specs.Str.Lossy.{utf8_valid_len}
 use Rattle.nom_report.specs.declared.value.Report.{Report}
@@ -65,16 +65,18 @@ pub record IsOctetsReport (name bytes : List ℕ) (at : ℕ) (text : List ℕ) :
   pub wants : Wanting place (WantedLabel (codes "a character in UTF-8") ∷ []) error
   pub text_is : text ≡ octets_report name source error
 
--- the report on the fault of the bytes; or on the first place from which on they are no text
-abbrev pub IsFaultReport : (name bytes text : List ℕ) → Type 0
-IsFaultReport name bytes text =
-    (IsUtf8 bytes × ((fault : Fault) × IsFault bytes fault × IsTextReport name bytes fault text)) ⊎
-    ((IsUtf8 bytes → ⊥) × IsOctetsReport name bytes (utf8_valid_len bytes) text)
+-- The report on the fault of the bytes, or on the first place from which on they are no text; and its place, which is within the bytes.
+-- Of a fault behind `inside` that is the place.
+abbrev pub IsFaultReport : (name bytes : List ℕ) (inside place : ℕ) (text : List ℕ) → Type 0
+IsFaultReport name bytes inside place text = (IsJson bytes → ⊥) × (place ≤ length bytes) ×
+    ((IsUtf8 bytes × ((fault : Fault) × IsFault bytes fault × (place ≡ min fault.at inside) × IsTextReport name bytes fault text)) ⊎
+    ((IsUtf8 bytes → ⊥) × (place ≡ utf8_valid_len bytes) × IsOctetsReport name bytes place text))
 
 -- nothing is told of a JSON text, with status 0; of all else there is a report, with status 1
-abbrev pub IsTold : (name bytes text : List ℕ) → (status : ℕ) → Type 0
-IsTold name bytes text status = (IsJson bytes × (text ≡ []) × (status ≡ 0)) ⊎ ((IsJson bytes → ⊥) × (status ≡ 1) × IsFaultReport name bytes text)
+abbrev pub IsNamedReport : (name bytes text : List ℕ) → (status : ℕ) → Type 0
+IsNamedReport name bytes text status =
+    (IsJson bytes × (text ≡ []) × (status ≡ 0)) ⊎ ((status ≡ 1) × ((place : ℕ) × IsFaultReport name bytes (length bytes) place text))
 
 -- the same, in whichever parts the bytes come
 abbrev pub IsReport : (bytes cuts text : List ℕ) → (status : ℕ) → Type 0
-IsReport bytes cuts text status = (name : List ℕ) × IsTold name bytes text status
+IsReport bytes cuts text status = (name : List ℕ) × IsNamedReport name bytes text status

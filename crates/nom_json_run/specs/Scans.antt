@@ -1,5 +1,5 @@
 -- Where something ends that begins at a place of some bytes, and where it fails.
-use Rattle.std.specs.Prelude.{◌≡◌, ℕ, ◌+◌, ◌<◌, ◌≤◌, ◌↔◌, List, Option, None, Some, length, take, drop}
+use Rattle.std.specs.Prelude.{◌≡◌, ℕ, ◌+◌, ◌≤◌, ◌↔◌, List, None, Result, Ok, Err, length, take, drop}
 use Rattle.nom_json_run.specs.declared.bracket.Fault.{Fault}
 use Rattle.nom_json_run.specs.declared.bracket.Missing as Part
 use Rattle.nom_json_run.specs.declared.bracket.Missing.TheVariants as Missing
@@ -17,15 +17,9 @@ EndsNowhere Ends = (r : List ℕ) → Ends r → ⊥
 abbrev pub BeginsAs : (bytes : List ℕ) (at : ℕ) (bs : List ℕ) → Type 0
 BeginsAs bytes at bs = take (at + 1) bs ≡ take (at + 1) bytes
 
--- What follows a part that begins at `start` begins at `stop`. So it is in all bytes that begin so.
-pub record LeadsTo (bytes : List ℕ) (after : List ℕ → Option (List ℕ)) (start stop : ℕ) : Type 0 where
+-- A part that begins at `start` ends at `stop`, and nowhere else. So it is in all bytes that begin so.
+pub record EndsAt (bytes : List ℕ) (Ends : List ℕ → List ℕ → Type 0) (start stop : ℕ) : Type 0 where
   pub begins : start ≤ stop
-  pub within : stop ≤ length bytes
-  pub follows : (bs : List ℕ) → BeginsAs bytes stop bs → after (drop start bs) ≡ Some (drop stop bs)
-
--- a part of one byte at least, which begins at `start`, ends at `stop`, and nowhere else
-pub record EndsAtStop (bytes : List ℕ) (Ends : List ℕ → List ℕ → Type 0) (start stop : ℕ) : Type 0 where
-  pub begins : start < stop
   pub within : stop ≤ length bytes
   pub ends : (bs : List ℕ) → BeginsAs bytes stop bs → EndsOnly (Ends (drop start bs)) (drop stop bs)
 
@@ -50,3 +44,13 @@ pub record FailsFor (bytes : List ℕ) (Fails : List ℕ → Type 0) (start : �
   pub within : fault.at ≤ length bytes
   pub here : Fails (drop start bytes)
   pub fails : (bs : List ℕ) → BeginsAs bytes fault.at bs → IsMissing fault.missing (drop fault.at bs) → Fails (drop start bs)
+
+-- where a part ends that begins at `start`, or why none does
+abbrev pub Scans : (bytes : List ℕ) (Ends : List ℕ → List ℕ → Type 0) (start : ℕ) → Result ℕ Fault → Type 0
+Scans bytes Ends start (Ok stop) = EndsAt bytes Ends start stop
+Scans bytes Ends start (Err fault) = FailsAt bytes (λ i. EndsNowhere (Ends i)) start fault
+
+-- the same, as long as what is missing is missing there
+abbrev pub ScansFor : (bytes : List ℕ) (Ends : List ℕ → List ℕ → Type 0) (start : ℕ) → Result ℕ Fault → Type 0
+ScansFor bytes Ends start (Ok stop) = EndsAt bytes Ends start stop
+ScansFor bytes Ends start (Err fault) = FailsFor bytes (λ i. EndsNowhere (Ends i)) start fault

@@ -1,5 +1,5 @@
 -- The rest of a JSON text at a place within it, by the brackets that lie open there, the innermost first.
-use Rattle.std.specs.Prelude.{◌≡◌, ℕ, ◌<◌, ◌≤◌, ◌⊎◌, ◌↔◌, true, List, [], ◌∷◌, Option, MatchOption, length, drop, codes}
+use Rattle.std.specs.Prelude.{◌≡◌, ℕ, ◌<◌, ◌≤◌, ◌==◌, ◌||◌, ◌⊎◌, ◌↔◌, Bool, true, List, [], ◌∷◌, Option, MatchOption, length, drop, codes}
 use Rattle.nom_json_run.specs.Json.{JsonInside, JsonItem, JsonItems, JsonValue, after_spaces, begins, closing, rest, IsValue}
 use Rattle.nom_json_run.specs.Scans.{BeginsAs, FailsFor, IsMissing}
 use Rattle.nom_json_run.specs.declared.bracket.Bracket.{Bracket}
@@ -42,6 +42,10 @@ pub record IsKey (bytes : List ℕ) (o : Bracket) (at stop : ℕ) : Type 0 where
   pub begins : at ≤ stop
   pub within : stop ≤ length bytes
   pub same : (bs : List ℕ) → BeginsAs bytes stop bs → (r : List ℕ) → JsonItem o (drop at bs) r ↔ JsonValue (drop stop bs) r
+
+-- the first characters of values that are no number
+abbrev pub is_mark : ℕ → Bool
+is_mark b = b == 34 || b == 91 || b == 102 || b == 110 || b == 116 || b == 123
 
 -- the first character of a word stands at the place
 pub data IsWordAt (word i : List ℕ) : Type 0 where

@@ -1,10 +1,10 @@
 //! The check whether bytes are a JSON text.
 //!
 //! The open brackets are kept in a list. No nesting is too deep.
-ghost use Rattle.std.specs.Prelude.{◌≡◌, ◌≤◌, ◌∷◌, [], ◌⊎◌, IfOk, IfErr, MatchOption, OnErr, false, true, length, drop, reverse, vec_capacity, vec_len};
-ghost use Rattle.nom_json_run.specs.Json.{JsonItem, JsonString, JsonValue, begins, closing, opening};
-ghost use Rattle.nom_json_run.specs.Scans.{EndsAtStop, EndsNowhere, FailsAt, FailsFor};
-ghost use Rattle.nom_json_run.specs.Walk.{ClosesAll, ClosesAfter, FinishesText, IsKey, IsWordAt, IsVerdict, Stepped};
+ghost use Rattle.std.specs.Prelude.{◌≡◌, ◌≤◌, ◌∷◌, ◌<◌, [], IfOk, IfErr, MatchOption, OnErr, false, true, length, drop, reverse, vec_capacity, vec_len};
+ghost use Rattle.nom_json_run.specs.Json.{JsonItem, JsonString, JsonValue, begins, closing, first_is, opening};
+ghost use Rattle.nom_json_run.specs.Scans.{EndsNowhere, FailsAt, Scans, ScansFor};
+ghost use Rattle.nom_json_run.specs.Walk.{ClosesAll, ClosesAfter, FinishesText, IsKey, IsWordAt, IsVerdict, Stepped, is_mark};
 
 use crate::bracket::{Awaits, Bracket, Fault, Missing, Step};
 use crate::scan::{byte_is, number, spaces, string, word};
@@ -48,8 +48,8 @@ fn pop<A: Allocator>(open: &mut Vec<Bracket, A>) -> Option<Bracket>
 #[inline(always)]
 fn quoted(bytes: &[u8], at: usize) -> Result<usize, Fault>
     requires { begins 34 (drop at bytes.now) ≡ true }
-    ensures ok { IfOk result (λ n. EndsAtStop bytes.now JsonString at n) }
-    ensures err { IfErr result (FailsAt bytes.now (λ i. EndsNowhere (JsonString i)) at) }
+    ensures some { IfOk result (λ n. at < n) }
+    ensures scans { Scans bytes.now JsonString at result }
 {
     match string(bytes, at + 1) {
         Ok(stop) => Ok(spaces(bytes, stop)),
@@ -61,8 +61,8 @@ fn quoted(bytes: &[u8], at: usize) -> Result<usize, Fault>
 #[inline(always)]
 fn named(bytes: &[u8], at: usize, wanted: &'static str) -> Result<usize, Fault>
     requires { IsWordAt wanted.now (drop at bytes.now) }
-    ensures ok { IfOk result (λ n. EndsAtStop bytes.now JsonValue at n) }
-    ensures err { IfErr result (FailsFor bytes.now (λ i. EndsNowhere (JsonValue i)) at) }
+    ensures some { IfOk result (λ n. at < n) }
+    ensures scans { ScansFor bytes.now JsonValue at result }
 {
     match word(bytes, at, wanted) {
         Ok(stop) => Ok(spaces(bytes, stop)),
@@ -88,14 +88,9 @@ fn value_fault(at: usize, fault: Fault) -> Fault
 #[inline(always)]
 fn numeric(bytes: &[u8], at: usize) -> Result<usize, Fault>
     requires within { at ≤ length bytes.now }
-    requires array { begins 91 (drop at bytes.now) ≡ false }
-    requires object { begins 123 (drop at bytes.now) ≡ false }
-    requires quote { begins 34 (drop at bytes.now) ≡ false }
-    requires truth { begins 116 (drop at bytes.now) ≡ false }
-    requires untruth { begins 102 (drop at bytes.now) ≡ false }
-    requires nothing { begins 110 (drop at bytes.now) ≡ false }
-    ensures ok { IfOk result (λ n. EndsAtStop bytes.now JsonValue at n) }
-    ensures err { IfErr result (FailsFor bytes.now (λ i. EndsNowhere (JsonValue i)) at) }
+    requires other { first_is is_mark (drop at bytes.now) ≡ false }
+    ensures some { IfOk result (λ n. at < n) }
+    ensures scans { ScansFor bytes.now JsonValue at result }
 {
     match number(bytes, at) {
         Ok(stop) => Ok(spaces(bytes, stop)),
@@ -109,8 +104,8 @@ fn scalar(bytes: &[u8], at: usize) -> Result<usize, Fault>
     requires within { at ≤ length bytes.now }
     requires array { begins 91 (drop at bytes.now) ≡ false }
     requires object { begins 123 (drop at bytes.now) ≡ false }
-    ensures ok { IfOk result (λ n. EndsAtStop bytes.now JsonValue at n) }
-    ensures err { IfErr result (FailsFor bytes.now (λ i. EndsNowhere (JsonValue i)) at) }
+    ensures some { IfOk result (λ n. at < n) }
+    ensures scans { ScansFor bytes.now JsonValue at result }
 {
     if byte_is(bytes, at, b'"') {
         return quoted(bytes, at);
@@ -183,10 +178,7 @@ fn open_step<A: Allocator>(
     if byte_is(bytes, inside, closing_byte(bracket)) {
         return Ok(Step::Go(spaces(bytes, inside + 1), Awaits::After));
     }
-    match push(open, bracket) {
-        Ok(()) => {}
-        Err(error) => return Err(error),
-    }
+    push(open, bracket)?;
     match key(bytes, inside, bracket) {
         Ok(stop) => Ok(Step::Go(stop, Awaits::Value)),
         Err(fault) => Ok(Step::Stop(fault)),
@@ -235,10 +227,7 @@ fn inner_step<A: Allocator>(
             missing: Missing::Comma(bracket),
         }));
     }
-    match push(open, bracket) {
-        Ok(()) => {}
-        Err(error) => return Err(error),
-    }
+    push(open, bracket)?;
     let item = spaces(bytes, at + 1);
     match key(bytes, item, bracket) {
         Ok(stop) => Ok(Step::Go(stop, Awaits::Value)),
@@ -298,16 +287,13 @@ pub fn verdict<A: Allocator>(alloc: A, bytes: &[u8]) -> Result<Option<Fault>, Ou
     let mut at = spaces(bytes, 0);
     let mut awaits = Awaits::Value;
     'steps: loop {
-        match step(bytes, at, awaits, &mut open) {
-            Ok(done) => match done {
-                Step::Go(stop, next) => {
-                    at = stop;
-                    awaits = next;
-                }
-                Step::Stop(fault) => return Ok(Some(fault)),
-                Step::Done => return Ok(None),
-            },
-            Err(error) => return Err(error),
+        match step(bytes, at, awaits, &mut open)? {
+            Step::Go(stop, next) => {
+                at = stop;
+                awaits = next;
+            }
+            Step::Stop(fault) => return Ok(Some(fault)),
+            Step::Done => return Ok(None),
         }
     }
 }

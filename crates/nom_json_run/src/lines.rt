@@ -2,15 +2,12 @@
 ghost use Rattle.std.specs.Prelude.{◌≡◌, ◌++◌, ◌≤◌, ◌<◌, ◌^◌, ◌==◌, ◌⊎◌, ⊤, Option, if◌then◌else◌, Err, IfOk, count_by, length, string_bytes};
 ghost use Rattle.std.specs.List.{before_first};
 ghost use Rattle.nom_located.specs.Lines.{begins_character};
-ghost use Rattle.nom_run.specs.Runs.{Tells};
-ghost use Rattle.nom_json_run.specs.Lines.{IsFaultLine, IsLine, IsOctetsLine, IsUnread, ListsLines, fault_line, long_line};
+ghost use Rattle.nom_run.specs.Runs.{WritesText};
+ghost use Rattle.nom_json_run.specs.Lines.{IsLine, IsUnread, ListsLines, fault_line, long_line};
 
-use crate::bracket::Fault;
-use crate::check::verdict;
-use crate::report::{error_of, named};
+use crate::report::fault_report;
 use nom_error::answer::OutOfMemory;
 use nom_io::stream::Sink;
-use nom_report::{Placed, render_bytes, render_from};
 use nom_run::error::RunError;
 use nom_run::run::write_all;
 use nom_stream::lines::Lines;
@@ -18,20 +15,6 @@ use nom_stream::stream::{Stop, Stream};
 use std::alloc::Allocator;
 use std::fmt::Write;
 use std::io::Read;
-use std::str;
-
-// Adds the text for a line.
-fn add_line<A: Allocator + Copy>(
-    text: &mut String<A>,
-    number: u64,
-    column: usize,
-    message: &str,
-) -> Result<(), OutOfMemory>
-    ensures { IfOk result (λ _. string_bytes text.new ≡ string_bytes text.old ++ fault_line number column message.now) }
-{
-    write!(text, "{number}:{column}: {message}\n")?;
-    Ok(())
-}
 
 // The text for a line.
 fn line_text<A: Allocator + Copy>(
@@ -43,7 +26,7 @@ fn line_text<A: Allocator + Copy>(
     ensures { IfOk result (λ t. string_bytes t ≡ fault_line number column message.now) }
 {
     let mut text = String::new(alloc);
-    add_line(&mut text, number, column, message)?;
+    write!(text, "{number}:{column}: {message}\n")?;
     Ok(text)
 }
 
@@ -65,57 +48,8 @@ fn characters(bytes: &[u8]) -> usize
     bytes.iter().filter(|b| **b < 128 || 192 <= **b).count()
 }
 
-// The text for a line that is no JSON text, by its fault. So many bytes stand before its end. Columns count characters, from 1 on.
-fn fault_text<A: Allocator + Copy>(
-    alloc: A,
-    number: u64,
-    inside: usize,
-    line: &str,
-    fault: Fault,
-) -> Result<String<A>, OutOfMemory>
-    requires { fault.at ≤ length line.now }
-    ensures { IfOk result (λ t. IsFaultLine number inside line.now fault (string_bytes t)) }
-{
-    let bytes = line.as_bytes();
-    let error = match error_of(bytes, fault) {
-        Ok(error) => error,
-        Err(error) => return Err(error),
-    };
-    let mut out = String::new(alloc);
-    match render_from("", line, bytes.place(), &error, &mut out) {
-        Ok(()) => {}
-        Err(error) => return Err(error),
-    }
-    // (the end of a line is white space, and what is missing is missing before it)
-    let at = fault.at.min(inside);
-    let column = 1 + characters(&bytes[..at]);
-    line_text(alloc, number, column, first_line(out.as_str()))
-}
-
-// The text for a line whose bytes are no text from a place on.
-fn bytes_text<A: Allocator + Copy>(
-    alloc: A,
-    number: u64,
-    line: &[u8],
-    at: usize,
-) -> Result<String<A>, OutOfMemory>
-    requires { at ≤ length line.now }
-    ensures { IfOk result (λ t. IsOctetsLine number line.now at (string_bytes t)) }
-{
-    let error = match named(&line[at..], "a character in UTF-8") {
-        Ok(error) => error,
-        Err(error) => return Err(error),
-    };
-    let mut out = String::new(alloc);
-    match render_bytes("", line, &error, &mut out) {
-        Ok(()) => {}
-        Err(error) => return Err(error),
-    }
-    let column = 1 + characters(&line[..at]);
-    line_text(alloc, number, column, first_line(out.as_str()))
-}
-
-// What is told of a line, and whether a line was wrong, before or now.
+// What is told of a line, and whether a line was wrong, before or now. So many bytes stand before the end of the line, which is
+// white space: what is missing is missing before it. Columns count characters, from 1 on.
 fn told<A: Allocator + Copy>(
     alloc: A,
     number: u64,
@@ -125,19 +59,14 @@ fn told<A: Allocator + Copy>(
 ) -> Result<(String<A>, bool), OutOfMemory>
     ensures { IfOk result (λ r. IsLine number inside line.now (string_bytes r.0) wrong r.1) }
 {
-    match str::from_utf8(line) {
-        Ok(text) => match verdict(alloc, text.as_bytes()) {
-            Ok(None) => Ok((String::new(alloc), wrong)),
-            Ok(Some(fault)) => match fault_text(alloc, number, inside, text, fault) {
-                Ok(text) => Ok((text, true)),
-                Err(error) => Err(error),
-            },
-            Err(error) => Err(error),
-        },
-        Err(error) => match bytes_text(alloc, number, line, error.valid_up_to()) {
-            Ok(text) => Ok((text, true)),
-            Err(error) => Err(error),
-        },
+    match fault_report(alloc, "", line, inside) {
+        Ok(None) => Ok((String::new(alloc), wrong)),
+        Ok(Some((report, at))) => {
+            let column = 1 + characters(&line[..at]);
+            let text = line_text(alloc, number, column, first_line(report.as_str()))?;
+            Ok((text, true))
+        }
+        Err(error) => Err(error),
     }
 }
 
@@ -150,27 +79,26 @@ fn list<A: Allocator + Copy, W: Sink>(
     line: &[u8],
     wrong: bool,
 ) -> Result<bool, RunError>
-    ensures { Tells (λ text then_. IsLine number inside line.now text wrong then_) (W.account sink.old) (W.account sink.new)
+    ensures { WritesText (λ text then_. IsLine number inside line.now text wrong then_) (W.account sink.old) (W.account sink.new)
         (sink.new ≡ sink.old) result }
 {
-    let found = match told(alloc, number, inside, line, wrong) {
+    let (text, next) = match told(alloc, number, inside, line, wrong) {
         Ok(found) => found,
         Err(_) => return Err(RunError::OutOfMemory),
     };
-    let (text, next) = found;
     match write_all(sink, text.as_bytes()) {
         Ok(()) => Ok(next),
         Err(error) => Err(error),
     }
 }
 
-// Tells that a line is longer than may be held.
+// WritesText that a line is longer than may be held.
 fn tell_too_long<A: Allocator + Copy, W: Sink>(
     alloc: A,
     sink: &mut W,
     number: u64,
 ) -> Result<u8, RunError>
-    ensures { Tells (λ text status. (text ≡ long_line number) × (status ≡ 3)) (W.account sink.old) (W.account sink.new)
+    ensures { WritesText (λ text status. (text ≡ long_line number) × (status ≡ 3)) (W.account sink.old) (W.account sink.new)
         (sink.new ≡ sink.old) result }
 {
     let text = match line_text(
@@ -195,7 +123,7 @@ fn stopped<A: Allocator + Copy, W: Sink>(
     number: u64,
     why: Stop,
 ) -> Result<u8, RunError>
-    ensures { ((why ≡ Stop.TooLong) × Tells (λ text status. (text ≡ long_line number) × (status ≡ 3)) (W.account sink.old) (W.account sink.new)
+    ensures { ((why ≡ Stop.TooLong) × WritesText (λ text status. (text ≡ long_line number) × (status ≡ 3)) (W.account sink.old) (W.account sink.new)
         (sink.new ≡ sink.old) result)
         ⊎ ((why ≡ Stop.OutOfMemory) × (sink.new ≡ sink.old) × (result ≡ Err RunError.OutOfMemory))
         ⊎ (IsUnread why × (sink.new ≡ sink.old) × (result ≡ Err RunError.Read)) }

@@ -1,8 +1,9 @@
 //! The report on a file.
-ghost use Rattle.std.specs.Prelude.{◌≡◌, ◌≤◌, ◌∷◌, [], IfOk, length, string_bytes};
+ghost use Rattle.std.specs.Prelude.{◌≡◌, ◌≤◌, ◌∷◌, [], IfOk, MatchOption, length, string_bytes};
 ghost use Rattle.nom_report.specs.Wanted.{WantedChar, WantedLabel};
 ghost use Rattle.nom_json_run.specs.Json as Json;
-ghost use Rattle.nom_json_run.specs.Report.{IsOctetsReport, IsReport, IsTextReport, IsTold, JoinsOf, TellsFault, Wanting};
+ghost use Rattle.nom_json_run.specs.Json.{IsJson};
+ghost use Rattle.nom_json_run.specs.Report.{IsFaultReport, IsOctetsReport, IsReport, IsTextReport, IsNamedReport, JoinsOf, TellsFault, Wanting};
 
 use crate::bracket::{Bracket, Fault, Missing};
 use crate::check::verdict;
@@ -23,10 +24,8 @@ type Error<'a> = nom_report::Report<&'a [u8]>;
 pub(crate) fn named<'a>(place: &'a [u8], name: &'static str) -> Result<Error<'a>, OutOfMemory>
     ensures { IfOk result (Wanting place.entry (WantedLabel name.now ∷ [])) }
 {
-    match nom_report::Report::from_error_kind(place, ErrorKind::Fail) {
-        Ok(error) => nom_report::Report::add_context(place, name, error),
-        Err(error) => Err(error),
-    }
+    let error = nom_report::Report::from_error_kind(place, ErrorKind::Fail)?;
+    nom_report::Report::add_context(place, name, error)
 }
 
 fn either<'a>(
@@ -35,13 +34,9 @@ fn either<'a>(
 ) -> Result<Error<'a>, OutOfMemory>
     ensures { IfOk result (JoinsOf first.entry second.entry) }
 {
-    match first {
-        Ok(first) => match second {
-            Ok(second) => first.or(second),
-            Err(error) => Err(error),
-        },
-        Err(error) => Err(error),
-    }
+    let first = first?;
+    let second = second?;
+    first.or(second)
 }
 
 fn character<'a>(place: &'a [u8], wanted: char) -> Result<Error<'a>, OutOfMemory>
@@ -110,46 +105,63 @@ pub(crate) fn error_of<'a>(bytes: &'a [u8], fault: Fault) -> Result<Error<'a>, O
     }
 }
 
-// The text and the status for a fault in a text.
+// The report on a fault in a text.
 fn tell_fault<A: Allocator + Copy>(
     alloc: A,
     name: &str,
     text: &str,
     fault: Fault,
-) -> Result<(String<A>, u8), OutOfMemory>
+) -> Result<String<A>, OutOfMemory>
     requires { fault.at ≤ length text.now }
-    ensures { IfOk result (λ r. (r.1 ≡ 1) × IsTextReport name.now text.now fault (string_bytes r.0)) }
+    ensures { IfOk result (λ t. IsTextReport name.now text.now fault (string_bytes t)) }
 {
     let bytes = text.as_bytes();
-    let error = match error_of(bytes, fault) {
-        Ok(error) => error,
-        Err(error) => return Err(error),
-    };
+    let error = error_of(bytes, fault)?;
     let mut out = String::new(alloc);
-    match render_from(name, text, bytes.place(), &error, &mut out) {
-        Ok(()) => Ok((out, 1)),
-        Err(error) => Err(error),
-    }
+    render_from(name, text, bytes.place(), &error, &mut out)?;
+    Ok(out)
 }
 
-// The text and the status for bytes that are no text from a place on.
+// The report on bytes that are no text from a place on.
 fn tell_bytes<A: Allocator + Copy>(
     alloc: A,
     name: &str,
     bytes: &[u8],
     at: usize,
-) -> Result<(String<A>, u8), OutOfMemory>
+) -> Result<String<A>, OutOfMemory>
     requires { at ≤ length bytes.now }
-    ensures { IfOk result (λ r. (r.1 ≡ 1) × IsOctetsReport name.now bytes.now at (string_bytes r.0)) }
+    ensures { IfOk result (λ t. IsOctetsReport name.now bytes.now at (string_bytes t)) }
 {
-    let error = match named(&bytes[at..], "a character in UTF-8") {
-        Ok(error) => error,
-        Err(error) => return Err(error),
-    };
+    let error = named(&bytes[at..], "a character in UTF-8")?;
     let mut out = String::new(alloc);
-    match render_bytes(name, bytes, &error, &mut out) {
-        Ok(()) => Ok((out, 1)),
-        Err(error) => Err(error),
+    render_bytes(name, bytes, &error, &mut out)?;
+    Ok(out)
+}
+
+// The report on bytes that are no JSON text in UTF-8, and the place of the fault, of which none is told behind `inside`.
+#[inline(always)]
+pub(crate) fn fault_report<A: Allocator + Copy>(
+    alloc: A,
+    name: &str,
+    bytes: &[u8],
+    inside: usize,
+) -> Result<Option<(String<A>, usize)>, OutOfMemory>
+    ensures { IfOk result (λ found. MatchOption found (IsJson bytes.now) (λ r. IsFaultReport name.now bytes.now inside r.1 (string_bytes r.0))) }
+{
+    match str::from_utf8(bytes) {
+        Ok(text) => match verdict(alloc, text.as_bytes()) {
+            Ok(None) => Ok(None),
+            Ok(Some(fault)) => {
+                let report = tell_fault(alloc, name, text, fault)?;
+                Ok(Some((report, fault.at.min(inside))))
+            }
+            Err(error) => Err(error),
+        },
+        Err(error) => {
+            let at = error.valid_up_to();
+            let report = tell_bytes(alloc, name, bytes, at)?;
+            Ok(Some((report, at)))
+        }
     }
 }
 
@@ -162,15 +174,12 @@ pub fn text_of<A: Allocator + Copy>(
     name: &str,
     bytes: &[u8],
 ) -> Result<(String<A>, u8), OutOfMemory>
-    ensures { IfOk result (λ r. IsTold name.now bytes.now (string_bytes r.0) r.1) }
+    ensures { IfOk result (λ r. IsNamedReport name.now bytes.now (string_bytes r.0) r.1) }
 {
-    match str::from_utf8(bytes) {
-        Ok(text) => match verdict(alloc, text.as_bytes()) {
-            Ok(None) => Ok((String::new(alloc), 0)),
-            Ok(Some(fault)) => tell_fault(alloc, name, text, fault),
-            Err(error) => Err(error),
-        },
-        Err(error) => tell_bytes(alloc, name, bytes, error.valid_up_to()),
+    match fault_report(alloc, name, bytes, bytes.len()) {
+        Ok(None) => Ok((String::new(alloc), 0)),
+        Ok(Some((report, _))) => Ok((report, 1)),
+        Err(error) => Err(error),
     }
 }
 

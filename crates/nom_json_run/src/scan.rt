@@ -1,10 +1,10 @@
 //! Texts without a value in them: white space, words, numbers and strings. Each function returns the place
 //! where it ends.
-ghost use Rattle.std.specs.Prelude.{◌≡◌, ℕ, ◌+◌, ◌<◌, ◌≤◌, List, None, IfOk, IfErr, false, length, drop};
+ghost use Rattle.std.specs.Prelude.{◌≡◌, ℕ, ◌+◌, ◌<◌, ◌≤◌, List, IfOk, false, length, drop};
 ghost use Rattle.nom_json_run.specs.Classes.{in_class};
-ghost use Rattle.nom_json_run.specs.Json.{JsonCharacters, after_all, after_digits1, after_escape, after_exponent, after_fraction};
+ghost use Rattle.nom_json_run.specs.Json.{JsonCharacters, Leaves, after_all, after_digits1, after_escape, after_exponent, after_fraction};
 ghost use Rattle.nom_json_run.specs.Json.{after_hex, after_integer, after_number, after_one, after_spaces, after_word, begins, first_is};
-ghost use Rattle.nom_json_run.specs.Scans.{BeginsAs, EndsAtStop, EndsNowhere, FailsAt, FailsFor, LeadsTo};
+ghost use Rattle.nom_json_run.specs.Scans.{BeginsAs, Scans, ScansFor};
 
 use crate::bracket::{Fault, Missing};
 use crate::class::Class;
@@ -80,8 +80,7 @@ pub fn spaces(bytes: &[u8], start: usize) -> usize
 fn digits1(bytes: &[u8], start: usize) -> Result<usize, Fault>
     requires { start ≤ length bytes.now }
     ensures some { IfOk result (λ n. start < n) }
-    ensures ok { IfOk result (λ n. LeadsTo bytes.now after_digits1 start n) }
-    ensures err { IfErr result (FailsAt bytes.now (λ i. after_digits1 i ≡ None) start) }
+    ensures scans { Scans bytes.now (Leaves after_digits1) start result }
 {
     if class_at(bytes, start, Class::Digit) {
         Ok(skip(bytes, start + 1, Class::Digit))
@@ -97,8 +96,7 @@ fn digits1(bytes: &[u8], start: usize) -> Result<usize, Fault>
 fn integer(bytes: &[u8], start: usize) -> Result<usize, Fault>
     requires { start ≤ length bytes.now }
     ensures some { IfOk result (λ n. start < n) }
-    ensures ok { IfOk result (λ n. LeadsTo bytes.now after_integer start n) }
-    ensures err { IfErr result (FailsAt bytes.now (λ i. after_integer i ≡ None) start) }
+    ensures scans { Scans bytes.now (Leaves after_integer) start result }
 {
     if byte_is(bytes, start, b'0') {
         Ok(start + 1)
@@ -110,8 +108,7 @@ fn integer(bytes: &[u8], start: usize) -> Result<usize, Fault>
 #[inline(always)]
 fn fraction(bytes: &[u8], start: usize) -> Result<usize, Fault>
     requires { start ≤ length bytes.now }
-    ensures ok { IfOk result (λ n. LeadsTo bytes.now after_fraction start n) }
-    ensures err { IfErr result (FailsAt bytes.now (λ i. after_fraction i ≡ None) start) }
+    ensures { Scans bytes.now (Leaves after_fraction) start result }
 {
     if byte_is(bytes, start, b'.') {
         digits1(bytes, start + 1)
@@ -123,8 +120,7 @@ fn fraction(bytes: &[u8], start: usize) -> Result<usize, Fault>
 #[inline(always)]
 fn exponent(bytes: &[u8], start: usize) -> Result<usize, Fault>
     requires { start ≤ length bytes.now }
-    ensures ok { IfOk result (λ n. LeadsTo bytes.now after_exponent start n) }
-    ensures err { IfErr result (FailsAt bytes.now (λ i. after_exponent i ≡ None) start) }
+    ensures { Scans bytes.now (Leaves after_exponent) start result }
 {
     if class_at(bytes, start, Class::Mark) {
         let signed = skip_one(bytes, start + 1, Class::Sign);
@@ -139,8 +135,7 @@ fn exponent(bytes: &[u8], start: usize) -> Result<usize, Fault>
 pub fn number(bytes: &[u8], start: usize) -> Result<usize, Fault>
     requires { start ≤ length bytes.now }
     ensures some { IfOk result (λ n. start < n) }
-    ensures ok { IfOk result (λ n. LeadsTo bytes.now after_number start n) }
-    ensures err { IfErr result (FailsAt bytes.now (λ i. after_number i ≡ None) start) }
+    ensures scans { Scans bytes.now (Leaves after_number) start result }
 {
     let unsigned = skip_one(bytes, start, Class::Minus);
     let whole = match integer(bytes, unsigned) {
@@ -159,8 +154,7 @@ pub fn number(bytes: &[u8], start: usize) -> Result<usize, Fault>
 pub fn word(bytes: &[u8], start: usize, wanted: &'static str) -> Result<usize, Fault>
     requires { start ≤ length bytes.now }
     ensures length { IfOk result (λ n. start + length wanted.now ≤ n) }
-    ensures ok { IfOk result (λ n. LeadsTo bytes.now (after_word wanted.now) start n) }
-    ensures err { IfErr result (FailsFor bytes.now (λ i. after_word wanted.now i ≡ None) start) }
+    ensures scans { ScansFor bytes.now (Leaves (after_word wanted.now)) start result }
 {
     let text = wanted.as_bytes();
     let mut at = 0;
@@ -179,8 +173,7 @@ pub fn word(bytes: &[u8], start: usize, wanted: &'static str) -> Result<usize, F
 /// Skips four digits in base 16.
 fn hexes(bytes: &[u8], start: usize) -> Result<usize, Fault>
     requires { start ≤ length bytes.now }
-    ensures ok { IfOk result (λ n. LeadsTo bytes.now (after_hex 4) start n) }
-    ensures err { IfErr result (FailsAt bytes.now (λ i. after_hex 4 i ≡ None) start) }
+    ensures { Scans bytes.now (Leaves (after_hex 4)) start result }
 {
     for count in 0usize..4 {
         if !class_at(bytes, start + count, Class::Hex) {
@@ -196,8 +189,7 @@ fn hexes(bytes: &[u8], start: usize) -> Result<usize, Fault>
 /// Skips the part after a backslash.
 fn escape(bytes: &[u8], start: usize) -> Result<usize, Fault>
     requires { start ≤ length bytes.now }
-    ensures ok { IfOk result (λ n. LeadsTo bytes.now after_escape start n) }
-    ensures err { IfErr result (FailsAt bytes.now (λ i. after_escape i ≡ None) start) }
+    ensures { Scans bytes.now (Leaves after_escape) start result }
 {
     if byte_is(bytes, start, b'u') {
         hexes(bytes, start + 1)
@@ -214,8 +206,8 @@ fn escape(bytes: &[u8], start: usize) -> Result<usize, Fault>
 /// Skips the characters of a string, after the quote that opens it, and the quote that closes it.
 pub fn string(bytes: &[u8], start: usize) -> Result<usize, Fault>
     requires { start ≤ length bytes.now }
-    ensures ok { IfOk result (λ n. EndsAtStop bytes.now JsonCharacters start n) }
-    ensures err { IfErr result (FailsAt bytes.now (λ i. EndsNowhere (JsonCharacters i)) start) }
+    ensures some { IfOk result (λ n. start < n) }
+    ensures scans { Scans bytes.now JsonCharacters start result }
 {
     let mut at = start;
     'pieces: loop {

@@ -5,7 +5,7 @@ use Rattle.nom_error.specs.declared.answer.Err as Answer
 use Rattle.nom_internal.specs.Prelude.{Model, Modes, Meaning, Needed, PResult, ShowsMeaning, RanOut, OfError, judged_meaning, with_outputs}
 use Rattle.nom_internal.proofs.Judges.{judged_unfit}
 use Rattle.nom_internal.proofs.Shown.{accepts}
-use Rattle.nom_language.specs.Allocations.{IsTold, StopsFold}
+use Rattle.nom_language.specs.Allocations.{IsReturned, StopsFold}
 use Rattle.nom_language.specs.Precedences.{lacking_if}
 use Rattle.nom_language.specs.declared.allocating.FoldError.{FoldError}
 use Rattle.nom_language.specs.declared.allocating.FoldError.TheVariants.{Refused, OutOfMemory}
@@ -32,12 +32,12 @@ module _ {I A V O Y Z E : Type 0} {w : Model I A} (Evaluates : V → Result O Y 
       })))
 
   -- the fold gives no value of what was accepted
-  pub stopped_shown : {X : Type 0} (Makes : I → X → E → Type 0) (Grows : Type 0) (Tells : Result O Y → Result O X → Type 0) (no_memory : Option Y)
-      (f : FoldError X) {y : Y} {j : I} {x : Option (Result O Y)} {k : Answer.Err E (Option E) Needed} → IsTold Tells no_memory y f → x ≡ Some (Err y) →
+  pub stopped_shown : {X : Type 0} (Makes : I → X → E → Type 0) (Grows : Type 0) (Returns : Result O Y → Result O X → Type 0) (no_memory : Option Y)
+      (f : FoldError X) {y : Y} {j : I} {x : Option (Result O Y)} {k : Answer.Err E (Option E) Needed} → IsReturned Returns no_memory y f → x ≡ Some (Err y) →
       ShowsMeaning w Evaluates m (with_outputs true mode) i (Ok (j, x)) → StopsFold (Makes i) Grows mode.errors f k →
-      ShowsMeaning w IsResult (lacking_if no_memory Evaluates m (judged_meaning Evaluates (λ _. Unit {0}) Tells is_ok (λ k. OfError (Makes k)) Grows m))
+      ShowsMeaning w IsResult (lacking_if no_memory Evaluates m (judged_meaning Evaluates (λ _. Unit {0}) Returns is_ok (λ k. OfError (Makes k)) Grows m))
       mode i (Err k)
-  stopped_shown Makes Grows Tells no_memory (Refused z) t e h q = lacking_if_shown _ no_memory (judged_unfit {Takes = λ _. Unit {0}} {Gives = Tells}
+  stopped_shown Makes Grows Returns no_memory (Refused z) t e h q = lacking_if_shown _ no_memory (judged_unfit {Takes = λ _. Unit {0}} {Gives = Returns}
       (λ k. OfError (Makes k)) m {r = Err z} (record { takes = λ t p h. tt }) e t refl h q)
-  stopped_shown Makes Grows Tells no_memory OutOfMemory t e h q =
-      lacking_shown (judged_meaning Evaluates (λ _. Unit {0}) Tells is_ok (λ k. OfError (Makes k)) Grows m) t e h q
+  stopped_shown Makes Grows Returns no_memory OutOfMemory t e h q =
+      lacking_shown (judged_meaning Evaluates (λ _. Unit {0}) Returns is_ok (λ k. OfError (Makes k)) Grows m) t e h q

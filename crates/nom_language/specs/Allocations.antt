@@ -12,11 +12,11 @@ StopsFold Makes Grows builds (Refused x) r = Refuses (Makes x) Grows builds r
 StopsFold Makes Grows builds OutOfMemory r = r ≡ Answer.Err.OutOfMemory
 
 -- what a fold says of an expression that didn't lack memory: its value, or the refusal
-abbrev pub told : {O X : Type 0} → Result O X → Result O (FoldError X)
-told (Ok v) = Ok v
-told (Err x) = Err (Refused x)
+abbrev pub returned : {O X : Type 0} → Result O X → Result O (FoldError X)
+returned (Ok v) = Ok v
+returned (Err x) = Err (Refused x)
 
 -- what an error of a fold says: this refusal, or that memory ran out
-abbrev pub IsTold : {O Y X : Type 0} → (Result O Y → Result O X → Type 0) → Option Y → Y → FoldError X → Type 0
-IsTold Tells no_memory y (Refused x) = Tells (Err y) (Err x)
-IsTold Tells no_memory y OutOfMemory = no_memory ≡ Some y
+abbrev pub IsReturned : {O Y X : Type 0} → (Result O Y → Result O X → Type 0) → Option Y → Y → FoldError X → Type 0
+IsReturned Returns no_memory y (Refused x) = Returns (Err y) (Err x)
+IsReturned Returns no_memory y OutOfMemory = no_memory ≡ Some y

@@ -60,20 +60,20 @@ Itself r s = s ≡ r
 -- What is read is evaluated in every mode, by what a tree stands for: a refusal of the fold refuses it, at the start. Memory runs out too
 -- where the fold says so. The premise of the laws is that the fold either refuses all that a tree stands for, or nothing, memory aside.
 abbrev pub evaluated_meaning : {I A T C O Y X E : Type 0} → Model I A → Errors I E → Externals I X E → (CanFold : Type 0) →
-    (Tells : Result O Y → Result O X → Type 0) → (no_memory : Option Y) → (Waits : T → Type 0) → (T × List (C × T) → Result O Y → Type 0) →
+    (Returns : Result O Y → Result O X → Type 0) → (no_memory : Option Y) → (Waits : T → Type 0) → (T × List (C × T) → Result O Y → Type 0) →
     Meaning I T E → Meaning I C E → Meaning I (T × List (C × T)) E
-evaluated_meaning w errs externals CanFold Tells no_memory Waits Evaluates term binary =
-    premised (term.Runs × binary.Runs × CanFold) (term.IsSound × binary.IsSound × IsJudge Evaluates Tells is_ok)
+evaluated_meaning w errs externals CanFold Returns no_memory Waits Evaluates term binary =
+    premised (term.Runs × binary.Runs × CanFold) (term.IsSound × binary.IsSound × IsJudge Evaluates Returns is_ok)
     (lacking_if no_memory Evaluates (terms_meaning w errs Waits term binary)
-    (judged_meaning Evaluates (λ _. Unit {0}) Tells is_ok (λ i. OfError (externals.of_external i Kind.Precedence)) externals.grows
+    (judged_meaning Evaluates (λ _. Unit {0}) Returns is_ok (λ i. OfError (externals.of_external i Kind.Precedence)) externals.grows
     (terms_meaning w errs Waits term binary)))
 
 -- an expression, by the grammars of its terms and of its binary operators, by what the fold gives for each operation, and what that tells
 abbrev pub expression_by : {I A T C P Q B O Y X M E : Type 0} → Model I A → Errors I E → Externals I X E → (Result O Y → Result O X → Type 0) →
     Option Y → (CanFold : Type 0) → (Operation P Q B O → Result O Y → Type 0) → Grammar I T (TermOutput P O Q M) E → Grammar I C (Binary B) E →
     Grammar I (T × List (C × T)) O E
-expression_by w errs externals Tells no_memory CanFold Gives term binary = record {
-  meaning = evaluated_meaning w errs externals CanFold Tells no_memory (PrefixesWait term.IsOutput)
+expression_by w errs externals Returns no_memory CanFold Gives term binary = record {
+  meaning = evaluated_meaning w errs externals CanFold Returns no_memory (PrefixesWait term.IsOutput)
       (IsEvaluated term.IsOutput binary.IsOutput Gives) term.meaning binary.meaning;
   IsOutput = λ e y. IsEvaluated term.IsOutput binary.IsOutput Gives e (Ok y);
 }

@@ -15,67 +15,56 @@ use Rattle.nom_language.specs.Operators as Operators
 use Rattle.nom_language.specs.Precedences as Precedences
 
 module _ {I O E : Type 0} where
-  abbrev unary_op_meant : ℕ → Word I O E → Word I (Unary O) E
-  unary_op_meant precedence g = word (Operators.unary_op_of precedence g.grammar)
-
   pub unary_op_of : ℕ → Word I O E → Word I (Unary O) E
-  unary_op_of precedence g = unary_op_meant precedence g
+  unary_op_of precedence g = word (Operators.unary_op_of precedence g.grammar)
 
   module _ {g h : Word I O E} where
-    pub unary_op_worded : (precedence : ℕ) → g ≡ h → unary_op_of precedence g ≡ unary_op_meant precedence h
+    pub unary_op_worded : (precedence : ℕ) → g ≡ h → unary_op_of precedence g ≡ word (Operators.unary_op_of precedence h.grammar)
     unfolding unary_op_of
-    unary_op_worded precedence p = ap (unary_op_meant precedence) p
+    unary_op_worded precedence p = ap (unary_op_of precedence) p
 
     pub unary_op_same : {precedence precedence' : ℕ} → precedence ≡ precedence' → g ≡ h → unary_op_of precedence g ≡ unary_op_of precedence' h
     unary_op_same q p = ap₂ unary_op_of q p
 
-  abbrev binary_op_meant : ℕ → Assoc → Word I O E → Word I (Binary O) E
-  binary_op_meant precedence assoc g = word (Operators.binary_op_of precedence assoc g.grammar)
-
   pub binary_op_of : ℕ → Assoc → Word I O E → Word I (Binary O) E
-  binary_op_of precedence assoc g = binary_op_meant precedence assoc g
+  binary_op_of precedence assoc g = word (Operators.binary_op_of precedence assoc g.grammar)
 
   module _ {g h : Word I O E} where
-    pub binary_op_worded : (precedence : ℕ) (assoc : Assoc) → g ≡ h → binary_op_of precedence assoc g ≡ binary_op_meant precedence assoc h
+    pub binary_op_worded : (precedence : ℕ) (assoc : Assoc) → g ≡ h → binary_op_of precedence assoc g ≡
+        word (Operators.binary_op_of precedence assoc h.grammar)
     unfolding binary_op_of
-    binary_op_worded precedence assoc p = ap (binary_op_meant precedence assoc) p
+    binary_op_worded precedence assoc p = ap (binary_op_of precedence assoc) p
 
     pub binary_op_same : {precedence precedence' : ℕ} {assoc assoc' : Assoc} → precedence ≡ precedence' → assoc ≡ assoc' → g ≡ h →
         binary_op_of precedence assoc g ≡ binary_op_of precedence' assoc' h
     binary_op_same a b p = λ i. binary_op_of (a i) (b i) (p i)
 
 module _ {I A O M E : Type 0} (w : Model I A) (errs : Errors I E) where
-  abbrev prefixes_meant : Word I O E → Word I (Prefixes O M) E
-  prefixes_meant g = word (Operators.prefixes_of w errs g.grammar)
-
   pub prefixes_of : Word I O E → Word I (Prefixes O M) E
-  prefixes_of g = prefixes_meant g
+  prefixes_of g = word (Operators.prefixes_of w errs g.grammar)
 
   module _ {g h : Word I O E} where
-    pub prefixes_worded : g ≡ h → prefixes_of g ≡ prefixes_meant h
+    pub prefixes_worded : g ≡ h → prefixes_of g ≡ word (Operators.prefixes_of w errs h.grammar)
     unfolding prefixes_of
-    prefixes_worded p = ap prefixes_meant p
+    prefixes_worded p = ap prefixes_of p
 
     pub prefixes_same : g ≡ h → prefixes_of g ≡ prefixes_of h
     prefixes_same p = ap prefixes_of p
 
 -- terms with operators between them: which operations the fold takes, what it gives for each, and what that tells
-module _ {I A P Q B O Y X M E : Type 0} (w : Model I A) (errs : Errors I E) (externals : Externals I X E) (Tells : Result O Y → Result O X → Type 0)
+module _ {I A P Q B O Y X M E : Type 0} (w : Model I A) (errs : Errors I E) (externals : Externals I X E) (Returns : Result O Y → Result O X → Type 0)
     (no_memory : Option Y) where
-  abbrev expression_meant : (Operation P Q B O → Type 0) → (Operation P Q B O → Result O Y → Type 0) → Word I (TermOutput P O Q M) E → Word I (Binary B) E →
-      Word I O E
-  expression_meant Takes Gives term binary = word
-      (Precedences.expression_by w errs externals Tells no_memory ((x : Operation P Q B O) → Takes x) Gives term.grammar binary.grammar)
-
   pub expression_of : (Operation P Q B O → Type 0) → (Operation P Q B O → Result O Y → Type 0) → Word I (TermOutput P O Q M) E → Word I (Binary B) E →
       Word I O E
-  expression_of Takes Gives term binary = expression_meant Takes Gives term binary
+  expression_of Takes Gives term binary = word
+      (Precedences.expression_by w errs externals Returns no_memory ((x : Operation P Q B O) → Takes x) Gives term.grammar binary.grammar)
 
   module _ {g h : Word I (TermOutput P O Q M) E} {k l : Word I (Binary B) E} where
     pub expression_worded : (Takes : Operation P Q B O → Type 0) (Gives : Operation P Q B O → Result O Y → Type 0) → g ≡ h → k ≡ l →
-        expression_of Takes Gives g k ≡ expression_meant Takes Gives h l
+        expression_of Takes Gives g k ≡
+        word (Precedences.expression_by w errs externals Returns no_memory ((x : Operation P Q B O) → Takes x) Gives h.grammar l.grammar)
     unfolding expression_of
-    expression_worded Takes Gives p q = ap₂ (expression_meant Takes Gives) p q
+    expression_worded Takes Gives p q = ap₂ (expression_of Takes Gives) p q
 
     pub expression_same : {Takes Takes' : Operation P Q B O → Type 0} {Gives Gives' : Operation P Q B O → Result O Y → Type 0} → Takes ≡ Takes' →
         Gives ≡ Gives' → g ≡ h → k ≡ l → expression_of Takes Gives g k ≡ expression_of Takes' Gives' h l
@@ -83,33 +72,27 @@ module _ {I A P Q B O Y X M E : Type 0} (w : Model I A) (errs : Errors I E) (ext
 
 -- an expression, and then no binary operator
 module _ {I A O B E : Type 0} (w : Model I A) (errs : Errors I E) where
-  abbrev require_operands_meant : Word I B E → Word I O E → Word I O E
-  require_operands_meant binary expression = word (Precedences.require_operands_of w errs binary.grammar expression.grammar)
-
   pub require_operands_of : Word I B E → Word I O E → Word I O E
-  require_operands_of binary expression = require_operands_meant binary expression
+  require_operands_of binary expression = word (Precedences.require_operands_of w errs binary.grammar expression.grammar)
 
   module _ {g h : Word I B E} {k l : Word I O E} where
-    pub require_operands_worded : g ≡ h → k ≡ l → require_operands_of g k ≡ require_operands_meant h l
+    pub require_operands_worded : g ≡ h → k ≡ l → require_operands_of g k ≡ word (Precedences.require_operands_of w errs h.grammar l.grammar)
     unfolding require_operands_of
-    require_operands_worded p q = ap₂ require_operands_meant p q
+    require_operands_worded p q = ap₂ require_operands_of p q
 
     pub require_operands_same : g ≡ h → k ≡ l → require_operands_of g k ≡ require_operands_of h l
     require_operands_same p q = ap₂ require_operands_of p q
 
 module _ {I A H O E : Type 0} (w : Model I A) (errs : Errors I E) where
-  abbrev left_assoc_meant : (O → H → O → Type 0) → (O → H → O → O → Type 0) → Word I O E → Word I H E → Word I O E
-  left_assoc_meant Takes Gives child operator = word
+  pub left_assoc_of : (O → H → O → Type 0) → (O → H → O → O → Type 0) → Word I O E → Word I H E → Word I O E
+  left_assoc_of Takes Gives child operator = word
       (LeftFolds.left_assoc_by w errs ((x : O) (c : H) (y : O) → Takes x c y) Gives child.grammar operator.grammar)
 
-  pub left_assoc_of : (O → H → O → Type 0) → (O → H → O → O → Type 0) → Word I O E → Word I H E → Word I O E
-  left_assoc_of Takes Gives child operator = left_assoc_meant Takes Gives child operator
-
   module _ {g h : Word I O E} {k l : Word I H E} where
-    pub left_assoc_worded : (Takes : O → H → O → Type 0) (Gives : O → H → O → O → Type 0) → g ≡ h → k ≡ l →
-        left_assoc_of Takes Gives g k ≡ left_assoc_meant Takes Gives h l
+    pub left_assoc_worded : (Takes : O → H → O → Type 0) (Gives : O → H → O → O → Type 0) → g ≡ h → k ≡ l → left_assoc_of Takes Gives g k ≡
+        word (LeftFolds.left_assoc_by w errs ((x : O) (c : H) (y : O) → Takes x c y) Gives h.grammar l.grammar)
     unfolding left_assoc_of
-    left_assoc_worded Takes Gives p q = ap₂ (left_assoc_meant Takes Gives) p q
+    left_assoc_worded Takes Gives p q = ap₂ (left_assoc_of Takes Gives) p q
 
     pub left_assoc_same : {Takes Takes' : O → H → O → Type 0} {Gives Gives' : O → H → O → O → Type 0} → Takes ≡ Takes' → Gives ≡ Gives' → g ≡ h → k ≡ l →
         left_assoc_of Takes Gives g k ≡ left_assoc_of Takes' Gives' h l

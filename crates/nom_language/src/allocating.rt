@@ -1,7 +1,7 @@
 //! Folds that may take memory.
 ghost use Rattle.std.specs.Prelude.{◌≡◌, None, Ok, Option, Result, Some, refl};
 ghost use Rattle.nom_error.specs.declared.kind.ErrorKind.TheVariants as Kind;
-ghost use Rattle.nom_language.specs.Allocations.{IsTold, StopsFold, told};
+ghost use Rattle.nom_language.specs.Allocations.{IsReturned, StopsFold, returned};
 ghost use Rattle.nom_language.specs.Precedences.{Itself};
 ghost use Rattle.nom_language.specs.declared.allocating.FoldError.{FoldError};
 
@@ -55,25 +55,25 @@ pub trait FoldErrors<O, Y> {
     type Refusal: Drop;
 
     /// The fold's answer says this value or this refusal.
-    ghost Tells: { Result O Y → Result O Self.Refusal → Type 0 };
+    ghost Returns: { Result O Y → Result O Self.Refusal → Type 0 };
 
     /// The error that says that memory ran out, if there is one.
     ghost no_memory: { Option Y };
 
     /// Says which of the two an error is.
     fn told(error: Y) -> FoldError<Self::Refusal>
-        ensures { IsTold Tells no_memory error result };
+        ensures { IsReturned Returns no_memory error result };
 
-    ghost tells_value: { (v : O) → Tells (Ok v) (Ok v) };
+    ghost returns_value: { (v : O) → Returns (Ok v) (Ok v) };
 }
 
-/// The fold of `precedence`: each error is a refusal. `Tells` is equality, and `no_memory` is `None`.
+/// The fold of `precedence`: each error is a refusal. `Returns` is equality, and `no_memory` is `None`.
 pub struct PlainFold;
 
 impl<O, X: Drop> FoldErrors<O, X> for PlainFold {
     type Refusal = X;
 
-    ghost Tells = { Itself };
+    ghost Returns = { Itself };
 
     ghost no_memory = { None };
 
@@ -82,16 +82,16 @@ impl<O, X: Drop> FoldErrors<O, X> for PlainFold {
         FoldError::Refused(error)
     }
 
-    ghost tells_value = { λ _. refl };
+    ghost returns_value = { λ _. refl };
 }
 
-/// The fold of `precedence_alloc`, which may take memory. `Tells` takes `Refused` off a refusal, and `no_memory` is `OutOfMemory`.
+/// The fold of `precedence_alloc`, which may take memory. `Returns` takes `Refused` off a refusal, and `no_memory` is `OutOfMemory`.
 pub struct AllocatingFold;
 
 impl<O, X: Drop> FoldErrors<O, FoldError<X>> for AllocatingFold {
     type Refusal = X;
 
-    ghost Tells = { λ p r. p ≡ told r };
+    ghost Returns = { λ p r. p ≡ returned r };
 
     ghost no_memory = { Some FoldError.OutOfMemory };
 
@@ -100,7 +100,7 @@ impl<O, X: Drop> FoldErrors<O, FoldError<X>> for AllocatingFold {
         error
     }
 
-    ghost tells_value = { λ _. refl };
+    ghost returns_value = { λ _. refl };
 }
 
 // Refuses with an error that is made of the fold's, or reports that memory ran out.

@@ -5,7 +5,7 @@ ghost use Rattle.nom_language.specs.helpers.Accumulated.{HasReadInto, PairPushes
 ghost use Rattle.nom_operators.specs.Evaluations.{IsValueOf};
 ghost use Rattle.nom_operators.specs.Prefixes.{prefixes_in};
 ghost use Rattle.nom_operators.specs.OperatorTrees.{Symbol};
-ghost use Rattle.nom_operators.specs.Steps.{IsNested};
+ghost use Rattle.nom_operators.specs.Steps.{HasOutermost};
 ghost use Rattle.nom_operators.specs.declared.operation.Operation.{Operation};
 ghost use Rattle.nom_operators.specs.declared.precedences.Unary.{Unary};
 ghost use Rattle.nom_operators.specs.declared.precedences.Binary.{Binary};
@@ -49,7 +49,7 @@ impl<
     for Evaluation<'a, P, Q, B, O, X, A, G> {
     ghost Pushes = { λ old x new. PairPushes (λ k. k.waiting.partial) (λ k. k.waiting.outer.items) (λ k. k.fold.now) (λ f o r. G.post f o r) old x new };
 
-    ghost CanPush = { λ k. IsSome k.waiting.partial × IfSome k.waiting.partial (λ r. IsNested r.innermost k.waiting.outer.items)
+    ghost CanPush = { λ k. IsSome k.waiting.partial × IfSome k.waiting.partial (λ r. HasOutermost r.innermost k.waiting.outer.items)
         × ((x : Operation P Q B O) → G.pre k.fold.now x) };
 
     ghost IsFull = { λ _. Unit {0} };
@@ -121,7 +121,7 @@ pub fn begin_evaluation<
     requires { (x : Operation P Q B O) → G.pre fold.now x }
     ensures read { IfSome result (λ k. HasReadInto (λ k. k.waiting.partial) (λ k. k.waiting.outer.items) (λ k. k.fold.now) (λ f o r. G.post f o r) fold.now
         (symbols_of_term first) k) }
-    ensures nested { IfSome result (λ k. IfSome k.waiting.partial (λ r. IsNested r.innermost k.waiting.outer.items)) }
+    ensures nested { IfSome result (λ k. IfSome k.waiting.partial (λ r. HasOutermost r.innermost k.waiting.outer.items)) }
     ensures fold { IfSome result (λ k. k.fold.now ≡ fold.now) }
     ensures full { result ≡ None → 1 < length (prefixes_in first.0) }
 {
@@ -158,7 +158,7 @@ pub fn value_of<
     G: Fn(Operation<P, Q, B, O>) -> Result<O, X>,
 >(evaluation: Evaluation<'_, P, Q, B, O, X, A, G>) -> Result<O, X>
     requires some { IsSome evaluation.waiting.partial }
-    requires nested { IfSome evaluation.waiting.partial (λ r. IsNested r.innermost evaluation.waiting.outer.items) }
+    requires nested { IfSome evaluation.waiting.partial (λ r. HasOutermost r.innermost evaluation.waiting.outer.items) }
     requires fold { (x : Operation P Q B O) → G.pre evaluation.fold.now x }
     ensures { (ss : List (Symbol (Unary P) O (Unary Q) (Binary B))) → HasReadInto (λ k. k.waiting.partial) (λ k. k.waiting.outer.items) (λ k. k.fold.now)
         (λ f o r. G.post f o r) evaluation.entry.fold.now ss evaluation.entry → IsValueOf (G.post evaluation.entry.fold.now) ss result }

@@ -81,13 +81,13 @@ where
 
     ghost Tree = { T.Tree × List (C.Tree × T.Tree) };
 
-    ghost grammar = { λ s. expression_by I.model T.Error.errors T.Error.externals W.Tells W.no_memory ((x : Operation P Q B O) → G.pre s.2 x)
+    ghost grammar = { λ s. expression_by I.model T.Error.errors T.Error.externals W.Returns W.no_memory ((x : Operation P Q B O) → G.pre s.2 x)
         (G.post s.2) (T.grammar s.1) (C.grammar s.0) };
 
-    ghost word = { λ s. Words.expression_of I.model T.Error.errors T.Error.externals W.Tells W.no_memory (G.pre s.2) (G.post s.2)
+    ghost word = { λ s. Words.expression_of I.model T.Error.errors T.Error.externals W.Returns W.no_memory (G.pre s.2) (G.post s.2)
         (T.word s.1) (C.word s.0) };
 
-    ghost worded = { λ s. Words.expression_worded I.model T.Error.errors T.Error.externals W.Tells W.no_memory (G.pre s.2) (G.post s.2)
+    ghost worded = { λ s. Words.expression_worded I.model T.Error.errors T.Error.externals W.Returns W.no_memory (G.pre s.2) (G.post s.2)
         (T.worded s.1) (C.worded s.0) };
 
     fn process<OM: OutputMode>(&mut self, input: I) -> PResult<I, O, T::Error> {
@@ -125,9 +125,9 @@ where
 {
     ghost use Rattle.nom_language.specs.laws.LanguageLaws.{evaluated_steady};
     ghost use Rattle.nom_language.specs.laws.PinnedLaws.{expression_pinned};
-    ghost use Rattle.nom_operators.specs.laws.ViewLaws.{OperatesAlike};
+    ghost use Rattle.nom_operators.specs.laws.ViewLaws.{OperatesConsistently};
 
-    ghost Pins = { λ p. T.Pins p.pair.1 × C.Pins p.pair.0 × OperatesAlike (G.post p.fold) P.view Q.view B.view O.view };
+    ghost Pins = { λ p. T.Pins p.pair.1 × C.Pins p.pair.0 × OperatesConsistently (G.post p.fold) P.view Q.view B.view O.view };
 
     ghost pinned = { λ p k h. expression_pinned P.view Q.view B.view O.view (T.pinned p.pair.1 k.0 h.0) (C.pinned p.pair.0 k.1 h.1) h.2 };
 

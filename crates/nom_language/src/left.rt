@@ -70,9 +70,9 @@ impl<
     G: Fn(F::Output, C::Output, F::Output) -> F::Output,
 > StreamParser<I> for LeftAssoc<C, F, G> {
     ghost use Rattle.nom_language.specs.laws.LanguageLaws.{left_assoc_steady};
-    ghost use Rattle.nom_language.specs.laws.PinnedLaws.{BuildsAlike, left_assoc_pinned};
+    ghost use Rattle.nom_language.specs.laws.PinnedLaws.{BuildsConsistently, left_assoc_pinned};
 
-    ghost Pins = { λ p. F.Pins p.pair.1 × C.Pins p.pair.0 × BuildsAlike (G.post p.builder) C.Output.view F.Output.view };
+    ghost Pins = { λ p. F.Pins p.pair.1 × C.Pins p.pair.0 × BuildsConsistently (G.post p.builder) C.Output.view F.Output.view };
 
     ghost pinned = { λ p k h. left_assoc_pinned (F.pinned p.pair.1 k.0 h.0) (C.pinned p.pair.0 k.1 h.1) h.2 };
 

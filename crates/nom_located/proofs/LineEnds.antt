@@ -3,7 +3,7 @@ use Rattle.std.specs.Prelude.{◌≡◌, ℕ, zero, suc, ◌+◌, ◌-◌, ◌<�
 use Rattle.std.proofs.Common.{arith, ◌∙◌, ap, subst}
 use Rattle.std.proofs.lemmas.List.{drop_more, drop_all}
 use Rattle.memchr.specs.Find.{IsFirst, Nowhere, Passes, is_byte}
-use Rattle.nom_located.specs.Located.{Place, Fits, place, step, past_bytes}
+use Rattle.nom_located.specs.Located.{Place, FitsPlace, place, step, past_bytes}
 
 no_end : (b : Bool) → ¬ (b ≡ true) → b ≡ false
 no_end true h = absurd (h refl)
@@ -56,8 +56,8 @@ module _ (bs : List ℕ) where
       past_bytes (place (offset + i) line column) (drop i bs) ≡ place (offset + length bs) line (column + (length bs - i))
   past_all offset line column i le none = past_run (length bs - i) (place (offset + i) line column) i (omega arith) none ∙ same line (omega arith) refl
 
-pub fits_end : (offset line column i k len : ℕ) → i ≤ k → k < len → Fits (place (offset + i) line column) (len - i) →
-    Fits (place (offset + (k + 1)) (line + 1) 1) (len - (k + 1))
+pub fits_end : (offset line column i k len : ℕ) → i ≤ k → k < len → FitsPlace (place (offset + i) line column) (len - i) →
+    FitsPlace (place (offset + (k + 1)) (line + 1) 1) (len - (k + 1))
 fits_end offset line column i k len low high h = record {
   fits = omega (arith, h.fits);
   line_from = omega arith;

@@ -23,7 +23,7 @@ past_bytes p [] = p
 past_bytes p (b ∷ bs) = past_bytes (step p (nat_eq b 10)) bs
 
 -- line and column are within what was passed, and what was passed and what is left fit a slice
-pub record Fits (p : Place) (len : ℕ) : Type 0 where
+pub record FitsPlace (p : Place) (len : ℕ) : Type 0 where
   pub fits : p.offset + len < 2 ^ 63
   pub line_from : 1 ≤ p.line
   pub line_to : p.line ≤ p.offset + 1
@@ -38,7 +38,7 @@ module _ {S I A X : Type 0} (fragment : S → I) (at : S → Place) (label : S �
     Mark = Place × X;
     mark = λ x. (at x, label x);
     step = λ p a. (past_bytes p.0 (read a), p.1);
-    Fits = λ p n. Fits p.0 n;
+    Fits = λ p n. FitsPlace p.0 n;
   }
 
   abbrev pub located_model : Model I A → Model S A

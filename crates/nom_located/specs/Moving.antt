@@ -23,9 +23,9 @@ pub record Fitting {M A : Type 0} (item_len : A → ℕ) (step : M → A → M) 
   pub after_item : (m : M) (a : A) (n : ℕ) → Fits m (item_len a + n) → Fits (step m a) n
   pub before_less : (m : M) (n k : ℕ) → k ≤ n → Fits m n → Fits m k
 
--- for marks that always fit
-abbrev pub always : {M : Type 0} → M → ℕ → Type 0
-always _ _ = Unit {0}
+-- for marks that at_any_place fit
+abbrev pub at_any_place : {M : Type 0} → M → ℕ → Type 0
+at_any_place _ _ = Unit {0}
 
 module _ {S I A : Type 0} (m : Moving S I A) (w : Model I A) where
   abbrev pub moving_model : Model S A

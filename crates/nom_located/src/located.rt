@@ -7,7 +7,7 @@ ghost use Rattle.nom_traits.specs.Input.{input_len};
 ghost use Rattle.nom_located.specs.Lines.{IsUtf8Column};
 ghost use Rattle.nom_located.specs.Moving.{moving_view};
 ghost use Rattle.nom_located.specs.laws.MovingLaws.{moving_comparing, moving_finding, moving_lawful, moving_reads, moving_injective, moving_views};
-ghost use Rattle.nom_located.specs.Located.{Fits, located, place, past_bytes, located_model};
+ghost use Rattle.nom_located.specs.Located.{FitsPlace, located, place, past_bytes, located_model};
 
 use crate::source::column_in_characters;
 use memchr::memchr;
@@ -46,7 +46,7 @@ pub struct Located<I: Items, X = ()> {
     column: usize,
     #[derive_where(skip(EqHashOrd))]
     extra: X,
-    ghost fits: { Fits (place offset line column) (input_len I.model fragment) },
+    ghost fits: { FitsPlace (place offset line column) (input_len I.model fragment) },
 }
 
 impl<I: Items, X: Copy> Copy for Located<I, X> {}
@@ -196,7 +196,7 @@ impl<I: ByteItems + CountItems, X: Copy> CountItems for Located<I, X> {
 // Each byte is read once, and where none of them ends a line there is one search.
 #[inline]
 fn line_after(bytes: &[u8], offset: usize, line: usize, column: usize) -> (usize, usize)
-    requires { Fits (place offset line column) (length bytes.now) }
+    requires { FitsPlace (place offset line column) (length bytes.now) }
     ensures { place (offset + length bytes.now) result.0 result.1 ≡ past_bytes (place offset line column) bytes.now }
 {
     if bytes.len() <= 8 {
@@ -216,7 +216,7 @@ fn line_after(bytes: &[u8], offset: usize, line: usize, column: usize) -> (usize
 /// Does as `line_after`, byte by byte. For a few bytes a search costs more.
 #[inline(always)]
 fn line_after_few(bytes: &[u8], offset: usize, line: usize, column: usize) -> (usize, usize)
-    requires { Fits (place offset line column) (length bytes.now) }
+    requires { FitsPlace (place offset line column) (length bytes.now) }
     ensures { place (offset + length bytes.now) result.0 result.1 ≡ past_bytes (place offset line column) bytes.now }
 {
     let mut lines = line;

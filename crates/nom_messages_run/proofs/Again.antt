@@ -14,7 +14,7 @@ use Rattle.nom_stream.specs.declared.stream.Stop.TheVariants as Stop
 use Rattle.nom_stream.specs.declared.stream.Stream.{Stream}
 use Rattle.nom_stream.specs.Held.{last_of}
 use Rattle.nom_stream.specs.Items.{Bytes}
-use Rattle.nom_stream.specs.Streams.{Decides, Told}
+use Rattle.nom_stream.specs.Streams.{Decides, ItemResult}
 use Rattle.nom_stream.specs.Wholes.{AnswersWhole, AtWhole, BytesOfWhole, Calls, HasLeft, ItemsOfWhole}
 use Rattle.nom_write.specs.Reads.{Anything}
 use Rattle.nom_write.specs.laws.SequenceReads.{follows}
@@ -162,12 +162,12 @@ line_of (Sent.Text bytes) xs h =
     ap (bytes_text (codes "text ")) (ap (λ n. drop n xs) count ∙ (ap (λ z. drop (length front) z) whole ∙ drop-append_seam front bytes.now))
 line_of Sent.Close xs h = refl
 
-calls_of : List (ℕ × Received) → Told Received → List (Told Received)
+calls_of : List (ℕ × Received) → ItemResult Received → List (ItemResult Received)
 calls_of [] r = r ∷ []
 calls_of (p ∷ ps) r = Ok (Some p) ∷ calls_of ps r
 
 module _ {R A : Type 0} (left : R → Option (List ℕ)) where
-  are_calls : (messages : List (ℕ × Received)) (s t u : Stream R A) (text : List ℕ) (r : Told Received) → Lines left message_of messages s t text →
+  are_calls : (messages : List (ℕ × Received)) (s t u : Stream R A) (text : List ℕ) (r : ItemResult Received) → Lines left message_of messages s t text →
       Decides left message_of t u r → Calls left message_of (calls_of messages r) s u
   unfolding calls_of
   are_calls [] s t u text r h d = (u, subst (λ z. Decides left message_of z u r) h.0 d, refl)
@@ -175,7 +175,7 @@ module _ {R A : Type 0} (left : R → Option (List ℕ)) where
 
   module _ (answers : AnswersWhole A left message_of) (items : ItemsOfWhole A left message_of) (bytes : BytesOfWhole A left message_of) where
     -- of one message: it is told, its bytes are lent, and those after it are left
-    pub record IsTold (s u : Stream R A) (n : ℕ) (o : Received) (m : Message) (xs rest : List ℕ) : Type 0 where
+    pub record IsNextMessage (s u : Stream R A) (n : ℕ) (o : Received) (m : Message) (xs rest : List ℕ) : Type 0 where
       pub is : o ≡ received m
       pub lent : last_of n u.held ≡ xs
       pub place : Bytes
@@ -191,7 +191,7 @@ module _ {R A : Type 0} (left : R → Option (List ℕ)) where
 
     is_told : (s u : Stream R A) (n : ℕ) (o : Received) → Decides left message_of s u (Ok (Some (n, o))) → (m : Message) (xs rest : List ℕ) →
         IsMessage m xs → (whole : Bytes) → bytes_model.IsKnown whole → whole.now ≡ xs ++ rest → HasLeft left s whole.now → s.offset ≤ 2 ^ 64 - 1 →
-        IsTold s u n o m xs rest
+        IsNextMessage s u n o m xs rest
     is_told s u n o d m xs rest form whole known e has low =
         let p = message_outcome.outcome whole known in
         let took = (stream_reads_back.reads (received m) xs (m, form, refl) true).read whole rest p.0 known e tt p.1 in
@@ -218,19 +218,19 @@ module _ {R A : Type 0} (left : R → Option (List ℕ)) where
           offset = counted;
         }
 
-    abbrev Tells : Type 0 → List Message → List (Told Received) → Type 0
-    Tells Short ms rs = TellsItems itself (Unit {0}) Short (map received ms) rs
+    abbrev AreReceived : Type 0 → List Message → List (ItemResult Received) → Type 0
+    AreReceived Short ms rs = TellsItems itself (Unit {0}) Short (map received ms) rs
 
-    pub record Listed (Short : Type 0) (messages : List Message) (text : List ℕ) (r : Told Received) : Type 0 where
+    pub record Listed (Short : Type 0) (messages : List Message) (text : List ℕ) (r : ItemResult Received) : Type 0 where
       pub first : List Message
       pub others : List Message
       pub all : messages ≡ first ++ others
       pub lines : text ≡ lines_text message_text first
-      pub last : Tells Short others (r ∷ [])
+      pub last : AreReceived Short others (r ∷ [])
 
     listed : (Short : Type 0) (given : List (ℕ × Received)) (messages : List Message) (whole : Bytes) → bytes_model.IsKnown whole →
         AreSent messages whole.now → (s t : Stream R A) (text : List ℕ) → Lines left message_of given s t text → HasLeft left s whole.now →
-        s.offset ≤ 2 ^ 64 - 1 → (r : Told Received) → Tells Short messages (calls_of given r) → Listed Short messages text r
+        s.offset ≤ 2 ^ 64 - 1 → (r : ItemResult Received) → AreReceived Short messages (calls_of given r) → Listed Short messages text r
     unfolding calls_of
     listed Short [] messages whole known h s t text lines has low r tells = record {
       first = [];
@@ -259,7 +259,7 @@ module _ {R A : Type 0} (left : R → Option (List ℕ)) where
       TellsSo why = TellsBack messages most offset (lines ++ ending_text why offset) (ending_status why)
 
       told_all : (others : List Message) → (k : Listed (most < 259) messages lines (Ok None)) → k.others ≡ others →
-          Tells (most < 259) others (Ok None ∷ []) → TellsSo None
+          AreReceived (most < 259) others (Ok None ∷ []) → TellsSo None
       told_all [] k e h = TellsBack.Whole (ap (λ z. z ++ ending_text None offset) (k.lines ∙ ap (lines_text message_text)
           (sym (append-nil k.first) ∙ (ap (λ z. k.first ++ z) (sym e) ∙ sym k.all)))) refl
       told_all (m ∷ others) k e h = absurd h
@@ -268,7 +268,8 @@ module _ {R A : Type 0} (left : R → Option (List ℕ)) where
           TellsSo (Some why)
       told_some why k h is = TellsBack.Short k.first k.others why k.all h (ap (λ z. z ++ ending_text (Some why) offset) k.lines) is
 
-      cuts_short : (why : Why.Stop) (others : List Message) → Tells (most < 259) others (Err why ∷ []) → CutsShort most why × (ending_status (Some why) ≡ 3)
+      cuts_short : (why : Why.Stop) (others : List Message) → AreReceived (most < 259) others (Err why ∷ []) →
+          CutsShort most why × (ending_status (Some why) ≡ 3)
       cuts_short (Stop.Refused kind len) [] h = absurd h
       cuts_short (Stop.Refused kind len) (m ∷ others) h = absurd h
       cuts_short (Stop.Failed kind len) [] h = absurd h

@@ -14,7 +14,7 @@ use Rattle.nom_write.specs.Reads.{Holds}
 use Rattle.nom_write_stream.specs.declared.outgoing.Outgoing.{Outgoing}
 use Rattle.nom_write_stream.specs.declared.outgoing.Unwritten.{Unwritten}
 use Rattle.nom_write_stream.specs.declared.outgoing.Unwritten.TheVariants.{TooLong, Mismatch, Nothing, OverLimit, Fault, OutOfMemory}
-use Rattle.nom_write_stream.specs.Outgoing.{WritesItem, Counts, FailsWith, NoRoom, WhyNot}
+use Rattle.nom_write_stream.specs.Outgoing.{WritesItem, CountsUnwritten, FailsWith, NoRoom, WhyNot}
 use Rattle.nom_messages_run.specs.Sent.{SendsNone, WhyUnframed}
 
 -- Bytes after their length, as the writer of these has it.
@@ -69,7 +69,7 @@ module _ (order : Endianness) (body : Bytes) where
         by (inr f) = absurd (cc (f.1))
     over (inr (xs, form, long)) = omega (arith, long, frame_len xs form)
 
-    unframed : (why : Unwritten) → WhyNot FrameForm FrameFails a.most why → Counts a b why → WhyUnframed a b body.now why
+    unframed : (why : Unwritten) → WhyNot FrameForm FrameFails a.most why → CountsUnwritten a b why → WhyUnframed a b body.now why
     unframed (TooLong at) w n = (too_long w.0 w.1 w.3, n)
     unframed (Mismatch at) w n = never w.0 (Write.Mismatch w.1) (λ e. absurd (cc (e))) (λ e. absurd (cc (e))) w.3
     unframed Nothing w n = absurd (omega (arith, frame_len [] w))

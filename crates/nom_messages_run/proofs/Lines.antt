@@ -6,7 +6,7 @@ use Rattle.nom_stream.specs.declared.stream.Stream.{Stream}
 use Rattle.nom_write_stream.specs.declared.outgoing.Outgoing.{Outgoing}
 use Rattle.nom_messages_run.specs.declared.protocol.Message.{Message}
 use Rattle.nom_messages_run.specs.Forms.{body_len}
-use Rattle.nom_messages_run.specs.Sent.{Says, SendsMessage, SentLines, TakesLine}
+use Rattle.nom_messages_run.specs.Sent.{SaysMessage, SendsMessage, SentLines, TakesLine}
 
 abbrev pub Fit : ℕ → List Message → Type 0
 Fit room messages = All (λ m. body_len m ≤ room) messages
@@ -23,7 +23,7 @@ module _ {R A W B : Type 0} (left : R → Option (List ℕ)) (contents : W → O
   none_yet room = record { messages = []; counted = refl; lines = SentLines.none; within = All-nil (λ m. body_len m ≤ room) }
 
   pub one_more : (count room room' : ℕ) (t u : Stream R A) (b c : Outgoing W B) → Going count room t b → (xs : List ℕ) (m : Message) →
-      TakesLine left t u xs → Says xs m → SendsMessage contents b c m → room ≤ room' → body_len m ≤ room' → Going (count + 1) room' u c
+      TakesLine left t u xs → SaysMessage xs m → SendsMessage contents b c m → room ≤ room' → body_len m ≤ room' → Going (count + 1) room' u c
   one_more count room room' t u b c g xs m takes says sends grows fits = record {
     messages = g.messages ++ m ∷ [];
     counted = omega (arith, g.counted, length-append g.messages (m ∷ []));

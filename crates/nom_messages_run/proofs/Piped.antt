@@ -11,8 +11,8 @@ use Rattle.nom_run.specs.declared.error.RunError.{RunError}
 use Rattle.nom_run.specs.declared.error.RunError.TheVariants as Run
 use Rattle.nom_run.specs.Pieces.{HasRoom, Puts}
 use Rattle.nom_run.specs.Pieces.Puts.{Added, Broken}
-use Rattle.nom_run.specs.Runs.{Tells}
-use Rattle.nom_run.specs.Runs.Tells.{Whole, Cut, NoMemory}
+use Rattle.nom_run.specs.Runs.{WritesText}
+use Rattle.nom_run.specs.Runs.WritesText.{Whole, Cut, NoMemory}
 use Rattle.nom_stream.specs.declared.stream.Stop as Why
 use Rattle.nom_stream.specs.declared.stream.Stream.{Stream}
 use Rattle.nom_stream.specs.Held.{last_of}
@@ -136,7 +136,8 @@ module _ {R A V : Type 0} (left : R → Option (List ℕ)) (grammar : Grammar By
       }
 
       pub ended : {c : Account} {r : Result ℕ RunError} {K Same : Type 0} → (K → (count ≡ 0) × Same) →
-          Tells (λ last status. (last ≡ text ++ ending_text why u.offset) × (status ≡ ending_status why)) b c K r → TellsMessages left grammar s u a c Same r
+          WritesText (λ last status. (last ≡ text ++ ending_text why u.offset) × (status ≡ ending_status why)) b c K r →
+          TellsMessages left grammar s u a c Same r
       unfolding all_ends
       ended {c} {Same = Same} fresh (Whole last status e i w) = subst (TellsMessages left grammar s u a c Same) (sym e)
           (g.written ++ (text ++ ending_text why u.offset), all_ends status i.1, subst (λ z. Wrote a c (g.written ++ z)) i.0 (wrote_then g.wrote w))

@@ -16,7 +16,7 @@ use Rattle.nom_write.specs.FirstSets.{HasFirst}
 use Rattle.nom_write.specs.Lengths.{FormOfSize}
 use Rattle.nom_write.specs.Reads.{Anything, Holds, Reads}
 use Rattle.nom_write.specs.laws.ChoiceReads.{alt_reads, either_reads, map_back_reads}
-use Rattle.nom_write.specs.laws.FirstSetLaws.{both_begins, differ_apart, either_begins, fixed_begins, map_begins}
+use Rattle.nom_write.specs.laws.FirstSetLaws.{both_begins, differ_apart, or_begins, fixed_begins, map_begins}
 use Rattle.nom_write.specs.laws.FirstSetLaws.{pair_begins, preceded_begins, tag_starts}
 use Rattle.nom_write.specs.laws.LeafReads.{binary_reads, tag_reads, tag_reads_some}
 use Rattle.nom_write.specs.laws.LengthReads.{length_data_reads, length_value_reads}
@@ -99,7 +99,7 @@ module _ {M : Type 0} (ping : ℕ → M) (text : Bytes → M) (close : M) where
   BodyForm v = Either (Either (PingForm v) (Any v) (TextForm v)) (Any v) (CloseForm v)
 
   two_begins : HasFirst bytes_model (λ c. c) (or_of ping_of text_of) (λ v. Either (PingForm v) (Any v) (TextForm v)) (Some ((1 ∷ []) ∷ (2 ∷ []) ∷ []))
-  two_begins = either_begins plain_errors ping_begins text_begins
+  two_begins = or_begins plain_errors ping_begins text_begins
 
   choice_reads : Reads bytes_model (or_of (or_of ping_of text_of) close_of) BodyForm (λ rest. (Anything rest × Anything rest) × Anything rest)
   choice_reads = either_reads plain_errors (differ_apart two_begins close_begins refl)

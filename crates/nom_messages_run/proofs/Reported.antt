@@ -8,10 +8,10 @@ use Rattle.nom_internal.specs.Promises.{HasNoFailure}
 use Rattle.nom.specs.grammars.Bytes.{Bytes}
 use Rattle.nom_messages_run.specs.declared.protocol.Message.{Message}
 use Rattle.nom_messages_run.specs.Protocol.{Body, body_of, messages_of}
-use Rattle.nom_run.specs.Report.{IsTold}
+use Rattle.nom_run.specs.Report.{IsAnswerReport}
 use Rattle.nom_run.specs.Texts.{bytes_text}
 use Rattle.nom_run.proofs.Reported.{reported}
-use Rattle.nom_run.proofs.Told.{lines-same}
+use Rattle.nom_run.proofs.JoinedLines.{lines-same}
 use Rattle.nom_messages_run.specs.Report.{ping_text, message_text, body_text, bodies_text, lines_of, message_grammar, IsReport}
 
 abbrev AreBodies : {A : Type 0} → List Body → Vec Message A → Type 0
@@ -33,7 +33,7 @@ pub reported_messages : {A : Type 0} (whole : Bytes) (cuts : List ℕ) (index st
     (index < length cuts → start ≡ slice_index cuts index) → (length cuts ≤ index → start ≡ length whole.now) → bytes_model.IsKnown whole →
     (answer : IResult Bytes (Vec Message A) (Error Bytes)) (text : List ℕ) (status : ℕ) →
     IsGrown bytes_model AreBodies message_grammar whole cuts index answer → HasNoFailure bytes_model message_grammar →
-    IsTold lines_of index start answer text status → IsReport whole.now cuts text status
+    IsAnswerReport lines_of index start answer text status → IsReport whole.now cuts text status
 unfolding IsReport
 reported_messages whole cuts index start at_cut at_end known answer text status g none t =
     reported message_grammar bodies_text AreBodies lines_of (λ ts v h. lines-same IsBody body_text message_text same_line ts v.items h) whole

@@ -13,7 +13,7 @@ use Rattle.nom_stream.specs.declared.stream.Stop.TheVariants as Stop
 use Rattle.nom_stream.specs.declared.stream.Stream.{Stream}
 use Rattle.nom_stream.specs.Held.{last_of}
 use Rattle.nom_stream.specs.Items.{Bytes}
-use Rattle.nom_stream.specs.Streams.{Answers, Decides, Told, counted}
+use Rattle.nom_stream.specs.Streams.{Answers, Decides, ItemResult, counted}
 use Rattle.nom_stream.specs.Streams.Answers.{Decided, AtEnd, Full, Faulted, Lacking}
 use Rattle.nom_stream.specs.Wholes.{AnswersWhole, AtWhole, BytesOfWhole, HasLeft, ItemsOfWhole, TellsWhole}
 use Rattle.nom_messages_run.specs.declared.messages.Received.{Received}
@@ -62,7 +62,7 @@ module _ {R A V : Type 0} (left : R → Option (List ℕ)) (grammar : Grammar By
     pub settings : t.settings ≡ s.settings
 
   -- every answer rests on meanings that are lawful where they are sound
-  lawful_of : grammar.meaning.IsSound → (u t : Stream R A) (r : Told Received) → Answers grammar u t r → IsLawful bytes_model grammar.meaning
+  lawful_of : grammar.meaning.IsSound → (u t : Stream R A) (r : ItemResult Received) → Answers grammar u t r → IsLawful bytes_model grammar.meaning
   lawful_of sound u t r (Decided taken d g l e) = g.parses.lawful sound
   lawful_of sound u t r (AtEnd e k g h) = g.parses.lawful sound
   lawful_of sound u t r (Full a b w e) = (w.1).parses.lawful sound

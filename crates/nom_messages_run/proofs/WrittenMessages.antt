@@ -38,17 +38,17 @@ module _ {V O : Type 0} (m : Meaning Bytes V (Error Bytes)) (IsOutput : V → O 
   begins_known x (AtCut h p) = p.known
   begins_known x (AtEnd h e) = subst bytes_model.IsKnown (sym e) known
 
-  abbrev Tells : IResult Bytes O (Error Bytes) → Outcome V → Type 0
-  Tells r o = (r ≡ Err OutOfMemory) ⊎ ((beginning : Bytes) × ParsesOutcome bytes_model IsOutput whole (m.blames true beginning) o r)
+  abbrev HasAnswer : IResult Bytes O (Error Bytes) → Outcome V → Type 0
+  HasAnswer r o = (r ≡ Err OutOfMemory) ⊎ ((beginning : Bytes) × ParsesOutcome bytes_model IsOutput whole (m.blames true beginning) o r)
 
   answered : (none : HasNoFailure bytes_model m) (never : m.NeverFails TooLarge) (x : Bytes)
       (r : IResult Bytes O (Error Bytes)) → IsBeginning bytes_model whole cuts index x →
-      AnswersOn bytes_model IsOutput m whole cuts index x r → (o : Outcome V) → m.answers true whole o → Tells r o
+      AnswersOn bytes_model IsOutput m whole cuts index x r → (o : Outcome V) → m.answers true whole o → HasAnswer r o
   answered none never x r begins (RanOutOn e h) o a = inl e
   answered none never x r begins (ShownOn b) o a =
       let same = b.stays (λ e. none TooLarge true x (begins_known x begins) never (subst (λ p. m.answers true x p) e b.answered)) o a in
       inr (x, subst (λ p. ParsesOutcome bytes_model IsOutput whole (m.blames true x) p r) same b.shown)
 
   pub of_whole : (r : IResult Bytes O (Error Bytes)) → IsGrown bytes_model IsOutput m whole cuts index r ×
-      HasNoFailure bytes_model m → m.NeverFails TooLarge → (o : Outcome V) → m.answers true whole o → Tells r o
+      HasNoFailure bytes_model m → m.NeverFails TooLarge → (o : Outcome V) → m.answers true whole o → HasAnswer r o
   of_whole r g never = answered g.1 never g.0.beginning r g.0.begins g.0.answer

@@ -13,7 +13,7 @@ use Rattle.nom_stream.specs.declared.stream.Stop.TheVariants as Stop
 use Rattle.nom_stream.specs.declared.stream.Stream.{Stream}
 use Rattle.nom_stream.specs.Held.{last_of}
 use Rattle.nom_stream.specs.Items.{Bytes}
-use Rattle.nom_stream.specs.Streams.{Decides, Told}
+use Rattle.nom_stream.specs.Streams.{Decides, ItemResult}
 use Rattle.nom_messages_run.specs.declared.messages.Received.{Received}
 use Rattle.nom_messages_run.specs.declared.messages.Received.TheVariants.{Ping, Text, Close}
 use Rattle.nom_messages_run.specs.Report.{ping_text}
@@ -51,7 +51,7 @@ ending_status (Some (Stop.Fault error)) = 3
 ending_status (Some Stop.OutOfMemory) = 3
 
 -- an answer of `next_item` that is no item
-abbrev pub stopped : Option Why.Stop → Told Received
+abbrev pub stopped : Option Why.Stop → ItemResult Received
 stopped None = Ok None
 stopped (Some why) = Err why
 

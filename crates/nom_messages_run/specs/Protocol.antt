@@ -24,6 +24,6 @@ messages_of = terminated_of (many0_of (length_value_of (number_of Big 2) (all_co
 
 -- What is answered is what the grammar makes of the whole, running out of memory aside: nothing tells where the cuts were, but an error, which
 -- holds the input as it was on a beginning.
-abbrev pub TellsWhole : {M : Type 0} → Bytes → IResult Bytes (Vec Message M) (Error Bytes) → Type 0
-TellsWhole {M} whole r = (o : Outcome (List Body)) → (messages_of {M = M}).meaning.answers true whole o → (r ≡ Err OutOfMemory) ⊎
+abbrev pub AnswersAll : {M : Type 0} → Bytes → IResult Bytes (Vec Message M) (Error Bytes) → Type 0
+AnswersAll {M} whole r = (o : Outcome (List Body)) → (messages_of {M = M}).meaning.answers true whole o → (r ≡ Err OutOfMemory) ⊎
     ((beginning : Bytes) × ParsesOutcome bytes_model (messages_of {M = M}).IsOutput whole ((messages_of {M = M}).meaning.blames true beginning) o r)

@@ -30,12 +30,12 @@ use Rattle.nom_messages_run.specs.declared.write.Unsent as Why
 use Rattle.nom_messages_run.specs.declared.write.Unsent.TheVariants as Unsent
 
 -- what is answered on a line
-abbrev pub Answers : List ℕ → IResult Bytes Message (Error Bytes) → Type 0
-Answers xs r = (line : Bytes) × (line.now ≡ xs) × Parses (typed_of (length xs - 5)) false line r
+abbrev pub AnswersBody : List ℕ → IResult Bytes Message (Error Bytes) → Type 0
+AnswersBody xs r = (line : Bytes) × (line.now ≡ xs) × Parses (typed_of (length xs - 5)) false line r
 
 -- a line stands for a message
-abbrev pub Says : List ℕ → Message → Type 0
-Says xs m = (rest : Bytes) × Answers xs (Ok (rest, m))
+abbrev pub SaysMessage : List ℕ → Message → Type 0
+SaysMessage xs m = (rest : Bytes) × AnswersBody xs (Ok (rest, m))
 
 -- it is refused
 abbrev pub IsStop : IResult Bytes Message (Error Bytes) → Type 0
@@ -46,7 +46,7 @@ IsStop (Err (Answer.Failure e)) = Unit {0}
 IsStop (Err (Answer.Incomplete k)) = Unit {0}
 
 abbrev pub IsRefused : List ℕ → Type 0
-IsRefused xs = (r : IResult Bytes Message (Error Bytes)) × IsStop r × Answers xs r
+IsRefused xs = (r : IResult Bytes Message (Error Bytes)) × IsStop r × AnswersBody xs r
 
 -- a line, without its end, came as the next one
 abbrev pub TakesLine : {R A : Type 0} → (R → Option (List ℕ)) → (s t : Stream R A) → List ℕ → Type 0
@@ -124,7 +124,7 @@ halt_by number Stop.OutOfMemory = Halt.OutOfMemory
 -- Why the line of a number isn't sent, and what halts for it: it is no message, or the message isn't sent.
 pub data HaltsLine {W B : Type 0} (room : ℕ) (a b : Outgoing W B) (xs : List ℕ) (number : ℕ) (h : Halts.Halt) : Type 0 where
   Refused : IsRefused xs → NoFault a.target.faults b.target.faults → h ≡ Halt.NoMessage number → HaltsLine room a b xs number h
-  NotSent : (m : Message) (why : Why.Unsent) → Says xs m → WhyUnsent a b room m why → h ≡ halt_for number why → HaltsLine room a b xs number h
+  NotSent : (m : Message) (why : Why.Unsent) → SaysMessage xs m → WhyUnsent a b room m why → h ≡ halt_for number why → HaltsLine room a b xs number h
 
 -- What halts after some messages, from states of a stream and of what is written to others, and why. Memory is wanted for a body alone that
 -- is longer than those before it.
@@ -146,7 +146,7 @@ pub data SentLines {R A W B : Type 0} (left : R → Option (List ℕ)) (contents
     (messages : List Message) (t : Stream R A) (b : Outgoing W B) → Type 0 where
   none : SentLines left contents s a [] s a
   line : {messages : List Message} {t u : Stream R A} {b c : Outgoing W B} (xs : List ℕ) (m : Message) →
-      SentLines left contents s a messages t b → TakesLine left t u xs → Says xs m → SendsMessage contents b c m →
+      SentLines left contents s a messages t b → TakesLine left t u xs → SaysMessage xs m → SendsMessage contents b c m →
       SentLines left contents s a (messages ++ m ∷ []) u c
 
 -- the lines before one were sent, and nothing of that; and what halted there, and why; and nothing was flushed

@@ -1,7 +1,7 @@
 //! The lines of messages that come one after another, from a reader of any length.
 ghost use Rattle.std.specs.Prelude.{◌≡◌, ◌++◌, ◌-◌, ◌<◌, ◌≤◌, ◌⊎◌, Err, IfOk, OnErr, OnOk, vec_capacity, vec_len};
 ghost use Rattle.nom_run.specs.Pieces.{HasRoom, Puts};
-ghost use Rattle.nom_run.specs.Runs.{Tells};
+ghost use Rattle.nom_run.specs.Runs.{WritesText};
 ghost use Rattle.nom_messages_run.specs.Pipe.{TellsMessages, ending_status, ending_text, received_text};
 ghost use Rattle.nom_messages_run.specs.Messages.{message_of};
 
@@ -75,7 +75,7 @@ fn end<A: Allocator, W: Sink>(
     offset: u64,
 ) -> Result<u8, RunError>
     requires { vec_len room.old ≤ 65536 }
-    ensures { Tells (λ text status. (text ≡ room.old.items ++ ending_text why offset) × (status ≡ ending_status why))
+    ensures { WritesText (λ text status. (text ≡ room.old.items ++ ending_text why offset) × (status ≡ ending_status why))
         (W.account sink.old) (W.account sink.new) ((sink.new ≡ sink.old) × (vec_capacity room.old < 65536)) result }
 {
     match take_room(room) {

@@ -3,7 +3,7 @@ ghost use Rattle.std.specs.Prelude.{◌≡◌};
 ghost use Rattle.nom_internal.specs.Prelude.{bytes_model};
 ghost use Rattle.nom_calls.specs.Growing.{AreCuts, IsGrown};
 ghost use Rattle.nom_internal.specs.Promises.{HasNoFailure};
-ghost use Rattle.nom_messages_run.specs.Protocol.{TellsWhole, messages_of};
+ghost use Rattle.nom_messages_run.specs.Protocol.{AnswersAll, messages_of};
 ghost use Rattle.nom_messages_run.specs.declared.protocol.Message.TheVariants.{Ping, Text, Close};
 
 use nom::branch::alt;
@@ -64,7 +64,7 @@ pub fn messages<'a, A: Allocator + Copy>(
     cuts: &[usize],
 ) -> Grown<&'a [u8], Vec<Message<'a>, A>, Error<&'a [u8]>>
     requires { AreCuts bytes_model bytes cuts.now }
-    ensures { TellsWhole bytes.entry result.result ×
+    ensures { AnswersAll bytes.entry result.result ×
         IsGrown bytes_model (messages_of {M = A}).IsOutput (messages_of {M = A}).meaning bytes.entry cuts.now result.index result.result ×
         HasNoFailure bytes_model (messages_of {M = A}).meaning }
 {

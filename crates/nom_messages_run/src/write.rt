@@ -1,7 +1,7 @@
 //! Messages that are written as they are typed.
 ghost use Rattle.std.specs.Prelude.{◌≡◌, ◌++◌, ◌≤◌, ℕ, List, [], IfErr, IfOk, MatchOption, string_bytes, take, vec_capacity};
 ghost use Rattle.nom_messages_run.specs.Forms.{IsBody, IsFrame, body_len};
-ghost use Rattle.nom_messages_run.specs.Sent.{HaltsLine, Says, SendsMessage, SendsNone, SentBefore, SentUntil};
+ghost use Rattle.nom_messages_run.specs.Sent.{HaltsLine, SaysMessage, SendsMessage, SendsNone, SentBefore, SentUntil};
 ghost use Rattle.nom_messages_run.specs.Sent.{WhyNoBody, WhyUnframed, WhyUnmade, WhyUnsent, halt_by, halt_for, halt_text, unsent_of};
 ghost use Rattle.nom_messages_run.specs.declared.protocol.Message.{Message};
 ghost use Rattle.nom_messages_run.specs.Sent as Sent;
@@ -169,7 +169,7 @@ fn write_line<W: Write, A: Allocator, B: Allocator>(
     number: u64,
     line: &[u8],
 ) -> Option<Halt>
-    ensures sent { MatchOption result ((m : Message) × Says line.now m × SendsMessage W.contents outgoing.old outgoing.new m ×
+    ensures sent { MatchOption result ((m : Message) × SaysMessage line.now m × SendsMessage W.contents outgoing.old outgoing.new m ×
         (body_len m ≤ vec_capacity room.new)) (λ h. SendsNone W.contents outgoing.old outgoing.new ×
         HaltsLine (vec_capacity room.old) outgoing.old outgoing.new line.now number h) }
     ensures flushes { outgoing.new.target.flushes ≡ outgoing.old.target.flushes }

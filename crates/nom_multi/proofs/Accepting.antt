@@ -4,7 +4,7 @@ use Rattle.std.proofs.lemmas.Bool.{le-ltb, ltb-false}
 use Rattle.std.proofs.Common.{◌≡◌, Bool, true, false, ℕ, ◌<◌, ◌≤◌, Some, None, refl}
 use Rattle.nom_internal.specs.Prelude.{Errors, Model, Accept, Meaning}
 use Rattle.nom_error.specs.declared.kind.ErrorKind.TheVariants as Kind
-use Rattle.nom_repeat.specs.Inverted.{Either, error_outcome}
+use Rattle.nom_repeat.specs.Inverted.{IfThenElse, error_outcome}
 use Rattle.nom_repeat.specs.laws.InvertedLaws.{no_accept}
 use Rattle.nom_repeat.specs.Items.{items_meaning}
 use Rattle.nom_repeat.specs.Accepted.{InTurn, AcceptsItems, AcceptsOneAndMore}
@@ -29,13 +29,13 @@ module _ {I A V E : Type 0} (w : Model I A) (errs : Errors I E) (m : Meaning I V
   many_m_n_accepts_items least most s i n vs = ((λ a. forward (ltb most least) refl a), (λ h. backward (ltb most least) refl h))
     where
       forward : (test : Bool) → ltb most least ≡ test →
-          Either test (Accept n vs ≡ error_outcome true)
+          IfThenElse test (Accept n vs ≡ error_outcome true)
           ((items_meaning w errs (bounded_limits Kind.ManyMN least most) (Unit {0}) m).answers s i (Accept n vs)) → (least ≤ most) ×
           InTurn w (m.answers s) (λ a. 0 < a) least (Some most) i n vs
       forward true e a = absurd (no_accept true n vs a)
       forward false e a = (ltb-false most least e, accepted_in_turn w errs (bounded_limits Kind.ManyMN least most) (Unit {0}) m s i n vs a)
 
       backward : (test : Bool) → ltb most least ≡ test → (least ≤ most) × InTurn w (m.answers s) (λ a. 0 < a) least (Some most) i n vs →
-          Either test (Accept n vs ≡ error_outcome true) ((items_meaning w errs (bounded_limits Kind.ManyMN least most) (Unit {0}) m).answers s i (Accept n vs))
+          IfThenElse test (Accept n vs ≡ error_outcome true) ((items_meaning w errs (bounded_limits Kind.ManyMN least most) (Unit {0}) m).answers s i (Accept n vs))
       backward true e h = let z : ltb most least ≡ false = le-ltb most least h.0 in absurd (cc (e, z))
       backward false e h = in_turn_accepted w errs (bounded_limits Kind.ManyMN least most) (Unit {0}) m s i n vs h.1

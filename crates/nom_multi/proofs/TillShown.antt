@@ -140,8 +140,8 @@ module _ {I A T V O E : Type 0} {w : Model I A} (errs : Errors I E) (m : Meaning
       (tt, subst (λ y. (end_or_item end m).answers mode.streaming j (Accept n y)) is a)
       (if_taken T ((mode.errors ≡ true) × errs.grows) (mode.outputs ≡ true) v n z o)
 
-  module _ {X : Type 0} {IsTold : T ⊎ V → X → Type 0} {f : Answer.Err E (Option E) Needed}
-      (h : ShowsAnswer w IsTold (modes true mode.errors mode.streaming) j ((end_or_item end m).answers mode.streaming j)
+  module _ {X : Type 0} {IsResult : T ⊎ V → X → Type 0} {f : Answer.Err E (Option E) Needed}
+      (h : ShowsAnswer w IsResult (modes true mode.errors mode.streaming) j ((end_or_item end m).answers mode.streaming j)
       ((end_or_item end m).blames mode.streaming j) ((end_or_item end m).may_run_out mode j) (Err f)) where
     pub till_refused : {x : Option E} → f ≡ Error x → (g : Answer.Err E (Option E) Needed) →
         ClosesError (errs.appended j Kind.ManyTill) errs.grows x g → ShowsTill w errs m end IsOutput mode i (Err g)

@@ -66,8 +66,6 @@ impl<'a, I: Items, T: Viewed + Drop, F: StreamParser<I, Output = T> + Drop> Stre
     for Fill<'a, F, T> {
     ghost use Rattle.nom_multi.specs.laws.FillLaws.{done_pinned, fill_steady};
 
-    ghost Pins = { λ _. Unit {0} };
-
     ghost pinned = { λ p k h. done_pinned };
 
     ghost steady = { λ s k. fill_steady I.lawful F.Error.errors s.1 (F.steady s.0 k) };

@@ -58,8 +58,6 @@ impl<I: Input, F: StreamParser<I, Output: ToUsize> + Drop> StreamParser<I> for L
     ghost use Rattle.nom_internal.specs.Pinned.{slice_pinned};
     ghost use Rattle.nom_multi.specs.laws.LengthLaws.{length_data_steady};
 
-    ghost Pins = { λ _. Unit {0} };
-
     ghost pinned = { λ p k h. record { one_view = λ t. (slice_pinned I.views).one_view t.1 } };
 
     ghost steady = { λ s k. length_data_steady I.lawful F.Error.errors I.lack k.1.1 (F.steady s k.0) };

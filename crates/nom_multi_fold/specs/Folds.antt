@@ -24,7 +24,7 @@ pub record AreCallable {T R : Type 0} (CanInit : Type 0) (Takes : R → T → Ty
 
 -- First values are equal as viewed, and so are the results for values and items that are. No verdict rests on it: it is asked only
 -- where outputs are compared.
-pub record FoldsAlike {T R : Type 0} (item : View T) (value : View R) (Inits : R → Type 0) (Gives : R → T → R → Type 0) : Type 0 where
+pub record FoldsConsistently {T R : Type 0} (item : View T) (value : View R) (Inits : R → Type 0) (Gives : R → T → R → Type 0) : Type 0 where
   pub first : (a b : R) → Inits a → Inits b → value.value a ≡ value.value b
   pub next : (a b : R) (x y : T) (c d : R) → value.value a ≡ value.value b → item.value x ≡ item.value y → Gives a x c → Gives b y d →
       value.value c ≡ value.value d

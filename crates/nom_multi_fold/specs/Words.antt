@@ -1,6 +1,6 @@
 -- The words of counts and folds.
 use Rattle.std.specs.Prelude.{◌≡◌, ℕ, List}
-use Rattle.std.proofs.Common.{ap, ap₂}
+use Rattle.std.proofs.Common.{ap}
 use Rattle.std.specs.declared.ops.Bound.{Bound}
 use Rattle.nom_error.specs.Errors.{Errors}
 use Rattle.nom_traits.specs.Input.{Model}
@@ -13,59 +13,47 @@ use Rattle.nom_multi_fold.specs.Ranges as Ranges
 
 -- a part of which nothing is built
 module _ {I O E : Type 0} where
-  abbrev dropped_meant : Word I O E → Word I (Unit {0}) E
-  dropped_meant g = word (record { meaning = dropped_meaning g.grammar.meaning; IsOutput = λ _ _. Unit {0} })
-
   pub dropped_of : Word I O E → Word I (Unit {0}) E
-  dropped_of g = dropped_meant g
+  dropped_of g = word (record { meaning = dropped_meaning g.grammar.meaning; IsOutput = λ _ _. Unit {0} })
 
   module _ {g h : Word I O E} where
-    pub dropped_worded : g ≡ h → dropped_of g ≡ dropped_meant h
+    pub dropped_worded : g ≡ h → dropped_of g ≡ word (record { meaning = dropped_meaning h.grammar.meaning; IsOutput = λ _ _. Unit {0} })
     unfolding dropped_of
-    dropped_worded p = ap dropped_meant p
+    dropped_worded p = ap dropped_of p
 
     pub dropped_same : g ≡ h → dropped_of g ≡ dropped_of h
     dropped_same p = ap dropped_of p
 
 module _ {I A O E : Type 0} (w : Model I A) (errs : Errors I E) where
-  abbrev many0_count_meant : Word I O E → Word I ℕ E
-  many0_count_meant g = word (Counts.many0_count_of w errs g.grammar)
-
   pub many0_count_of : Word I O E → Word I ℕ E
-  many0_count_of g = many0_count_meant g
+  many0_count_of g = word (Counts.many0_count_of w errs g.grammar)
 
   module _ {g h : Word I O E} where
-    pub many0_count_worded : g ≡ h → many0_count_of g ≡ many0_count_meant h
+    pub many0_count_worded : g ≡ h → many0_count_of g ≡ word (Counts.many0_count_of w errs h.grammar)
     unfolding many0_count_of
-    many0_count_worded p = ap many0_count_meant p
+    many0_count_worded p = ap many0_count_of p
 
     pub many0_count_same : g ≡ h → many0_count_of g ≡ many0_count_of h
     many0_count_same p = ap many0_count_of p
 
-  abbrev many1_count_meant : Word I O E → Word I ℕ E
-  many1_count_meant g = word (Counts.many1_count_of w errs g.grammar)
-
   pub many1_count_of : Word I O E → Word I ℕ E
-  many1_count_of g = many1_count_meant g
+  many1_count_of g = word (Counts.many1_count_of w errs g.grammar)
 
   module _ {g h : Word I O E} where
-    pub many1_count_worded : g ≡ h → many1_count_of g ≡ many1_count_meant h
+    pub many1_count_worded : g ≡ h → many1_count_of g ≡ word (Counts.many1_count_of w errs h.grammar)
     unfolding many1_count_of
-    many1_count_worded p = ap many1_count_meant p
+    many1_count_worded p = ap many1_count_of p
 
     pub many1_count_same : g ≡ h → many1_count_of g ≡ many1_count_of h
     many1_count_same p = ap many1_count_of p
 
-  abbrev many_m_n_count_meant : ℕ → ℕ → Word I O E → Word I ℕ E
-  many_m_n_count_meant least most g = word (Counts.many_m_n_count_of w errs least most g.grammar)
-
   pub many_m_n_count_of : ℕ → ℕ → Word I O E → Word I ℕ E
-  many_m_n_count_of least most g = many_m_n_count_meant least most g
+  many_m_n_count_of least most g = word (Counts.many_m_n_count_of w errs least most g.grammar)
 
   module _ {g h : Word I O E} where
-    pub many_m_n_count_worded : (least most : ℕ) → g ≡ h → many_m_n_count_of least most g ≡ many_m_n_count_meant least most h
+    pub many_m_n_count_worded : (least most : ℕ) → g ≡ h → many_m_n_count_of least most g ≡ word (Counts.many_m_n_count_of w errs least most h.grammar)
     unfolding many_m_n_count_of
-    many_m_n_count_worded least most p = ap (many_m_n_count_meant least most) p
+    many_m_n_count_worded least most p = ap (many_m_n_count_of least most) p
 
     pub many_m_n_count_same : {least least' most most' : ℕ} → least ≡ least' → most ≡ most' → g ≡ h →
         many_m_n_count_of least most g ≡ many_m_n_count_of least' most' h
@@ -73,34 +61,30 @@ module _ {I A O E : Type 0} (w : Model I A) (errs : Errors I E) where
 
 -- folds by closures: when the first can be called, what the second takes, which first values and which next values they make
 module _ {I A O R E : Type 0} (w : Model I A) (errs : Errors I E) where
-  abbrev fold_many0_meant : Type 0 → (R → O → Type 0) → (R → Type 0) → (R → O → R → Type 0) → Word I O E → Word I R E
-  fold_many0_meant CanInit Takes Inits Gives g = word (Folds.fold_many0_by w errs (AreCallable CanInit Takes) Inits Gives g.grammar)
-
   pub fold_many0_of : Type 0 → (R → O → Type 0) → (R → Type 0) → (R → O → R → Type 0) → Word I O E → Word I R E
-  fold_many0_of CanInit Takes Inits Gives g = fold_many0_meant CanInit Takes Inits Gives g
+  fold_many0_of CanInit Takes Inits Gives g = word (Folds.fold_many0_by w errs (AreCallable CanInit Takes) Inits Gives g.grammar)
 
   module _ {g h : Word I O E} where
     pub fold_many0_worded : (CanInit : Type 0) (Takes : R → O → Type 0) (Inits : R → Type 0) (Gives : R → O → R → Type 0) → g ≡ h →
-        fold_many0_of CanInit Takes Inits Gives g ≡ fold_many0_meant CanInit Takes Inits Gives h
+        fold_many0_of CanInit Takes Inits Gives g ≡
+        word (Folds.fold_many0_by w errs (AreCallable CanInit Takes) Inits Gives h.grammar)
     unfolding fold_many0_of
-    fold_many0_worded CanInit Takes Inits Gives p = ap (fold_many0_meant CanInit Takes Inits Gives) p
+    fold_many0_worded CanInit Takes Inits Gives p = ap (fold_many0_of CanInit Takes Inits Gives) p
 
     pub fold_many0_same : {CanInit CanInit' : Type 0} {Takes Takes' : R → O → Type 0} {Inits Inits' : R → Type 0} {Gives Gives' : R → O → R → Type 0} →
         CanInit ≡ CanInit' → Takes ≡ Takes' → Inits ≡ Inits' → Gives ≡ Gives' → g ≡ h →
         fold_many0_of CanInit Takes Inits Gives g ≡ fold_many0_of CanInit' Takes' Inits' Gives' h
     fold_many0_same a b c d p = λ i. fold_many0_of (a i) (b i) (c i) (d i) (p i)
 
-  abbrev fold_many1_meant : Type 0 → (R → O → Type 0) → (R → Type 0) → (R → O → R → Type 0) → Word I O E → Word I R E
-  fold_many1_meant CanInit Takes Inits Gives g = word (Folds.fold_many1_by w errs (AreCallable CanInit Takes) Inits Gives g.grammar)
-
   pub fold_many1_of : Type 0 → (R → O → Type 0) → (R → Type 0) → (R → O → R → Type 0) → Word I O E → Word I R E
-  fold_many1_of CanInit Takes Inits Gives g = fold_many1_meant CanInit Takes Inits Gives g
+  fold_many1_of CanInit Takes Inits Gives g = word (Folds.fold_many1_by w errs (AreCallable CanInit Takes) Inits Gives g.grammar)
 
   module _ {g h : Word I O E} where
     pub fold_many1_worded : (CanInit : Type 0) (Takes : R → O → Type 0) (Inits : R → Type 0) (Gives : R → O → R → Type 0) → g ≡ h →
-        fold_many1_of CanInit Takes Inits Gives g ≡ fold_many1_meant CanInit Takes Inits Gives h
+        fold_many1_of CanInit Takes Inits Gives g ≡
+        word (Folds.fold_many1_by w errs (AreCallable CanInit Takes) Inits Gives h.grammar)
     unfolding fold_many1_of
-    fold_many1_worded CanInit Takes Inits Gives p = ap (fold_many1_meant CanInit Takes Inits Gives) p
+    fold_many1_worded CanInit Takes Inits Gives p = ap (fold_many1_of CanInit Takes Inits Gives) p
 
     pub fold_many1_same : {CanInit CanInit' : Type 0} {Takes Takes' : R → O → Type 0} {Inits Inits' : R → Type 0} {Gives Gives' : R → O → R → Type 0} →
         CanInit ≡ CanInit' → Takes ≡ Takes' → Inits ≡ Inits' → Gives ≡ Gives' → g ≡ h →
@@ -148,16 +132,14 @@ module _ {I A O R E : Type 0} (w : Model I A) (errs : Errors I E) where
 
 -- a collection of items, by a range of counts
 module _ {I A O C E : Type 0} (w : Model I A) (errs : Errors I E) (items : C → List O) where
-  abbrev many_meant : Type 0 → Bound ℕ → Bound ℕ → Word I O E → Word I C E
-  many_meant IsSpent lower upper g = word (Ranges.many_of w errs IsSpent lower upper items g.grammar)
-
   pub many_of : Type 0 → Bound ℕ → Bound ℕ → Word I O E → Word I C E
-  many_of IsSpent lower upper g = many_meant IsSpent lower upper g
+  many_of IsSpent lower upper g = word (Ranges.many_of w errs IsSpent lower upper items g.grammar)
 
   module _ {g h : Word I O E} where
-    pub many_worded : (IsSpent : Type 0) (lower upper : Bound ℕ) → g ≡ h → many_of IsSpent lower upper g ≡ many_meant IsSpent lower upper h
+    pub many_worded : (IsSpent : Type 0) (lower upper : Bound ℕ) → g ≡ h → many_of IsSpent lower upper g ≡
+        word (Ranges.many_of w errs IsSpent lower upper items h.grammar)
     unfolding many_of
-    many_worded IsSpent lower upper p = ap (many_meant IsSpent lower upper) p
+    many_worded IsSpent lower upper p = ap (many_of IsSpent lower upper) p
 
     pub many_same : {IsSpent IsSpent' : Type 0} {lower lower' upper upper' : Bound ℕ} → IsSpent ≡ IsSpent' → lower ≡ lower' → upper ≡ upper' → g ≡ h →
         many_of IsSpent lower upper g ≡ many_of IsSpent' lower' upper' h

@@ -4,7 +4,7 @@ ghost use Rattle.nom_error.specs.declared.kind.ErrorKind.TheVariants as Kind;
 ghost use Rattle.nom_internal.specs.Prelude.{Built, modes, ShowsMeaning};
 ghost use Rattle.nom_repeat.specs.Bounds.{any_limits, one_limits};
 ghost use Rattle.nom_repeat.specs.declared.items.TooFew.TheVariants.{Fresh};
-ghost use Rattle.nom_multi_fold.specs.Folds.{Folds, AreCallable, FoldsAlike};
+ghost use Rattle.nom_multi_fold.specs.Folds.{Folds, AreCallable, FoldsConsistently};
 ghost use Rattle.nom_multi_fold.specs.FoldAlloc.{FoldsItem, IsValue, Starts, folded_meaning, fold_many0_alloc_by, fold_many1_alloc_by};
 ghost use Rattle.nom_multi_fold.specs.AllocWords as Words;
 
@@ -182,7 +182,7 @@ impl<
     ghost use Rattle.nom_multi_fold.specs.laws.FoldLaws.{folds_pinned};
     ghost use Rattle.nom_multi_fold.specs.laws.FoldAllocLaws.{fold_many0_alloc_steady};
 
-    ghost Pins = { λ p. F.Pins p.parser × FoldsAlike F.Output.view R.view (λ r. H.post p.init (Ok r)) (λ r x y. G.post p.fold r x (Ok y)) };
+    ghost Pins = { λ p. F.Pins p.parser × FoldsConsistently F.Output.view R.view (λ r. H.post p.init (Ok r)) (λ r x y. G.post p.fold r x (Ok y)) };
 
     ghost pinned = { λ p k h. folds_pinned (F.pinned p.parser k h.0) h.1 };
 
@@ -242,7 +242,7 @@ impl<
     ghost use Rattle.nom_multi_fold.specs.laws.FoldLaws.{folds_pinned};
     ghost use Rattle.nom_multi_fold.specs.laws.FoldAllocLaws.{fold_many1_alloc_steady};
 
-    ghost Pins = { λ p. F.Pins p.parser × FoldsAlike F.Output.view R.view (λ r. H.post p.init (Ok r)) (λ r x y. G.post p.fold r x (Ok y)) };
+    ghost Pins = { λ p. F.Pins p.parser × FoldsConsistently F.Output.view R.view (λ r. H.post p.init (Ok r)) (λ r x y. G.post p.fold r x (Ok y)) };
 
     ghost pinned = { λ p k h. folds_pinned (F.pinned p.parser k.0 h.0) h.1 };
 

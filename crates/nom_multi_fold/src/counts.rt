@@ -55,8 +55,6 @@ impl<I: Input, F: Parser<I> + Drop> Parser<I> for Many0Count<F> {
 impl<I: Input, F: StreamParser<I> + Drop> StreamParser<I> for Many0Count<F> {
     ghost use Rattle.nom_multi_fold.specs.laws.CountLaws.{number_pinned, many0_count_steady};
 
-    ghost Pins = { λ _. Unit {0} };
-
     ghost pinned = { λ p k h. number_pinned };
 
     ghost steady = { λ s k. many0_count_steady I.lawful F.Error.errors (F.steady s k) };
@@ -106,8 +104,6 @@ impl<I: Input, F: Parser<I> + Drop> Parser<I> for Many1Count<F> {
 
 impl<I: Input, F: StreamParser<I> + Drop> StreamParser<I> for Many1Count<F> {
     ghost use Rattle.nom_multi_fold.specs.laws.CountLaws.{counted_pinned, many1_count_steady};
-
-    ghost Pins = { λ _. Unit {0} };
 
     ghost pinned = { λ p k h. counted_pinned };
 
@@ -163,8 +159,6 @@ impl<I: Input, F: Parser<I> + Drop> Parser<I> for ManyMNCount<F> {
 
 impl<I: Input, F: StreamParser<I> + Drop> StreamParser<I> for ManyMNCount<F> {
     ghost use Rattle.nom_multi_fold.specs.laws.CountLaws.{number_pinned, many_m_n_count_steady};
-
-    ghost Pins = { λ _. Unit {0} };
 
     ghost pinned = { λ p k h. number_pinned };
 

@@ -1,6 +1,6 @@
 //! Folds of the items until one is refused.
 ghost use Rattle.std.specs.Prelude.{List, ℕ};
-ghost use Rattle.nom_multi_fold.specs.Folds.{Folds, AreCallable, FoldsAlike, fold_many0_by};
+ghost use Rattle.nom_multi_fold.specs.Folds.{Folds, AreCallable, FoldsConsistently, fold_many0_by};
 ghost use Rattle.nom_multi_fold.specs.Folds.{fold_many1_by, fold_many_m_n_by};
 ghost use Rattle.nom_multi_fold.specs.Words as Words;
 
@@ -68,7 +68,7 @@ impl<
 > StreamParser<I> for FoldMany0<F, H, G> {
     ghost use Rattle.nom_multi_fold.specs.laws.FoldLaws.{folds_pinned, fold_many0_steady};
 
-    ghost Pins = { λ p. F.Pins p.parser × FoldsAlike F.Output.view R.view (H.post p.init) (G.post p.fold) };
+    ghost Pins = { λ p. F.Pins p.parser × FoldsConsistently F.Output.view R.view (H.post p.init) (G.post p.fold) };
 
     ghost pinned = { λ p k h. folds_pinned (F.pinned p.parser k h.0) h.1 };
 
@@ -134,7 +134,7 @@ impl<
 > StreamParser<I> for FoldMany1<F, H, G> {
     ghost use Rattle.nom_multi_fold.specs.laws.FoldLaws.{folds_pinned, fold_many1_steady};
 
-    ghost Pins = { λ p. F.Pins p.parser × FoldsAlike F.Output.view R.view (H.post p.init) (G.post p.fold) };
+    ghost Pins = { λ p. F.Pins p.parser × FoldsConsistently F.Output.view R.view (H.post p.init) (G.post p.fold) };
 
     ghost pinned = { λ p k h. folds_pinned (F.pinned p.parser k.0 h.0) h.1 };
 
@@ -200,7 +200,7 @@ impl<
 > StreamParser<I> for FoldManyMN<F, H, G> {
     ghost use Rattle.nom_multi_fold.specs.laws.FoldLaws.{folds_pinned, fold_many_m_n_steady};
 
-    ghost Pins = { λ p. F.Pins p.parser × FoldsAlike F.Output.view R.view (H.post p.init) (G.post p.fold) };
+    ghost Pins = { λ p. F.Pins p.parser × FoldsConsistently F.Output.view R.view (H.post p.init) (G.post p.fold) };
 
     ghost pinned = { λ p k h. folds_pinned (F.pinned p.parser k h.0) h.1 };
 

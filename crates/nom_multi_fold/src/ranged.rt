@@ -1,7 +1,7 @@
 //! A number of items within a range of counts.
 ghost use Rattle.std.specs.Prelude.{List};
 ghost use Rattle.nom_error.specs.declared.kind.ErrorKind.TheVariants as Kind;
-ghost use Rattle.nom_multi_fold.specs.Folds.{AreCallable, FoldsAlike};
+ghost use Rattle.nom_multi_fold.specs.Folds.{AreCallable, FoldsConsistently};
 ghost use Rattle.nom_multi_fold.specs.Ranges.{many_of, fold_by};
 ghost use Rattle.nom_multi_fold.specs.Words as Words;
 
@@ -162,7 +162,7 @@ impl<
     ghost use Rattle.nom_multi_fold.specs.laws.FoldLaws.{folds_pinned};
     ghost use Rattle.nom_multi_fold.specs.laws.RangeLaws.{range_fold_steady};
 
-    ghost Pins = { λ p. F.Pins p.parser × FoldsAlike F.Output.view T.view (H.post p.init) (G.post p.fold) };
+    ghost Pins = { λ p. F.Pins p.parser × FoldsConsistently F.Output.view T.view (H.post p.init) (G.post p.fold) };
 
     ghost pinned = { λ p k h. folds_pinned (F.pinned p.parser k h.0) h.1 };
 

@@ -8,14 +8,12 @@ use Rattle.nom_number.specs.Numbers.{binary_number, number_meaning}
 
 -- `of_bits` is the number that bits stand for
 module _ {I E N : Type 0} (w : Model I ℕ) (errs : Errors I E) (of_bits : ℕ → N) where
-  abbrev number_meant : Endianness → ℕ → Word I N E
-  number_meant endian count = word (valued (number_meaning w errs (λ bytes. of_bits (binary_number endian bytes)) count))
-
   -- a number of that many bytes, in an order
   pub number_of : Endianness → ℕ → Word I N E
-  number_of endian count = number_meant endian count
+  number_of endian count = word (valued (number_meaning w errs (λ bytes. of_bits (binary_number endian bytes)) count))
 
-  pub number_worded : (endian : Endianness) (count : ℕ) → number_of endian count ≡ number_meant endian count
+  pub number_worded : (endian : Endianness) (count : ℕ) → number_of endian count ≡
+      word (valued (number_meaning w errs (λ bytes. of_bits (binary_number endian bytes)) count))
   unfolding number_of
   number_worded endian count = refl
 

@@ -69,8 +69,6 @@ impl<I: Input<Item = u8>, E: ParseError<I>> Parser<I> for BeU8<I, E> {
 }
 
 impl<I: Input<Item = u8>, E: ParseError<I>> StreamParser<I> for BeU8<I, E> {
-    ghost Pins = { λ _. Unit {0} };
-
     ghost pinned = { λ p k h. value_pinned };
 
     ghost steady = { λ _ k. labelled_steady (take_steady I.model E.errors (bytes_lack I.model) 1) };

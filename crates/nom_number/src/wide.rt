@@ -148,8 +148,6 @@ impl<F: Layout, I: Input<Item = u8>, E: ParseError<I>> Parser<I> for Binary<F, I
 }
 
 impl<F: Layout, I: Input<Item = u8>, E: ParseError<I>> StreamParser<I> for Binary<F, I, E> {
-    ghost Pins = { λ _. Unit {0} };
-
     ghost pinned = { λ p k h. value_pinned };
 
     ghost steady = { λ endian k. labelled_steady (take_steady I.model E.errors (bytes_lack I.model) F.BYTES) };

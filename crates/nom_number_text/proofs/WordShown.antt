@@ -10,7 +10,7 @@ use Rattle.nom_internal.specs.Prelude.{InputLaws, IsSuffixOf, items_len, rest_re
 use Rattle.nom_error.specs.declared.answer.Err as Answer
 use Rattle.nom_internal.proofs.Shown.{accepted, undecided, refused}
 use Rattle.nom_character_first.specs.FirstItem.{IsFirstItem}
-use Rattle.nom_character.specs.LineMatches.{Match, at_end, one_more}
+use Rattle.nom_character.specs.LineMatches.{Match, at_end, one_item_more}
 use Rattle.nom_character.specs.LineMatches.Match.{Full, Absent, Partial}
 use Rattle.nom_character.proofs.Lines.{after_head, before_rest}
 use Rattle.nom_number_text.specs.declared.word.WordAt.TheVariants as Found
@@ -27,7 +27,7 @@ later_none (Full n) = ap Full (omega arith)
 later_none Absent = refl
 later_none (Partial lack) = refl
 
-later_more : (k : ℕ) (a : Match) → later k (one_more a) ≡ later (k + 1) a
+later_more : (k : ℕ) (a : Match) → later k (one_item_more a) ≡ later (k + 1) a
 later_more k (Full n) = ap Full (omega arith)
 later_more k Absent = refl
 later_more k (Partial lack) = refl
@@ -109,7 +109,7 @@ module _ {I A : Type 0} (w : Model I A) (code : A → ℕ) (word : List ℕ) (i 
               rest_is = both;
               count_is = omega (arith, f.count_is, ap length front, length-append f.rest_is.front (x ∷ []));
               word_is = λ s. next_is s ∙ (ap (λ xs. later k (word_in code (c ∷ drop (k + 1) word) s xs)) items ∙
-                  (ap (later k) (by_letter (to_ascii_lowercase (code x) == c) (one_more (word_in code (drop (k + 1) word) s (w.elements m)))
+                  (ap (later k) (by_letter (to_ascii_lowercase (code x) == c) (one_item_more (word_in code (drop (k + 1) word) s (w.elements m)))
                   (is_letter (to_ascii_lowercase (code x)) c same)) ∙ later_more k (word_in code (drop (k + 1) word) s (w.elements m))));
             }
 

@@ -4,7 +4,7 @@ use Rattle.std.specs.Char.{to_ascii_lowercase}
 use Rattle.nom_error.specs.declared.kind.ErrorKind.TheVariants as Kind
 use Rattle.nom_internal.specs.Prelude.{Errors, Model, IsSuffixOf, Slice, renamed_meaning, Meaning, Grammar, sliced}
 use Rattle.nom_branch.specs.Alternatives.{next_meaning, choice_meaning, alt_of, or_of}
-use Rattle.nom_character.specs.LineMatches.{Match, at_end, one_more, match_meaning}
+use Rattle.nom_character.specs.LineMatches.{Match, at_end, one_item_more, match_meaning}
 use Rattle.nom_character.specs.LineMatches.Match.{Full, Absent}
 use Rattle.nom_number_text.specs.declared.word.WordAt.{WordAt}
 use Rattle.nom_number_text.specs.declared.word.WordAt.TheVariants as Found
@@ -17,7 +17,7 @@ module _ {A : Type 0} (code : A → ℕ) where
   abbrev pub word_in : (word : List ℕ) → (streaming : Bool) → List A → Match
   word_in [] streaming xs = Full 0
   word_in (c ∷ cs) streaming [] = at_end streaming (Some (length cs + 1)) Absent
-  word_in (c ∷ cs) streaming (x ∷ xs) = cond (to_ascii_lowercase (code x) == c) (one_more (word_in cs streaming xs)) Absent
+  word_in (c ∷ cs) streaming (x ∷ xs) = cond (to_ascii_lowercase (code x) == c) (one_item_more (word_in cs streaming xs)) Absent
 
 -- a word, refused with `Float`
 abbrev pub word_meaning : {I A E : Type 0} (w : Model I A) → (code : A → ℕ) → Errors I E → List ℕ → Meaning I (Slice w) E

@@ -69,8 +69,6 @@ impl<I: Input, E: ParseError<I>> StreamParser<I> for RecognizeFloat<I, E>
 where
     I::Item: AsChar,
 {
-    ghost Pins = { λ _. Unit {0} };
-
     ghost pinned = { λ p k h. slice_pinned I.views };
 
     ghost steady = { λ _ k. (float_stream I.model I.lawful I.Item.IsValue I.values I.Item.code E.errors).steady };

@@ -123,8 +123,6 @@ impl<I: Input, E: ParseError<I>> StreamParser<I> for HexU32<I, E>
 where
     I::Item: AsChar,
 {
-    ghost Pins = { λ _. Unit {0} };
-
     ghost pinned = { λ p k h. value_pinned };
 
     ghost steady = { λ _ k. (hex_stream I.model I.Item.code I.Item.IsValue I.values E.errors).steady };

@@ -197,8 +197,6 @@ impl<I: Input, E: ParseError<I>> StreamParser<I> for FloatParts<I, E>
 where
     I::Item: AsChar,
 {
-    ghost Pins = { λ _. Unit {0} };
-
     ghost pinned = { λ p k h. parts_pinned I.model I.views I.Item.code };
 
     ghost steady = { λ _ k. (parts_stream I.model I.lawful I.Item.IsValue I.values I.Item.code E.errors).steady };

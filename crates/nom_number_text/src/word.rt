@@ -120,8 +120,6 @@ impl<I: Input, E: ParseError<I>> StreamParser<I> for Word<I, E>
 where
     I::Item: AsChar,
 {
-    ghost Pins = { λ _. Unit {0} };
-
     ghost pinned = { λ p k h. slice_pinned I.views };
 
     ghost steady = { λ word k. (word_stream I.model I.Item.code E.errors (letters_of word)).steady };

@@ -1,7 +1,7 @@
 -- Lemmas on the steps of loops.
 use Rattle.std.specs.Prelude.{◌≡◌, ◌<◌, List, [], length, reverse, Option, Some, None}
 use Rattle.std.proofs.Common.{arith, subst, ap}
-use Rattle.nom_operators.specs.Steps.{IsNested, Joined, waiting}
+use Rattle.nom_operators.specs.Steps.{HasOutermost, Joined, waiting}
 use Rattle.nom_operators.specs.Steps.Joined.{OneJoined}
 
 -- the innermost was joined, and the next one is the innermost
@@ -17,13 +17,13 @@ pub joined_at : {X C : Type 0} (Gives : X → C → X → X → Type 0) (Fact : 
 joined_at Gives Fact s x innermost other outer y e j = subst (λ i. Joined Gives Fact s x (waiting i outer) y) e j
 
 -- with no innermost nothing waits
-pub none_waits : {E : Type 0} (innermost : Option E) (outer : List E) → innermost ≡ None → IsNested innermost outer → waiting innermost outer ≡ []
+pub none_waits : {E : Type 0} (innermost : Option E) (outer : List E) → innermost ≡ None → HasOutermost innermost outer → waiting innermost outer ≡ []
 none_waits (Some e) outer i n = absurd (cc (i))
 none_waits None outer i n = ap reverse n
 
 -- it was the last one, and nothing waits
 pub joined_end : {X C : Type 0} (Gives : X → C → X → X → Type 0) (Fact : C → Type 0) (s : List (X × C)) (x : X) (innermost : Option (X × C))
-    (outer : List (X × C)) (y : X) → innermost ≡ None → IsNested innermost outer → Joined Gives Fact s x (waiting innermost outer) y →
+    (outer : List (X × C)) (y : X) → innermost ≡ None → HasOutermost innermost outer → Joined Gives Fact s x (waiting innermost outer) y →
     Joined Gives Fact s x [] y
 joined_end Gives Fact s x innermost outer y e n j = subst (λ r. Joined Gives Fact s x r y) (none_waits innermost outer e n) j
 

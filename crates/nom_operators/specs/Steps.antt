@@ -9,9 +9,9 @@ waiting (Some e) outer = e ∷ reverse outer
 waiting None outer = reverse outer
 
 -- with no innermost there is none outside it
-abbrev pub IsNested : {E : Type 0} → Option E → List E → Type 0
-IsNested (Some e) outer = Unit {0}
-IsNested None outer = outer ≡ []
+abbrev pub HasOutermost : {E : Type 0} → Option E → List E → Type 0
+HasOutermost (Some e) outer = Unit {0}
+HasOutermost None outer = outer ≡ []
 
 module _ {X C : Type 0} (Gives : X → C → X → X → Type 0) (Fact : C → Type 0) (s : List (X × C)) (x : X) where
   -- From a stack and a value on, the innermost operators were joined, one after another, each one in which the fact holds: to a stack

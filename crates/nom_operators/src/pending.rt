@@ -5,9 +5,9 @@ ghost use Rattle.nom_operators.specs.Evaluations.{IsValueOf, PostfixGives, term_
 ghost use Rattle.nom_operators.specs.Groups.{is_left};
 ghost use Rattle.nom_operators.specs.OperatorTrees.{Symbol, ends_operand};
 ghost use Rattle.nom_operators.specs.OperatorTrees.Symbol.{OfBinary, OfOperand, OfPostfix};
-ghost use Rattle.nom_operators.specs.helpers.Pending.{EndsNone, HasRead, IsEnding, LacksRoom, PendingGives, WaitsBefore, level_of_pending, with_prefixes};
+ghost use Rattle.nom_operators.specs.helpers.Pending.{EndsNone, HasRead, IsEnding, StackLacksRoom, PendingGives, WaitsBefore, level_of_pending, with_prefixes};
 ghost use Rattle.nom_operators.specs.Prefixes.{prefixes_in};
-ghost use Rattle.nom_operators.specs.Steps.{IsNested, waiting};
+ghost use Rattle.nom_operators.specs.Steps.{HasOutermost, waiting};
 ghost use Rattle.nom_operators.specs.declared.operation.Operation.{Operation};
 ghost use Rattle.nom_operators.specs.declared.precedences.Unary.{Unary};
 ghost use Rattle.nom_operators.specs.declared.precedences.Binary.{Binary};
@@ -60,8 +60,8 @@ pub fn begin<
     requires empty { outer.old.items ≡ [] }
     ensures read { IfSome result (λ r. HasRead (G.post fold.now) (term_symbols (prefixes_in term.prefixes) term.operand term.postfixes.items)
         (waiting r.innermost outer.new.items) r.value) }
-    ensures nested { IfSome result (λ r. IsNested r.innermost outer.new.items) }
-    ensures full { result ≡ None → LacksRoom (vec_capacity outer.old) (length (prefixes_in term.prefixes)) }
+    ensures nested { IfSome result (λ r. HasOutermost r.innermost outer.new.items) }
+    ensures full { result ≡ None → StackLacksRoom (vec_capacity outer.old) (length (prefixes_in term.prefixes)) }
 {
     read_term(None, outer, term, fold)
 }
@@ -85,13 +85,13 @@ pub fn put_term<
     fold: &G,
 ) -> Option<Partial<P, B, Result<O, X>>>
     requires fold { (x : Operation P Q B O) → G.pre fold.now x }
-    requires nested { IsNested partial.innermost outer.old.items }
+    requires nested { HasOutermost partial.innermost outer.old.items }
     ensures read { IfSome result (λ r. (ss : List (Symbol (Unary P) O (Unary Q) (Binary B))) →
         HasRead (G.post fold.now) ss (waiting partial.innermost outer.old.items) partial.value →
         HasRead (G.post fold.now) (ss ++ OfBinary operator ∷ term_symbols (prefixes_in term.prefixes) term.operand term.postfixes.items)
         (waiting r.innermost outer.new.items) r.value) }
-    ensures nested { IfSome result (λ r. IsNested r.innermost outer.new.items) }
-    ensures full { result ≡ None → LacksRoom (vec_capacity outer.old)
+    ensures nested { IfSome result (λ r. HasOutermost r.innermost outer.new.items) }
+    ensures full { result ≡ None → StackLacksRoom (vec_capacity outer.old)
         (length (waiting partial.innermost outer.old.items) + (1 + length (prefixes_in term.prefixes))) }
 {
     let Partial { value, innermost } = partial;
@@ -126,7 +126,7 @@ pub fn value_of_all<
     fold: &G,
 ) -> Result<O, X>
     requires fold { (x : Operation P Q B O) → G.pre fold.now x }
-    requires nested { IsNested partial.innermost outer.items }
+    requires nested { HasOutermost partial.innermost outer.items }
     ensures { (ss : List (Symbol (Unary P) O (Unary Q) (Binary B))) →
         HasRead (G.post fold.now) ss (waiting partial.innermost outer.items) partial.value → IsValueOf (G.post fold.now) ss result }
 {
@@ -157,13 +157,13 @@ fn read_term<
     fold: &G,
 ) -> Option<Partial<P, B, Result<O, X>>>
     requires fold { (x : Operation P Q B O) → G.pre fold.now x }
-    requires nested { IsNested innermost outer.old.items }
+    requires nested { HasOutermost innermost outer.old.items }
     ensures read { IfSome result (λ r. (ss : List (Symbol (Unary P) O (Unary Q) (Binary B))) →
         WaitsBefore (G.post fold.now) ss (waiting innermost outer.old.items) →
         HasRead (G.post fold.now) (ss ++ term_symbols (prefixes_in term.prefixes) term.operand term.postfixes.items)
         (waiting r.innermost outer.new.items) r.value) }
-    ensures nested { IfSome result (λ r. IsNested r.innermost outer.new.items) }
-    ensures full { result ≡ None → LacksRoom (vec_capacity outer.old)
+    ensures nested { IfSome result (λ r. HasOutermost r.innermost outer.new.items) }
+    ensures full { result ≡ None → StackLacksRoom (vec_capacity outer.old)
         (length (waiting innermost outer.old.items) + length (prefixes_in term.prefixes)) }
 {
     let Term {
@@ -184,10 +184,10 @@ fn wait_all<P: Drop, B: Drop, R: Drop, A: Allocator>(
     outer: &mut Vec<Pending<P, B, R>, A>,
     prefixes: Prefixes<Unary<P>, A>,
 ) -> Option<Option<Pending<P, B, R>>>
-    requires nested { IsNested innermost outer.old.items }
+    requires nested { HasOutermost innermost outer.old.items }
     ensures waiting { IfSome result (λ new. waiting new outer.new.items ≡ with_prefixes (prefixes_in prefixes) (waiting innermost outer.old.items)) }
-    ensures nested { IfSome result (λ new. IsNested new outer.new.items) }
-    ensures full { result ≡ None → LacksRoom (vec_capacity outer.old)
+    ensures nested { IfSome result (λ new. HasOutermost new outer.new.items) }
+    ensures full { result ≡ None → StackLacksRoom (vec_capacity outer.old)
         (length (waiting innermost outer.old.items) + length (prefixes_in prefixes)) }
 {
     let Prefixes { first, more } = prefixes;
@@ -210,10 +210,10 @@ fn wait_list<P: Drop, B: Drop, R: Drop, A: Allocator>(
     outer: &mut Vec<Pending<P, B, R>, A>,
     prefixes: Vec<Unary<P>, A>,
 ) -> Option<Option<Pending<P, B, R>>>
-    requires nested { IsNested innermost outer.old.items }
+    requires nested { HasOutermost innermost outer.old.items }
     ensures waiting { IfSome result (λ new. waiting new outer.new.items ≡ with_prefixes prefixes.items (waiting innermost outer.old.items)) }
-    ensures nested { IfSome result (λ new. IsNested new outer.new.items) }
-    ensures full { result ≡ None → LacksRoom (vec_capacity outer.old)
+    ensures nested { IfSome result (λ new. HasOutermost new outer.new.items) }
+    ensures full { result ≡ None → StackLacksRoom (vec_capacity outer.old)
         (length (waiting innermost outer.old.items) + length prefixes.items) }
 {
     let mut inner = innermost;
@@ -246,11 +246,11 @@ fn apply_all<
     fold: &G,
 ) -> Partial<P, B, Result<O, X>>
     requires fold { (x : Operation P Q B O) → G.pre fold.now x }
-    requires nested { IsNested innermost outer.old.items }
+    requires nested { HasOutermost innermost outer.old.items }
     ensures read { (ss : List (Symbol (Unary P) O (Unary Q) (Binary B))) →
         WaitsBefore (G.post fold.now) ss (waiting innermost outer.old.items) →
         HasRead (G.post fold.now) (ss ++ OfOperand operand ∷ map OfPostfix postfixes.items) (waiting result.innermost outer.new.items) result.value }
-    ensures nested { IsNested result.innermost outer.new.items }
+    ensures nested { HasOutermost result.innermost outer.new.items }
 {
     let mut value = Ok(operand);
     let mut inner = innermost;
@@ -285,11 +285,11 @@ fn apply<
     fold: &G,
 ) -> (Result<O, X>, Option<Pending<P, B, Result<O, X>>>)
     requires fold { (x : Operation P Q B O) → G.pre fold.now x }
-    requires nested { IsNested innermost outer.old.items }
+    requires nested { HasOutermost innermost outer.old.items }
     ensures read { (ss : List (Symbol (Unary P) O (Unary Q) (Binary B))) →
         HasRead (G.post fold.now) ss (waiting innermost outer.old.items) value →
         HasRead (G.post fold.now) (ss ++ OfPostfix postfix ∷ []) (waiting result.1 outer.new.items) result.0 }
-    ensures nested { IsNested result.1 outer.new.items }
+    ensures nested { HasOutermost result.1 outer.new.items }
 {
     let (operand, under) = end_operands(innermost, outer, value, postfix.precedence, true, fold);
     (fold_postfix(fold, operand, postfix), under)
@@ -314,12 +314,12 @@ fn end_operands<
     fold: &G,
 ) -> (Result<O, X>, Option<Pending<P, B, Result<O, X>>>)
     requires fold { (x : Operation P Q B O) → G.pre fold.now x }
-    requires nested { IsNested innermost outer.old.items }
+    requires nested { HasOutermost innermost outer.old.items }
     ensures ended { (ss : List (Symbol (Unary P) O (Unary Q) (Binary B))) →
         IsEnding (G.post fold.now) precedence from_left ss (waiting innermost outer.old.items) value →
         IsEnding (G.post fold.now) precedence from_left ss (waiting result.1 outer.new.items) result.0 }
     ensures none { EndsNone (waiting result.1 outer.new.items) precedence from_left }
-    ensures nested { IsNested result.1 outer.new.items }
+    ensures nested { HasOutermost result.1 outer.new.items }
     ensures capacity { vec_capacity outer.new ≡ vec_capacity outer.old }
     ensures fewer { length (waiting result.1 outer.new.items) ≤ length (waiting innermost outer.old.items) }
 {

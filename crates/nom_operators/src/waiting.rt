@@ -2,7 +2,7 @@
 ghost use Rattle.std.specs.Prelude.{◌≡◌, ◌<◌, ◌≤◌, ℕ, [], IfSome, IsTrue, None, false, true, length, reverse, vec_len, vec_capacity};
 ghost use Rattle.nom_operators.specs.Closes.{Closes, GoesUnder, UnderInnermost};
 ghost use Rattle.nom_operators.specs.Groups.{groups_left};
-ghost use Rattle.nom_operators.specs.Steps.{IsNested, Joined, Pushed, waiting};
+ghost use Rattle.nom_operators.specs.Steps.{HasOutermost, Joined, Pushed, waiting};
 ghost use Rattle.nom_operators.specs.declared.operation.Operation.{Operation};
 ghost use Rattle.nom_operators.specs.declared.operation.Operation.TheVariants.{Binary};
 
@@ -30,10 +30,10 @@ pub fn put<P: Drop, Q: Drop, B: Drop, O: Drop, A: Allocator, G: Fn(Operation<P, 
     fold: &G,
 ) -> Option<Held<O, B>>
     requires fold { (x : Operation P Q B O) → G.pre fold.now x }
-    requires nested { IsNested held.innermost outer.old.items }
+    requires nested { HasOutermost held.innermost outer.old.items }
     ensures pushed { IfSome result (λ new. Pushed (groups_left levels.now) (λ c. c.0) (λ x c y z. G.post fold.now (Binary x c.1 y) z)
         (waiting held.innermost outer.old.items) held.value operator right (waiting new.innermost outer.new.items) new.value) }
-    ensures nested { IfSome result (λ new. IsNested new.innermost outer.new.items) }
+    ensures nested { IfSome result (λ new. HasOutermost new.innermost outer.new.items) }
     ensures full { result ≡ None → vec_capacity outer.old ≤ vec_len outer.old }
 {
     let Held { value, innermost } = held;
@@ -59,7 +59,7 @@ pub fn close_all<
     G: Fn(Operation<P, Q, B, O>) -> O,
 >(held: Held<O, B>, mut outer: Vec<(O, (usize, B)), A>, fold: &G) -> O
     requires fold { (x : Operation P Q B O) → G.pre fold.now x }
-    requires nested { IsNested held.innermost outer.items }
+    requires nested { HasOutermost held.innermost outer.items }
     ensures { Joined (λ x c y z. G.post fold.now (Binary x c.1 y) z) (λ _. Unit {0}) (waiting held.innermost outer.items) held.value [] result }
 {
     let Held { value, innermost } = held;
@@ -83,11 +83,11 @@ fn close<P: Drop, Q: Drop, B: Drop, O: Drop, A: Allocator, G: Fn(Operation<P, Q,
     fold: &G,
 ) -> (O, Option<(O, (usize, B))>)
     requires fold { (x : Operation P Q B O) → G.pre fold.now x }
-    requires nested { IsNested innermost outer.old.items }
+    requires nested { HasOutermost innermost outer.old.items }
     ensures joined { Joined (λ x c y z. G.post fold.now (Binary x c.1 y) z) (λ c. Closes (groups_left levels.now) level c.0)
         (waiting innermost outer.old.items) value (waiting result.1 outer.new.items) result.0 }
     ensures under { UnderInnermost (groups_left levels.now) (λ c. c.0) level (waiting result.1 outer.new.items) }
-    ensures nested { IsNested result.1 outer.new.items }
+    ensures nested { HasOutermost result.1 outer.new.items }
     ensures room { (vec_capacity outer.new ≡ vec_capacity outer.old) × (vec_len outer.new ≤ vec_len outer.old) }
 {
     let mut value = value;
@@ -106,7 +106,7 @@ fn close<P: Drop, Q: Drop, B: Drop, O: Drop, A: Allocator, G: Fn(Operation<P, Q,
 #[inline(always)]
 pub fn next<E: Drop, A: Allocator>(outer: &mut Vec<E, A>) -> Option<E>
     ensures next { reverse outer.old.items ≡ waiting result outer.new.items }
-    ensures nested { IsNested result outer.new.items }
+    ensures nested { HasOutermost result outer.new.items }
     ensures room { (vec_capacity outer.new ≡ vec_capacity outer.old) × (vec_len outer.new ≤ vec_len outer.old) }
 {
     match outer.pop() {

@@ -8,8 +8,8 @@ use Rattle.nom.specs.Repeat.Turn.{Takes, Ends}
 use Rattle.nom.proofs.Parts.{part_refused, part_failed, part_lacks, part_ran_out}
 use Rattle.nom.proofs.Repeated.{Collected, collected_more, consumes, ended, ended_after, failed, is_empty, lacking, ran_out, ran_out_within}
 use Rattle.nom_precedence.specs.Chains.{read_turn, chain_turn, IfTakes, chain_rule, chained, chain_meaning}
-use Rattle.nom_precedence.specs.Told.{IsRead, ShowsTold}
-use Rattle.nom_precedence.specs.Told.IsRead.{IsWhole, IsStuck}
+use Rattle.nom_precedence.specs.Readings.{IsRead, ShowsBuilt}
+use Rattle.nom_precedence.specs.Readings.IsRead.{IsWhole, IsStuck}
 use Rattle.nom_precedence.specs.declared.read.Read.{Read}
 use Rattle.nom_precedence.specs.declared.read.Read.TheVariants.{Whole, Stuck}
 use Rattle.nom_precedence.proofs.ReadShown.{Item, of_answers, stuck_of}
@@ -38,7 +38,7 @@ Chain w Part Held i j = Collected w (TurnsBy None (λ _ a. chain_turn a) (λ _. 
 abbrev pub ShowsChain : {I A V X E : Type 0} (w : Model I A) (Grows : Type 0) (Part : I → Outcome (Read V) → Type 0) (Blames : I → E → Type 0)
     (RunsOut : I → Type 0) (IsOutput : List V → X → Type 0) (outputs errors streaming : Bool) (i : I) → PResult I (Read (Option X)) E → Type 0
 ShowsChain w Grows Part Blames RunsOut IsOutput outputs errors streaming i r =
-    ShowsTold w (IsRead outputs IsOutput) (chain_meaning w Grows (of_answers Part Blames RunsOut)) (modes outputs errors streaming) i r
+    ShowsBuilt w (IsRead outputs IsOutput) (chain_meaning w Grows (of_answers Part Blames RunsOut)) (modes outputs errors streaming) i r
 
 module _ {I A V X E : Type 0} {w : Model I A} {Grows : Type 0} {Part : I → Outcome (Read V) → Type 0} {Blames : I → E → Type 0} {RunsOut : I → Type 0}
     {IsOutput : List V → X → Type 0} {outputs errors streaming : Bool} {Held : List V → Type 0} {i j : I} (c : Chain w Part Held i j) where
@@ -57,28 +57,28 @@ module _ {I A V X E : Type 0} {w : Model I A} {Grows : Type 0} {Part : I → Out
         {IsOutput = IsRead outputs IsOutput} {mode = modes outputs errors streaming} c (Some (Accept item.length (Whole item.tree))) (tt, item.answered)
         (subst (IfTakes ((outputs ≡ true) × Grows)) (taken_turn item.tree item.length (consumes item.rest_is p q e)) (o, g))))
 
-  module _ {Y : Type 0} {IsTold : Read V → Y → Type 0} {built told : Bool} where
+  module _ {Y : Type 0} {IsResult : Read V → Y → Type 0} {built told : Bool} where
     module _ {f : Answer.Err E (Option E) Needed} where
       -- the next one is refused
-      pub chain_ended : {b : Option E} → f ≡ Error b → ShowsAnswer w IsTold (modes built told streaming) j (Part j) (Blames j) (RunsOut j) (Err f) →
+      pub chain_ended : {b : Option E} → f ≡ Error b → ShowsAnswer w IsResult (modes built told streaming) j (Part j) (Blames j) (RunsOut j) (Err f) →
           {x : Option X} → Built outputs (IsOutput c.trees) x →
           ShowsChain w Grows Part Blames RunsOut IsOutput outputs errors streaming i (Ok (j, Some (Whole x)))
       chain_ended e s {x} h = not_ran_out _ (λ e. cc (e)) (ended (chain_rule Grows) chained (always (of_answers Part Blames RunsOut))
           {IsOutput = IsRead outputs IsOutput} {mode = modes true errors streaming} c (Some Refuse) (tt, part_refused e s) (Whole tt) refl
           {b = Some (Whole x)} (Whole x, refl, IsWhole c.trees x refl refl h))
 
-      pub chain_failed : {x : E} → f ≡ Failure x → ShowsAnswer w IsTold (modes built told streaming) j (Part j) (Blames j) (RunsOut j) (Err f) →
+      pub chain_failed : {x : E} → f ≡ Failure x → ShowsAnswer w IsResult (modes built told streaming) j (Part j) (Blames j) (RunsOut j) (Err f) →
           ShowsChain w Grows Part Blames RunsOut IsOutput outputs errors streaming i (Err (Failure x))
       chain_failed {x} e s = let p = part_failed e s in
           not_ran_out _ (λ y. cc (y)) (failed (chain_rule Grows) chained (always (of_answers Part Blames RunsOut)) {IsOutput = IsRead outputs IsOutput}
           {mode = modes true errors streaming} c (Some (Stop (Fails p.0))) (tt, p.1) p.0 refl x (tt, p.2))
 
-      pub chain_lacks : {k : Needed} → f ≡ Incomplete k → ShowsAnswer w IsTold (modes built told streaming) j (Part j) (Blames j) (RunsOut j) (Err f) →
+      pub chain_lacks : {k : Needed} → f ≡ Incomplete k → ShowsAnswer w IsResult (modes built told streaming) j (Part j) (Blames j) (RunsOut j) (Err f) →
           ShowsChain w Grows Part Blames RunsOut IsOutput outputs errors streaming i (Err (Incomplete k))
       chain_lacks {k} e s = not_ran_out _ (λ y. cc (y)) (lacking (chain_rule Grows) chained (always (of_answers Part Blames RunsOut))
           {IsOutput = IsRead outputs IsOutput} {mode = modes true errors streaming} c (Some (Stop (Needs (size_of k)))) (tt, part_lacks e s) refl)
 
-      pub chain_ran_out : f ≡ OutOfMemory → ShowsAnswer w IsTold (modes built told streaming) j (Part j) (Blames j) (RunsOut j) (Err f) →
+      pub chain_ran_out : f ≡ OutOfMemory → ShowsAnswer w IsResult (modes built told streaming) j (Part j) (Blames j) (RunsOut j) (Err f) →
           ShowsChain w Grows Part Blames RunsOut IsOutput outputs errors streaming i (Err OutOfMemory)
       chain_ran_out e s = RanOut refl (part_ran_out refl (ran_out_within (chain_rule Grows) chained (always (of_answers Part Blames RunsOut))
           {IsOutput = IsRead outputs IsOutput} {mode = modes outputs errors streaming} c tt (part_ran_out e s)))

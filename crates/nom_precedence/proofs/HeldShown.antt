@@ -3,13 +3,13 @@ use Rattle.std.proofs.Common.{◌≡◌, ℕ, Bool, true, false, Option, Some, N
 use Rattle.std.specs.Prelude.{IfSome, IsSome}
 use Rattle.nom.specs.Prelude.{Built, BuiltFrom, BuiltFromBoth}
 use Rattle.nom.proofs.Accumulating.{zip_push}
-use Rattle.nom_operators.specs.Steps.{IsNested, Joined, Made, Pushed, Runs, waiting}
+use Rattle.nom_operators.specs.Steps.{HasOutermost, Joined, Made, Pushed, Runs, waiting}
 use Rattle.nom_operators.proofs.StepsShown.{none_waits}
 use Rattle.nom_operators.proofs.Runs.{runs_more}
-use Rattle.nom_precedence.specs.Told.{OfPairs}
+use Rattle.nom_precedence.specs.Readings.{OfPairs}
 use Rattle.nom_precedence.proofs.ReadShown.{built_from, built_from_both}
 
-none_nested : {E : Type 0} (innermost : Option E) (outer : List E) → innermost ≡ None → outer ≡ [] → IsNested innermost outer
+none_nested : {E : Type 0} (innermost : Option E) (outer : List E) → innermost ≡ None → outer ≡ [] → HasOutermost innermost outer
 none_nested (Some e) outer i o = absurd (cc (i))
 none_nested None outer i o = o
 
@@ -23,7 +23,7 @@ module _ {X C V K : Type 0} (left : ℕ → Bool) (of : C → ℕ) (Gives : X �
   -- the outputs of pairs came in turn after the first value
   pub record HasRun (before : Option X) (outer : List (X × C)) (vs : List V) (k : K) : Type 0 where
     pub run : OfPairs IsPair before vs (λ x os. Runs left of Gives [] x os (waiting (innermost k) outer) (value k))
-    pub nested : IsNested (innermost k) outer
+    pub nested : HasOutermost (innermost k) outer
 
   module _ (before : Option X) (builds : Bool) (outer : List (X × C)) (held : Option K) where
     -- none yet
@@ -40,7 +40,7 @@ module _ {X C V K : Type 0} (left : ℕ → Bool) (of : C → ℕ) (Gives : X �
       -- one more
       pub run_more : (rest : List (X × C)) (v : V) (new : Option K) (item : Option (C × X)) →
           BuiltFromBoth true (λ k p n. Pushed left of Gives (waiting (innermost k) outer) (value k) p.0 p.1 (waiting (innermost n) rest) (value n)
-          × IsNested (innermost n) rest) held item new → Built builds (HasRun before outer vs) held → Built builds (IsPair v) item →
+          × HasOutermost (innermost n) rest) held item new → Built builds (HasRun before outer vs) held → Built builds (IsPair v) item →
           Built builds (HasRun before rest (vs ++ v ∷ [])) new
       run_more rest v new item g b c = built_from_both builds held item new (λ k p n h i s.
           let r = h.run in
@@ -55,10 +55,10 @@ module _ {X C V K : Type 0} (left : ℕ → Bool) (of : C → ℕ) (Gives : X �
             nested = s.1;
           }) b c g
 
-      pub run_nested : Built builds (HasRun before outer vs) held → IfSome held (λ k. IsNested (innermost k) outer)
+      pub run_nested : Built builds (HasRun before outer vs) held → IfSome held (λ k. HasOutermost (innermost k) outer)
       run_nested h = by builds held h
         where
-          by : (b : Bool) (k : Option K) → Built b (HasRun before outer vs) k → IfSome k (λ k. IsNested (innermost k) outer)
+          by : (b : Bool) (k : Option K) → Built b (HasRun before outer vs) k → IfSome k (λ k. HasOutermost (innermost k) outer)
           by true k h = rw h.1 h.2.nested
           by false k h = rw h tt
 

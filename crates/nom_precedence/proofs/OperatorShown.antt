@@ -12,7 +12,7 @@ use Rattle.nom.proofs.Shown.{accepts, output_err, err_from_residual, built_error
 use Rattle.nom.specs.Inverted.{GivesFailure}
 use Rattle.nom_precedence.specs.Operators.{HasLevel, if_level, operator_case, operator_meaning}
 use Rattle.nom_precedence.specs.Stuck.{freed_case, freed_meaning}
-use Rattle.nom_precedence.specs.Told.{IsRead, ShowsTold}
+use Rattle.nom_precedence.specs.Readings.{IsRead, ShowsBuilt}
 use Rattle.nom_precedence.specs.Values.{IsOwn}
 use Rattle.nom_precedence.specs.declared.read.Read.{Read}
 use Rattle.nom_precedence.specs.declared.read.Read.TheVariants.{Whole, Stuck}
@@ -26,7 +26,7 @@ level_of own is fact = record { value = own.0; is_value = record { output = own;
 -- what an operator shows, by what the part answers
 abbrev pub ShowsOwn : {I A P H E : Type 0} (w : Model I A) (errs : Errors I E) (levels : ℕ) (IsBinary : P → ℕ × H → Type 0) (mode : Modes)
     (Answers : I → Outcome P → Type 0) (Blames : I → E → Type 0) (RunsOut : I → Type 0) (i : I) → PResult I (ℕ × H) E → Type 0
-ShowsOwn w errs levels IsBinary mode Answers Blames RunsOut i r = ShowsTold w (IsOwn IsBinary)
+ShowsOwn w errs levels IsBinary mode Answers Blames RunsOut i r = ShowsBuilt w (IsOwn IsBinary)
     (operator_meaning errs (HasLevel IsBinary (λ o. o.0)) levels (of_answers Answers Blames RunsOut)) mode i r
 
 module _ {I A P H E : Type 0} {w : Model I A} (errs : Errors I E) (levels : ℕ) {IsBinary : P → ℕ × H → Type 0} {errors streaming : Bool} {i : I}
@@ -76,7 +76,7 @@ module _ {I A V X E : Type 0} {w : Model I A} (errs : Errors I E) {IsOutput : V 
   -- a part that is told, closed
   pub closed_read : {before r : PResult I (Read (Option X)) E} →
       ShowsAnswer w (IsRead outputs IsOutput) (modes true errors streaming) i (Answers i) (Blames i) (RunsOut i) before →
-      ClosesResult (errs.appended i Kind.Precedence) errs.grows before r → ShowsTold w (IsRead outputs IsOutput)
+      ClosesResult (errs.appended i Kind.Precedence) errs.grows before r → ShowsBuilt w (IsRead outputs IsOutput)
       (closed_meaning (λ i. errs.appended i Kind.Precedence) errs.grows (of_answers Answers Blames RunsOut)) (modes outputs errors streaming) i r
   closed_read {before} {r} h g = closed_shown w (IsRead outputs IsOutput) (modes true errors streaming) i (of_answers Answers Blames RunsOut)
       (λ i. errs.appended i Kind.Precedence) errs.grows before r h g

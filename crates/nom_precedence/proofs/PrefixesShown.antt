@@ -1,6 +1,6 @@
 -- Lemmas on the prefixes of a term.
 use Rattle.std.proofs.Common.{◌≡◌, ◌++◌, List, [], ◌∷◌, refl, sym, subst}
-use Rattle.nom_precedence.specs.Told.{Before}
+use Rattle.nom_precedence.specs.Readings.{Before}
 
 -- prefixes, the last of which is applied first
 pub before_last : {P X : Type 0} (Gives : P → X → X → Type 0) (items rest : List P) (p : P) (x y z : X) → items ≡ rest ++ p ∷ [] → Gives p x y →

@@ -6,9 +6,9 @@ use Rattle.nom.specs.Err as Answer
 use Rattle.nom.proofs.Cased.{here, labels_err}
 use Rattle.nom.proofs.Choices.{built_fact}
 use Rattle.nom.proofs.Shown.{ShowsThen, accepts, then_ok, output_ok}
-use Rattle.nom_precedence.specs.Stuck.{both, read_map}
-use Rattle.nom_precedence.specs.Told.{AreKept, IsRead, Reading, ShowsRead, ShowsTold}
-use Rattle.nom_precedence.specs.Told.IsRead.{IsWhole, IsStuck}
+use Rattle.nom_precedence.specs.Stuck.{both_read, read_map}
+use Rattle.nom_precedence.specs.Readings.{AreKept, IsRead, Reading, ShowsRead, ShowsBuilt}
+use Rattle.nom_precedence.specs.Readings.IsRead.{IsWhole, IsStuck}
 use Rattle.nom_precedence.specs.declared.read.Read.{Read}
 use Rattle.nom_precedence.specs.declared.read.Read.TheVariants.{Whole, Stuck}
 
@@ -92,7 +92,7 @@ module _ {I A V Y E : Type 0} {w : Model I A} {IsItem : V → Y → Type 0} {out
       let a = accepts h in
       (a.length, subst (λ u. Answers (Accept a.length u)) (is_stuck (built_fact true _ _ _ a.built_is refl)) a.answered, a.rest_is)
 
-  -- what follows a part that was read whole answers for both: it is stuck, or whole
+  -- what follows a part that was read whole answers for both_read: it is stuck, or whole
   module _ {T Z : Type 0} {IsResult : T → Z → Type 0} {f : V → T} where
     pub stuck_after : ShowsAnswer w (IsRead outputs IsItem) (modes true errors streaming) i Answers IsError RunsOut (Ok (j, Some Stuck)) →
         ShowsAnswer w (λ u. IsRead outputs IsResult (read_map f u)) (modes true errors streaming) i Answers IsError RunsOut (Ok (j, Some Stuck))
@@ -116,7 +116,7 @@ module _ {I A V X E : Type 0} {w : Model I A} {IsOutput : V → X → Type 0} {o
 
   pub whole_err : {Blames : I → E → Type 0} {RunsOut : I → Type 0} {f : Answer.Err E (Option E) Needed} →
       ShowsAnswer w IsOutput (modes outputs errors streaming) i (Answers i) (Blames i) (RunsOut i) (Err f) →
-      ShowsTold w (IsRead outputs IsOutput) (labelled_meaning Whole (of_answers Answers Blames RunsOut)) (modes outputs errors streaming) i (Err f)
+      ShowsBuilt w (IsRead outputs IsOutput) (labelled_meaning Whole (of_answers Answers Blames RunsOut)) (modes outputs errors streaming) i (Err f)
   whole_err {Blames} {RunsOut} {f} h =
       labels_err w Whole IsOutput (IsRead outputs IsOutput) (of_answers Answers Blames RunsOut) true (modes outputs errors streaming) i f h
 
@@ -140,7 +140,7 @@ module _ {I A V W T X Z E : Type 0} {w : Model I A} (l : InputLaws w) {tree : V 
   -- a first part is stuck, after which nothing is read
   pub first_stuck : Next Stuck j (Accept 0 Stuck) →
       ShowsAnswer w (IsRead outputs IsFirst) (modes true errors streaming) i (First i) (FirstBlames i) (FirstRunsOut i) (Ok (j, Some Stuck)) →
-      ShowsThen w (both tree) First FirstBlames FirstRunsOut Next NextBlames NextRunsOut (IsRead outputs IsResult) (modes true errors streaming) i
+      ShowsThen w (both_read tree) First FirstBlames FirstRunsOut Next NextBlames NextRunsOut (IsRead outputs IsResult) (modes true errors streaming) i
       (Ok (j, Some Stuck))
   first_stuck a h = then_ok l h (λ u p.
       let e = is_stuck (built_fact true _ _ _ p refl) in
@@ -148,17 +148,17 @@ module _ {I A V W T X Z E : Type 0} {w : Model I A} (l : InputLaws w) {tree : V 
         j,
         Some Stuck,
         record { known = (accepts h).rest_is.known; front = []; whole = refl; length_is = refl; mark_is = sym (l.mark_none (w.mark j)) },
-        (Stuck, refl, IsStuck (ap (λ v. both tree v Stuck) e) refl),
+        (Stuck, refl, IsStuck (ap (λ v. both_read tree v Stuck) e) refl),
         refl,
       ))
 
-  -- it was read whole, and what follows answers for both
+  -- it was read whole, and what follows answers for both_read
   pub first_whole : {x : Option X} {r : PResult I (Read (Option Z)) E} →
       ShowsAnswer w (IsRead outputs IsFirst) (modes true errors streaming) i (First i) (FirstBlames i) (FirstRunsOut i) (Ok (j, Some (Whole x))) →
-      ((v : V) → Built outputs (IsFirst v) x → ShowsAnswer w (λ u. IsRead outputs IsResult (both tree (Whole v) u)) (modes true errors streaming) j
+      ((v : V) → Built outputs (IsFirst v) x → ShowsAnswer w (λ u. IsRead outputs IsResult (both_read tree (Whole v) u)) (modes true errors streaming) j
       (Next (Whole v) j) (NextBlames (Whole v) j) (NextRunsOut (Whole v) j) r) →
-      ShowsThen w (both tree) First FirstBlames FirstRunsOut Next NextBlames NextRunsOut (IsRead outputs IsResult) (modes true errors streaming) i r
+      ShowsThen w (both_read tree) First FirstBlames FirstRunsOut Next NextBlames NextRunsOut (IsRead outputs IsResult) (modes true errors streaming) i r
   first_whole {r = r} h k = then_ok l h (λ u p.
       let t = is_whole (built_fact true _ _ _ p refl) in
-      subst (λ v. ShowsAnswer w (λ u. IsRead outputs IsResult (both tree v u)) (modes true errors streaming) j (Next v j) (NextBlames v j)
+      subst (λ v. ShowsAnswer w (λ u. IsRead outputs IsResult (both_read tree v u)) (modes true errors streaming) j (Next v j) (NextBlames v j)
       (NextRunsOut v j) r) (sym t.1) (k t.0 t.2))

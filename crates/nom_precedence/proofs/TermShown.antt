@@ -4,7 +4,7 @@ use Rattle.std.specs.List.{AllZip}
 use Rattle.nom.specs.Prelude.{Built, BuiltFrom, BuiltFromBoth}
 use Rattle.nom.specs.Accumulated.{Adds, Accumulated}
 use Rattle.nom_precedence.specs.Expressions.{Tail, term_of}
-use Rattle.nom_precedence.specs.Told.{AppliedPushes, Before}
+use Rattle.nom_precedence.specs.Readings.{AppliedPushes, Before}
 use Rattle.nom_precedence.specs.Values.{PostfixesBy, PrefixesBy, TailBy, TermBy}
 use Rattle.nom_operators.proofs.PrefixesShown.{ListPushes, list_of_none}
 use Rattle.nom_precedence.proofs.ReadShown.{built_from_both}

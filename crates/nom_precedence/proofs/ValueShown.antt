@@ -8,7 +8,7 @@ use Rattle.nom_operators.specs.Steps.{Made}
 use Rattle.nom_operators.specs.Trees.Tree.{Leaf, Node}
 use Rattle.nom_operators.specs.declared.operation.Operation.TheVariants.{Binary}
 use Rattle.nom_precedence.specs.Expressions.{Term}
-use Rattle.nom_precedence.specs.Told.{IsPairOf, OfPairs}
+use Rattle.nom_precedence.specs.Readings.{IsPairOf, OfPairs}
 use Rattle.nom_precedence.specs.Values.{Folding, IsOwn, TermGives, StandsFor}
 
 zip_map : {V T : Type 0} (P Q : V → T → Type 0) (vs : List V) (ts : List T) → ((v : V) (t : T) → P v t → Q v t) → AllZip P vs ts → AllZip Q vs ts

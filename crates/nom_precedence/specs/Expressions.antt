@@ -39,14 +39,14 @@ term_meaning w prefix operand postfix = read_both w term_of (affixes_meaning w (
 abbrev pub Pair : Type 0 → Type 0 → Type 0
 Pair B T = (ℕ × B) × T
 
-abbrev pub pair_meaning : {I A T B E : Type 0} → Model I A → Meaning I (ℕ × B) E → Meaning I (Read T) E → Meaning I (Read (Pair B T)) E
-pair_meaning w operator term = read_next w (λ o t. (o, t)) operator term
+abbrev pub operator_pair_meaning : {I A T B E : Type 0} → Model I A → Meaning I (ℕ × B) E → Meaning I (Read T) E → Meaning I (Read (Pair B T)) E
+operator_pair_meaning w operator term = read_next w (λ o t. (o, t)) operator term
 
 -- A first term, to whose refusal `Precedence` is added at the start; and then pairs of an operator and a term, as many as are accepted.
 -- Where an operator or its term is refused, the pairs end before that operator. All is read whole, or an item is stuck.
 abbrev pub read_meaning : {I A T B E : Type 0} → Model I A → Errors I E → Meaning I (ℕ × B) E → Meaning I (Read T) E → Meaning I (Read (T × List (Pair B T))) E
 read_meaning w errs operator term = read_both w (λ t ps. (t, ps)) (closed_meaning (λ i. errs.appended i Kind.Precedence) errs.grows term)
-    (chain_meaning w (Unit {0}) (pair_meaning w operator term))
+    (chain_meaning w (Unit {0}) (operator_pair_meaning w operator term))
 
 -- What is read whole is accepted. Where an item is stuck, the expression is refused there.
 abbrev pub expression_meaning : {I A T B E : Type 0} → Model I A → Errors I E → Meaning I (ℕ × B) E → Meaning I (Read T) E → Meaning I (T × List (Pair B T)) E

@@ -3,7 +3,7 @@ pub mod Expressions
 pub mod Operators
 pub mod Premises
 pub mod Stuck
-pub mod Told
+pub mod Readings
 pub mod Values
 pub mod Words
 pub mod laws

@@ -27,7 +27,7 @@ module _ {I A V E : Type 0} {w : Model I A} {p : Premises} {m : Meaning I V E} w
     consistent = l.consistent;
     frugal = λ mode i k h. l.frugal mode i k (g.frugal mode h);
     settles = λ h. l.settles (g.settles h);
-    blames_alike = λ h. l.blames_alike (g.settles h);
+    blames_consistent = λ h. l.blames_consistent (g.settles h);
     never_fails = λ cause h. l.never_fails cause (g.never_fails cause h);
   }
 

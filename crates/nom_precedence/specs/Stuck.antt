@@ -13,10 +13,10 @@ abbrev pub read_map : {V W : Type 0} → (V → W) → Read V → Read W
 read_map f (Whole v) = Whole (f v)
 read_map f Stuck = Stuck
 
--- both are read whole, or one is stuck
-abbrev pub both : {V W T : Type 0} → (V → W → T) → Read V → Read W → Read T
-both f (Whole v) r = read_map (f v) r
-both f Stuck r = Stuck
+-- both_read are read whole, or one is stuck
+abbrev pub both_read : {V W T : Type 0} → (V → W → T) → Read V → Read W → Read T
+both_read f (Whole v) r = read_map (f v) r
+both_read f Stuck r = Stuck
 
 -- after what is stuck nothing is read
 abbrev pub read_after : {I V W E : Type 0} → Meaning I (Read W) E → Read V → Meaning I (Read W) E
@@ -28,7 +28,7 @@ unless_stuck m = record { at = read_after m; Runs = m.Runs; IsSound = m.IsSound;
 
 -- a part, and another after it, unless it is stuck
 abbrev pub read_both : {I A V W T E : Type 0} → Model I A → (V → W → T) → Meaning I (Read V) E → Meaning I (Read W) E → Meaning I (Read T) E
-read_both w tree a b = then_meaning w (both tree) (λ o. o) (λ o. o) a (unless_stuck b)
+read_both w tree a b = then_meaning w (both_read tree) (λ o. o) (λ o. o) a (unless_stuck b)
 
 -- a part that is never stuck, and another after it
 abbrev pub read_next : {I A V W T E : Type 0} → Model I A → (V → W → T) → Meaning I V E → Meaning I (Read W) E → Meaning I (Read T) E

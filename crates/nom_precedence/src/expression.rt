@@ -1,7 +1,7 @@
 //! Expressions.
 ghost use Rattle.std.specs.Prelude.{◌≡◌, List, length};
 ghost use Rattle.nom.specs.Prelude.{modes};
-ghost use Rattle.nom_precedence.specs.Told.{AreKept, ShowsRead, whole_by};
+ghost use Rattle.nom_precedence.specs.Readings.{AreKept, ShowsRead, whole_by};
 ghost use Rattle.nom_precedence.specs.Values.{folding, precedence_by};
 ghost use Rattle.nom_operators.specs.Groups.{groups_left};
 ghost use Rattle.nom_operators.specs.declared.operation.Operation.{Operation};
@@ -97,9 +97,9 @@ impl<
     G: Fn(Operation<P::Output, Q::Output, B, F::Output>) -> F::Output,
 > StreamParser<I> for Precedence<'l, A, P, F, Q, C, B, G> {
     ghost use Rattle.nom_precedence.specs.laws.ExpressionLaws.{precedence_steady};
-    ghost use Rattle.nom_precedence.specs.laws.ValueLaws.{GivesAlike, folding_pinned};
+    ghost use Rattle.nom_precedence.specs.laws.ValueLaws.{GivesConsistently, folding_pinned};
 
-    ghost Pins = { λ p. P.Pins p.prefix × F.Pins p.operand × Q.Pins p.postfix × C.Pins p.binary × GivesAlike
+    ghost Pins = { λ p. P.Pins p.prefix × F.Pins p.operand × Q.Pins p.postfix × C.Pins p.binary × GivesConsistently
         (folding (P.grammar (P.state p.prefix)).IsOutput (F.grammar (F.state p.operand)).IsOutput (Q.grammar (Q.state p.postfix)).IsOutput
         (C.grammar (C.state p.binary)).IsOutput (G.post p.fold)) P.Output.view Q.Output.view B.view F.Output.view };
 

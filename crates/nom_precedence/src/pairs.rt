@@ -2,8 +2,8 @@
 ghost use Rattle.std.specs.Prelude.{◌≡◌, ◌≤◌, [], IfSome, IsSome, None, true, length, vec_capacity, vec_len};
 ghost use Rattle.nom.specs.Prelude.{Built, BuiltFrom, BuiltFromBoth, modes};
 ghost use Rattle.nom_operators.specs.Groups.{groups_left};
-ghost use Rattle.nom_operators.specs.Steps.{IsNested, Joined, Pushed, waiting};
-ghost use Rattle.nom_precedence.specs.Told.{AreKept, ShowsRead, ShowsTold, operator_of, pair_by, pairs_by, term_by};
+ghost use Rattle.nom_operators.specs.Steps.{HasOutermost, Joined, Pushed, waiting};
+ghost use Rattle.nom_precedence.specs.Readings.{AreKept, ShowsRead, ShowsBuilt, operator_of, pair_by, pairs_by, term_by};
 ghost use Rattle.nom_operators.specs.declared.operation.Operation.{Operation};
 ghost use Rattle.nom_operators.specs.declared.operation.Operation.TheVariants.{Binary};
 
@@ -24,7 +24,7 @@ fn operator<OM: OutputMode, I: Input, B: Drop, C: Parser<I, Output = (usize, B)>
 ) -> PResult<I, (usize, B), C::Error>
     requires { (C.grammar (C.state binary.old)).meaning.Runs }
     ensures shown { let own = operator_of C.Error.errors (length levels.now) (C.grammar (C.state binary.old)) in
-        ShowsTold I.model own.IsOutput own.meaning (modes OM.Output.BUILDS OM.Error.BUILDS OM.Incomplete.STREAMING) input result }
+        ShowsBuilt I.model own.IsOutput own.meaning (modes OM.Output.BUILDS OM.Error.BUILDS OM.Incomplete.STREAMING) input result }
     ensures kept { C.state binary.new ≡ C.state binary.old }
 {
     let (rest, read) = binary.process::<OutputM<Emit, OM::Error, OM::Incomplete>>(input)?;
@@ -116,10 +116,10 @@ fn grown<P: Drop, Q: Drop, B: Drop, O: Drop, A: Allocator, G: Fn(Operation<P, Q,
     fold: &G,
 ) -> Option<Option<Held<O, B>>>
     requires fold { (x : Operation P Q B O) → G.pre fold.now x }
-    requires nested { IfSome held (λ k. IsNested k.innermost outer.old.items) }
+    requires nested { IfSome held (λ k. HasOutermost k.innermost outer.old.items) }
     ensures grown { IfSome result (λ new. BuiltFromBoth true (λ k p n. Pushed (groups_left levels.now) (λ c. c.0)
         (λ x c y z. G.post fold.now (Binary x c.1 y) z) (waiting k.innermost outer.old.items) k.value p.0 p.1 (waiting n.innermost outer.new.items) n.value
-        × IsNested n.innermost outer.new.items) held pair new) }
+        × HasOutermost n.innermost outer.new.items) held pair new) }
     ensures full { result ≡ None → IsSome held × (vec_capacity outer.old ≤ vec_len outer.old) }
 {
     match (held, pair) {
@@ -142,7 +142,7 @@ fn finished<P: Drop, Q: Drop, B: Drop, O: Drop, A: Allocator, G: Fn(Operation<P,
     fold: &G,
 ) -> Option<O>
     requires fold { (x : Operation P Q B O) → G.pre fold.now x }
-    requires nested { IfSome held (λ k. IsNested k.innermost outer.items) }
+    requires nested { IfSome held (λ k. HasOutermost k.innermost outer.items) }
     ensures { BuiltFrom true (λ k y. Joined (λ x c y z. G.post fold.now (Binary x c.1 y) z) (λ _. Unit {0}) (waiting k.innermost outer.items) k.value [] y)
         held result }
 {

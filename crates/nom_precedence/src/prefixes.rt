@@ -1,5 +1,5 @@
 //! The value of a term under its prefixes.
-ghost use Rattle.nom_precedence.specs.Told.{Before};
+ghost use Rattle.nom_precedence.specs.Readings.{Before};
 ghost use Rattle.nom_operators.specs.Prefixes.{prefixes_in};
 ghost use Rattle.nom_operators.specs.declared.operation.Operation.{Operation};
 ghost use Rattle.nom_operators.specs.declared.operation.Operation.TheVariants.{Prefix};

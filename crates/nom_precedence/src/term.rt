@@ -1,7 +1,7 @@
 //! Terms: prefixes, an operand, postfixes.
 ghost use Rattle.std.specs.Prelude.{◌≡◌, IsSome, None, Some, true, MatchOption};
 ghost use Rattle.nom.specs.Prelude.{BuiltFrom, BuiltFromBoth, modes};
-ghost use Rattle.nom_precedence.specs.Told.{AppliedPushes, Before, ShowsRead, tail_by, term_by};
+ghost use Rattle.nom_precedence.specs.Readings.{AppliedPushes, Before, ShowsRead, tail_by, term_by};
 ghost use Rattle.nom_operators.specs.Prefixes.{prefixes_in};
 ghost use Rattle.nom_operators.specs.declared.operation.Operation.{Operation};
 ghost use Rattle.nom_operators.specs.declared.operation.Operation.TheVariants.{Postfix, Prefix};

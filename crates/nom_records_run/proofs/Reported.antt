@@ -5,9 +5,9 @@ use Rattle.nom_internal.specs.Prelude.{IResult, bytes_model, Slice, Cause}
 use Rattle.nom_internal.specs.Promises.{HasNoFailure}
 use Rattle.nom_calls.specs.Growing.{IsGrown}
 use Rattle.nom.specs.grammars.Bytes.{Bytes, BytesGrammar, Big, length_data_of, many0_of, number_of, preceded_of, tag_of, terminated_of}
-use Rattle.nom_run.specs.Report.{IsTold}
+use Rattle.nom_run.specs.Report.{IsAnswerReport}
 use Rattle.nom_run.proofs.Reported.{reported}
-use Rattle.nom_run.proofs.Told.{lines-same}
+use Rattle.nom_run.proofs.JoinedLines.{lines-same}
 use Rattle.nom_records_run.specs.Report.{record_of, records_of, record_text, records_text, lines_of, record_grammar, IsReport}
 
 -- the grammar, by the tags that its records begin with and that it ends with
@@ -26,7 +26,7 @@ pub reported_records : {A : Type 0} (whole : Bytes) (cuts : List ℕ) (index sta
     (index < length cuts → start ≡ slice_index cuts index) → (length cuts ≤ index → start ≡ length whole.now) → bytes_model.IsKnown whole →
     (answer : IResult Bytes (Vec Bytes A) (Error Bytes)) (text : List ℕ) (status : ℕ) →
     IsGrown bytes_model (records_of {M = A}).IsOutput record_grammar whole cuts index answer × HasNoFailure bytes_model record_grammar →
-    IsTold lines_of index start answer text status → IsReport whole.now cuts text status
+    IsAnswerReport lines_of index start answer text status → IsReport whole.now cuts text status
 unfolding IsReport
 reported_records {A} whole cuts index start at_cut at_end known answer text status g t =
     reported record_grammar records_text (records_of {M = A}).IsOutput lines_of

@@ -4,9 +4,9 @@ use Rattle.nom_internal.specs.Prelude.{Errors, Modes, ErrorKind, Needed, Failure
 use Rattle.nom_error.specs.declared.answer.Err as Answer
 
 -- the first fact where the test holds, and else the second
-abbrev pub Either : Bool → Type 0 → Type 0 → Type 0
-Either true P Q = P
-Either false P Q = Q
+abbrev pub IfThenElse : Bool → Type 0 → Type 0 → Type 0
+IfThenElse true P Q = P
+IfThenElse false P Q = Q
 
 -- a failure (true) or a refusal (false)
 abbrev pub error_outcome : {V : Type 0} → Bool → Outcome V
@@ -23,12 +23,12 @@ abbrev pub error_if : {I V E : Type 0} → Errors I E → ErrorKind → Bool →
 error_if {V = V} errs kind fails test m = record {
   Runs = m.Runs;
   IsSound = m.IsSound;
-  answers = λ s i o. Either test (o ≡ error_outcome fails) (m.answers s i o);
-  blames = λ s i e. Either test (errs.of_kind i kind e) (m.blames s i e);
-  may_run_out = λ mode i. Either test (HasError fails mode × errs.grows) (m.may_run_out mode i);
-  IsFrugal = λ mode. Either test (HasError fails mode → errs.grows → ⊥) (m.IsFrugal mode);
+  answers = λ s i o. IfThenElse test (o ≡ error_outcome fails) (m.answers s i o);
+  blames = λ s i e. IfThenElse test (errs.of_kind i kind e) (m.blames s i e);
+  may_run_out = λ mode i. IfThenElse test (HasError fails mode × errs.grows) (m.may_run_out mode i);
+  IsFrugal = λ mode. IfThenElse test (HasError fails mode → errs.grows → ⊥) (m.IsFrugal mode);
   Settles = m.Settles;
-  NeverFails = λ cause. Either test (error_outcome {V = V} fails ≡ Stop (Fails cause) → ⊥) (m.NeverFails cause);
+  NeverFails = λ cause. IfThenElse test (error_outcome {V = V} fails ≡ Stop (Fails cause) → ⊥) (m.NeverFails cause);
 }
 
 -- a failure, with its error, or there is no memory for it

@@ -18,16 +18,16 @@ just it = record { wanted = it ∷ []; more = false }
 
 -- e is a, where the thing is wanted there; a and the thing at the end, where there are fewer than eight; and a that tells of more where there
 -- are eight
-pub data Adds (a : Kept) (it : Wanted) (e : Kept) : Type 0 where
-  IsKnown : IsAmong a.wanted it → e ≡ a → Adds a it e
+pub data AddsExpectation (a : Kept) (it : Wanted) (e : Kept) : Type 0 where
+  IsKnown : IsAmong a.wanted it → e ≡ a → AddsExpectation a it e
   HasRoom : (IsAmong a.wanted it → ⊥) → length a.wanted < 8 →
-      e ≡ record { wanted = a.wanted ++ (it ∷ []); more = a.more } → Adds a it e
-  IsLeftOut : (IsAmong a.wanted it → ⊥) → length a.wanted ≡ 8 → e ≡ record { wanted = a.wanted; more = true } → Adds a it e
+      e ≡ record { wanted = a.wanted ++ (it ∷ []); more = a.more } → AddsExpectation a it e
+  IsLeftOut : (IsAmong a.wanted it → ⊥) → length a.wanted ≡ 8 → e ≡ record { wanted = a.wanted; more = true } → AddsExpectation a it e
 
 -- one after another
 abbrev pub AddsEach : Kept → List Wanted → Kept → Type 0
 AddsEach a [] e = e ≡ a
-AddsEach a (it ∷ more) e = (b : Kept) × Adds a it b × AddsEach b more e
+AddsEach a (it ∷ more) e = (b : Kept) × AddsExpectation a it b × AddsEach b more e
 
 -- what a wants, and then what b wants besides; it tells of more where either does
 pub record Joins (a b e : Kept) : Type 0 where

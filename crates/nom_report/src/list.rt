@@ -1,7 +1,7 @@
 //! The expectations of a report.
 ghost use Rattle.std.specs.Prelude.{◌≡◌, map};
 ghost use Rattle.nom_report.specs.Wanted.{seen};
-ghost use Rattle.nom_report.specs.Kept.{Adds, Joins, just, kept};
+ghost use Rattle.nom_report.specs.Kept.{AddsExpectation, Joins, just, kept};
 
 use crate::expectation::{Expected, is_in};
 use crate::several::{MOST_EXPECTED, Several};
@@ -39,10 +39,10 @@ impl Expectations {
         self.more
     }
 
-    // Adds one, unless it is there.
+    // AddsExpectation one, unless it is there.
     #[inline(always)]
     pub fn add(&mut self, it: Expected)
-        ensures { Adds (kept self.old) (seen it) (kept self.new) }
+        ensures { AddsExpectation (kept self.old) (seen it) (kept self.new) }
     {
         if is_in(self.as_slice(), &it) {
             return;
@@ -54,7 +54,7 @@ impl Expectations {
         }
     }
 
-    // Adds those of another, which were wanted at the same place.
+    // AddsExpectation those of another, which were wanted at the same place.
     #[inline(always)]
     pub fn join(&mut self, other: &Expectations)
         ensures { Joins (kept self.old) (kept other.now) (kept self.new) }

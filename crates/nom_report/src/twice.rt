@@ -1,12 +1,37 @@
 //! Parsing in which accepted input builds no errors, or only small ones.
-ghost use Rattle.std.specs.Prelude.{◌≡◌, true, false};
+ghost use Rattle.std.specs.Prelude.{◌≡◌, MatchOption, true, false};
 ghost use Rattle.nom_internal.specs.Prelude.{Parses};
 ghost use Rattle.nom_report.specs.InTurn.{ParsesInTurn};
 
 use nom_error::answer::{Err, IResult};
-use nom_error::mode::{Check, Complete, Emit, OutputM, Streaming};
+use nom_error::mode::{Check, Complete, Emit, IsStreaming, OutputM, Streaming};
 use nom_internal::parser::Parser;
 use nom_traits::input::Items;
+
+/// Returns the answer of a parser that builds no errors of refusals, or `None` if it refuses or memory runs out.
+#[inline(always)]
+fn without_errors<I: Items, P: Parser<I>, S: IsStreaming>(
+    parser: &mut P,
+    input: I,
+) -> Option<IResult<I, P::Output, P::Error>>
+    requires { (P.grammar (P.state parser.old)).meaning.Runs }
+    ensures shown { MatchOption result (Unit {0}) (Parses I.model (P.grammar (P.state parser.old)) S.STREAMING input) }
+    ensures kept { P.state parser.new ≡ P.state parser.old }
+{
+    match parser.process::<OutputM<Emit, Check, S>>(input) {
+        Ok(accepted) => {
+            let (rest, output) = accepted;
+            match output {
+                Some(output) => Some(Ok((rest, output))),
+                None => unreachable!(),
+            }
+        }
+        Err(Err::Incomplete(needed)) => Some(Err(Err::Incomplete(needed))),
+        Err(Err::Failure(error)) => Some(Err(Err::Failure(error))),
+        Err(Err::Error(_)) => None,
+        Err(Err::OutOfMemory) => None,
+    }
+}
 
 /// Answers like `parse_complete`, and builds no errors of refusals for accepted input.
 ///
@@ -24,18 +49,9 @@ pub fn parse_complete_twice<I: Items, P: Parser<I>>(
     ensures shown { Parses I.model (P.grammar (P.state parser.old)) false input result }
     ensures kept { P.state parser.new ≡ P.state parser.old }
 {
-    match parser.process::<OutputM<Emit, Check, Complete>>(input) {
-        Ok(accepted) => {
-            let (rest, output) = accepted;
-            match output {
-                Some(output) => Ok((rest, output)),
-                None => unreachable!(),
-            }
-        }
-        Err(Err::Incomplete(needed)) => Err(Err::Incomplete(needed)),
-        Err(Err::Failure(error)) => Err(Err::Failure(error)),
-        Err(Err::Error(_)) => parser.parse_complete(input),
-        Err(Err::OutOfMemory) => parser.parse_complete(input),
+    match without_errors::<I, P, Complete>(parser, input) {
+        Some(answer) => answer,
+        None => parser.parse_complete(input),
     }
 }
 
@@ -49,18 +65,9 @@ pub fn parse_twice<I: Items, P: Parser<I>>(
     ensures shown { Parses I.model (P.grammar (P.state parser.old)) true input result }
     ensures kept { P.state parser.new ≡ P.state parser.old }
 {
-    match parser.process::<OutputM<Emit, Check, Streaming>>(input) {
-        Ok(accepted) => {
-            let (rest, output) = accepted;
-            match output {
-                Some(output) => Ok((rest, output)),
-                None => unreachable!(),
-            }
-        }
-        Err(Err::Incomplete(needed)) => Err(Err::Incomplete(needed)),
-        Err(Err::Failure(error)) => Err(Err::Failure(error)),
-        Err(Err::Error(_)) => parser.parse(input),
-        Err(Err::OutOfMemory) => parser.parse(input),
+    match without_errors::<I, P, Streaming>(parser, input) {
+        Some(answer) => answer,
+        None => parser.parse(input),
     }
 }
 

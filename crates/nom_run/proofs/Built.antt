@@ -7,23 +7,23 @@ use Rattle.nom_run.specs.declared.error.RunError.{RunError}
 use Rattle.nom_run.specs.Pieces.{Puts}
 use Rattle.nom_run.specs.Pieces.Puts.{Added, Broken}
 use Rattle.nom_run.specs.Report.{IsBuilt}
-use Rattle.nom_run.specs.Runs.{Tells}
-use Rattle.nom_run.specs.Runs.Tells.{Whole, Cut, NoMemory}
+use Rattle.nom_run.specs.Runs.{WritesText}
+use Rattle.nom_run.specs.Runs.WritesText.{Whole, Cut, NoMemory}
 
 -- such a text is one of another kind
 pub tells_other : {T : Type 0} {P Q : (text : List ℕ) → T → Type 0} {a b : Account} {Lacks : Type 0} {r : Result T RunError} →
-    ((text : List ℕ) (x : T) → P text x → Q text x) → Tells P a b Lacks r → Tells Q a b Lacks r
+    ((text : List ℕ) (x : T) → P text x → Q text x) → WritesText P a b Lacks r → WritesText Q a b Lacks r
 tells_other f (Whole text x e p w) = Whole text x e (f text x p) w
 tells_other f (Cut text x e p w) = Cut text x e (f text x p) w
 tells_other f (NoMemory e l) = NoMemory e l
 
 -- it was written, or a write failed
 module _ {T : Type 0} {IsText : (text : List ℕ) → T → Type 0} {a b : Account} {Lacks : Type 0} {text : List ℕ} (x : T) (is : IsText text x) where
-  pub told : {u : Unit {0}} → Puts a b [] text [] (Ok u) → Tells IsText a b Lacks (Ok x)
+  pub told : {u : Unit {0}} → Puts a b [] text [] (Ok u) → WritesText IsText a b Lacks (Ok x)
   told (Added e w) = Whole text x refl is (wrote_all w)
   told (Broken e w) = absurd (cc (e))
 
-  pub pending : {left : List ℕ} {e : RunError} → Puts a b [] text left (Err e) → Tells IsText a b Lacks (Err e)
+  pub pending : {left : List ℕ} {e : RunError} → Puts a b [] text left (Err e) → WritesText IsText a b Lacks (Err e)
   pending (Added d w) = absurd (cc (d))
   pending (Broken d w) = Cut text x (ap Err (cc (d))) is w
 

@@ -6,8 +6,8 @@ use Rattle.nom_run.specs.declared.error.RunError.TheVariants.{Read, Write, OutOf
 use Rattle.nom_run.specs.Asked.{BeginsAsked, Opened, ReportsAsked, ToldAsked, WhyMemory, WhyRead, WhyUsage}
 use Rattle.nom_run.specs.Asked.ToldAsked.{ReportAsked, BrokenAsked, FaultAsked}
 use Rattle.nom_run.specs.Runs.{CanGrow, CutAbove, Falls, MatchRunError, NeverFalls, Reported, Stopped}
-use Rattle.nom_run.specs.Told.{Told, WroteText, fault_text}
-use Rattle.nom_run.specs.Told.Told.{Report, Broken, Fault}
+use Rattle.nom_run.specs.Reporting.{WritesReport, WroteText, fault_text}
+use Rattle.nom_run.specs.Reporting.WritesReport.{Report, Broken, Fault}
 
 falls_never : (cuts : List ℕ) → NeverFalls cuts → Falls cuts → ⊥
 falls_never cuts never (k, below, falls) = let up = never k below in omega (arith, up, falls)
@@ -59,7 +59,7 @@ module _ {F S : Type 0} (IsFile : F → (name : List ℕ) → S → Type 0) (acc
 -- whatever the words are
 pub told : {F S : Type 0} (IsFile : F → (name : List ℕ) → S → Type 0) (account : S → Account) (words : List (List ℕ))
     (missed : F → ℕ) (folder folder' : F) (IsReport : (bytes cuts text : List ℕ) → (status : ℕ) → Type 0) (a b : Account) (status : ℕ) →
-    ToldAsked IsFile account words missed folder folder' IsReport a b status → Told IsReport a b status
+    ToldAsked IsFile account words missed folder folder' IsReport a b status → WritesReport IsReport a b status
 told IsFile account words missed folder folder' IsReport a b status (ReportAsked r) = Report (account r.1) (account r.2) r.0 r.4
 told IsFile account words missed folder folder' IsReport a b status (BrokenAsked r is) = Broken (account r.1) (account r.2) r.0 r.4 is
 told IsFile account words missed folder folder' IsReport a b status (FaultAsked Read why w is) = Fault Read (λ e. absurd (cc (e))) w is

@@ -4,4 +4,4 @@ pub mod Hex
 pub mod Numbers
 pub mod Piecewise
 pub mod Reported
-pub mod Told
+pub mod JoinedLines

@@ -9,7 +9,7 @@ use Rattle.nom_run.specs.declared.error.RunError.{RunError}
 use Rattle.nom_run.specs.Pieces.{Puts}
 use Rattle.nom_run.specs.Pieces.Puts.{Added, Broken}
 use Rattle.nom_run.specs.Texts.{lines_text}
-use Rattle.nom_run.proofs.Told.{lines-append, lines-more}
+use Rattle.nom_run.proofs.JoinedLines.{lines-append, lines-more}
 
 -- a text is only held
 pub puts_held : {a : Account} {held text left : List ℕ} {x : Unit {0}} → left ≡ held ++ text → Puts a a held text left (Ok x)

@@ -9,7 +9,7 @@ use Rattle.nom_calls.specs.Growing.{IsBeginning, AnswersOn, IsGrown}
 use Rattle.nom_calls.specs.Growing.IsBeginning.{AtCut, AtEnd}
 use Rattle.nom_calls.specs.Growing.AnswersOn.{RanOutOn, ShownOn}
 use Rattle.nom_run.specs.Texts.{decided_text, rest_text, error_text, need_text}
-use Rattle.nom_run.specs.Report.{Says, IsTold, IsReportBy}
+use Rattle.nom_run.specs.Report.{Says, IsAnswerReport, IsReportBy}
 
 abbrev Bytes : Type 0
 Bytes = Bor (List ℕ)
@@ -36,20 +36,20 @@ module _ {V O : Type 0} (lines : V → List ℕ) (IsOutput : V → O → Type 0)
     (same : (v : V) (o : O) → IsOutput v o → given o ≡ lines v) (Blames : Error Bytes → Type 0) (index start : ℕ) (whole x : Bytes)
     (begins : start ≡ length x.now) where
   says : (o : Outcome V) → ((cause : Cause) → o ≡ Stop (Fails cause) → ⊥) → (answer : Result (Bytes × O) AnswerErr) (text : List ℕ) (status : ℕ) →
-      ParsesOutcome bytes_model IsOutput whole Blames o answer → IsTold given index start answer text status →
+      ParsesOutcome bytes_model IsOutput whole Blames o answer → IsAnswerReport given index start answer text status →
       Says lines Blames index whole.now x.now o text status
   says (Accept n v) never answer text status p t =
-      let told = subst (λ a. IsTold given index start a text status) p.4 t in
+      let told = subst (λ a. IsAnswerReport given index start a text status) p.4 t in
       let parts : decided_text index ++ given p.1 ++ rest_text (length (p.0).now) ≡ decided_text index ++ lines v ++ rest_text (length whole.now - n) =
       ap (λ rs. decided_text index ++ rs ++ rest_text (length (p.0).now)) (same v p.1 p.3) ∙
       ap (λ k. decided_text index ++ lines v ++ rest_text k) (rest_len whole p.0 n p.2) in
       (told.0 ∙ parts, told.1)
   says Refuse never answer text status p t =
-      let told = subst (λ a. IsTold given index start a text status) p.2 t in
+      let told = subst (λ a. IsAnswerReport given index start a text status) p.2 t in
       (p.0, p.1, told.0 ∙ ap (λ k. error_text (p.0).code (k - length (p.0).input.now)) begins, told.1)
   says (Stop (Fails cause)) never answer text status p t = never cause refl
   says (Stop (Needs k)) never answer text status p t =
-      let told = subst (λ a. IsTold given index start a text status) p.2 t in
+      let told = subst (λ a. IsAnswerReport given index start a text status) p.2 t in
       (told.0 ∙ ap need_text p.1, told.1)
 
 module _ {V O : Type 0} (m : Meaning Bytes V (Error Bytes)) (lines : V → List ℕ) (IsOutput : V → O → Type 0) (given : O → List ℕ)
@@ -61,9 +61,9 @@ module _ {V O : Type 0} (m : Meaning Bytes V (Error Bytes)) (lines : V → List 
   begins_known x (AtEnd h e) = subst bytes_model.IsKnown (sym e) known
 
   answered : (answer : Result (Bytes × O) AnswerErr) (text : List ℕ) (status : ℕ) (g : IsGrown bytes_model IsOutput m whole cuts index answer) →
-      AnswersOn bytes_model IsOutput m whole cuts index g.beginning answer → IsTold given index start answer text status →
+      AnswersOn bytes_model IsOutput m whole cuts index g.beginning answer → IsAnswerReport given index start answer text status →
       IsReportBy m lines whole.now cuts text status
-  answered answer text status g (RanOutOn e h) t = absurd (subst (λ a. IsTold given index start a text status) e t)
+  answered answer text status g (RanOutOn e h) t = absurd (subst (λ a. IsAnswerReport given index start a text status) e t)
   answered answer text status g (ShownOn b) t = record {
     whole = whole;
     whole_is = refl;
@@ -82,5 +82,5 @@ module _ {V O : Type 0} (m : Meaning Bytes V (Error Bytes)) (lines : V → List 
   }
 
   pub reported : (answer : Result (Bytes × O) AnswerErr) (text : List ℕ) (status : ℕ) → IsGrown bytes_model IsOutput m whole cuts index answer →
-      IsTold given index start answer text status → IsReportBy m lines whole.now cuts text status
+      IsAnswerReport given index start answer text status → IsReportBy m lines whole.now cuts text status
   reported answer text status g t = answered answer text status g g.answer t

@@ -3,7 +3,7 @@ use Rattle.std.specs.Prelude.{◌≡◌, ℕ, ◌<◌, ◌⊎◌, List, [], leng
 use Rattle.nom_io.specs.Account.{Account, one_more}
 use Rattle.nom_run.specs.declared.error.RunError.{RunError}
 use Rattle.nom_run.specs.Runs.{CanGrow, CutAbove, MatchRunError, Reported, Stopped}
-use Rattle.nom_run.specs.Told.{WroteText, fault_text}
+use Rattle.nom_run.specs.Reporting.{WroteText, fault_text}
 use Rattle.nom_run.specs.Words.{Numbers, BadWord}
 
 -- a file, and then the cuts

@@ -3,5 +3,5 @@ pub mod Pieces
 pub mod Report
 pub mod Runs
 pub mod Texts
-pub mod Told
+pub mod Reporting
 pub mod Words

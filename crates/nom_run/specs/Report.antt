@@ -42,14 +42,14 @@ pub record IsReportBy {V : Type 0} (m : Meaning Bytes V (Error Bytes)) (lines : 
   pub says : Says lines (m.blames true beginning) index whole.now beginning.now outcome text status
 
 -- the text and the status where a beginning of a length isn't accepted
-abbrev pub IsToldStop : (beginning : ℕ) → Answer.Err (Error Bytes) (Error Bytes) Needed → List ℕ → ℕ → Type 0
-IsToldStop beginning (Stop.Incomplete k) text status = (text ≡ need_text (size_of k)) × (status ≡ 2)
-IsToldStop beginning (Stop.Error e) text status = (text ≡ error_text e.code (beginning - length e.input.now)) × (status ≡ 1)
-IsToldStop beginning (Stop.Failure e) text status = (text ≡ failure_text e.code (beginning - length e.input.now)) × (status ≡ 1)
-IsToldStop beginning Stop.OutOfMemory text status = ⊥
+abbrev pub IsStopReport : (beginning : ℕ) → Answer.Err (Error Bytes) (Error Bytes) Needed → List ℕ → ℕ → Type 0
+IsStopReport beginning (Stop.Incomplete k) text status = (text ≡ need_text (size_of k)) × (status ≡ 2)
+IsStopReport beginning (Stop.Error e) text status = (text ≡ error_text e.code (beginning - length e.input.now)) × (status ≡ 1)
+IsStopReport beginning (Stop.Failure e) text status = (text ≡ failure_text e.code (beginning - length e.input.now)) × (status ≡ 1)
+IsStopReport beginning Stop.OutOfMemory text status = ⊥
 
 -- the text and the status for an answer on a beginning of a length, by the lines of an output
-abbrev pub IsTold : {O : Type 0} → (O → List ℕ) → (index beginning : ℕ) → IResult Bytes O (Error Bytes) → List ℕ →
+abbrev pub IsAnswerReport : {O : Type 0} → (O → List ℕ) → (index beginning : ℕ) → IResult Bytes O (Error Bytes) → List ℕ →
     ℕ → Type 0
-IsTold lines index beginning (Ok (rest, o)) text status = (text ≡ decided_text index ++ lines o ++ rest_text (length rest.now)) × (status ≡ 0)
-IsTold lines index beginning (Err e) text status = IsToldStop beginning e text status
+IsAnswerReport lines index beginning (Ok (rest, o)) text status = (text ≡ decided_text index ++ lines o ++ rest_text (length rest.now)) × (status ≡ 0)
+IsAnswerReport lines index beginning (Err e) text status = IsStopReport beginning e text status

@@ -30,10 +30,10 @@ pub record ReadWhole (s t : Account) (bytes : List ℕ) : Type 0 where
 
 -- What is answered of a text that is written, by which texts go with an answer: such a text was written; or a beginning of one, until a
 -- write failed; or memory ran out.
-pub data Tells {T : Type 0} (IsText : (text : List ℕ) → T → Type 0) (a b : Account) (Lacks : Type 0) (r : Result T RunError) : Type 0 where
-  Whole : (text : List ℕ) (x : T) → r ≡ Ok x → IsText text x → Wrote a b text → Tells IsText a b Lacks r
-  Cut : (text : List ℕ) (x : T) → r ≡ Err Error.Write → IsText text x → WroteFront a b text → Tells IsText a b Lacks r
-  NoMemory : r ≡ Err Error.OutOfMemory → Lacks → Tells IsText a b Lacks r
+pub data WritesText {T : Type 0} (IsText : (text : List ℕ) → T → Type 0) (a b : Account) (Lacks : Type 0) (r : Result T RunError) : Type 0 where
+  Whole : (text : List ℕ) (x : T) → r ≡ Ok x → IsText text x → Wrote a b text → WritesText IsText a b Lacks r
+  Cut : (text : List ℕ) (x : T) → r ≡ Err Error.Write → IsText text x → WroteFront a b text → WritesText IsText a b Lacks r
+  NoMemory : r ≡ Err Error.OutOfMemory → Lacks → WritesText IsText a b Lacks r
 
 -- By what a report is: whether a text and a status are that on bytes, given in the parts that cuts make of them.
 module _ (IsReport : (bytes cuts text : List ℕ) → (status : ℕ) → Type 0) (s t a b : Account) (cuts : List ℕ) where

@@ -4,7 +4,7 @@
 //! If there is no report, one line shows the reason, and the status is 3. After a failed write nothing more
 //! is written.
 ghost use Rattle.std.specs.Prelude.{◌≡◌, ◌<◌, ⊤, length, map, IfOk, IfErr, string_bytes};
-ghost use Rattle.nom_run.specs.Told.{Told, WroteText, fault_text};
+ghost use Rattle.nom_run.specs.Reporting.{WritesReport, WroteText, fault_text};
 ghost use Rattle.nom_run.specs.Asked.{Asks, BeginsAsked, IsWrong, ReportsAsked, ToldAsked, WhyMemory, WhyRead, WhyUsage};
 ghost use Rattle.nom_run.specs.Runs.{MatchRunError};
 
@@ -155,7 +155,7 @@ pub fn status_of<R: Report, W: Sink>(
     report: &R,
     sink: &mut W,
 ) -> u8
-    ensures { Told R.is_report (W.account sink.old) (W.account sink.new) result }
+    ensures { WritesReport R.is_report (W.account sink.old) (W.account sink.new) result }
 {
     match read_words(rt) {
         Ok(words) => {

@@ -1,7 +1,7 @@
 //! Reports on bytes, and their common parts.
 ghost use Rattle.std.specs.Prelude.{◌≡◌, ◌++◌, ℕ, ◌<◌, ◌≤◌, List, IfOk, length, slice_index, string_bytes};
-ghost use Rattle.nom_run.specs.Report.{IsBuilt, IsTold, IsToldStop};
-ghost use Rattle.nom_run.specs.Runs.{NoneAbove, Tells};
+ghost use Rattle.nom_run.specs.Report.{IsBuilt, IsAnswerReport, IsStopReport};
+ghost use Rattle.nom_run.specs.Runs.{NoneAbove, WritesText};
 ghost use Rattle.nom_run.specs.Texts.{decided_text, lines_text, rest_text};
 
 use crate::error::RunError;
@@ -29,7 +29,7 @@ pub trait Report {
         sink: &mut W,
     ) -> Result<u8, RunError>
         requires { NoneAbove cuts.now (length bytes.now) }
-        ensures { Tells (is_report bytes.now cuts.now) (W.account sink.old) (W.account sink.new) (sink.new ≡ sink.old) result };
+        ensures { WritesText (is_report bytes.now cuts.now) (W.account sink.old) (W.account sink.new) (sink.new ≡ sink.old) result };
 }
 
 /// Writes a text that was built whole, and returns its status.
@@ -37,7 +37,7 @@ pub fn write_built<A: Allocator, W: Sink>(
     built: Result<(String<A>, u8), OutOfMemory>,
     sink: &mut W,
 ) -> Result<u8, RunError>
-    ensures { Tells (IsBuilt built) (W.account sink.old) (W.account sink.new) (sink.new ≡ sink.old) result }
+    ensures { WritesText (IsBuilt built) (W.account sink.old) (W.account sink.new) (sink.new ≡ sink.old) result }
 {
     let answer = match built {
         Ok(answer) => answer,
@@ -97,7 +97,7 @@ pub fn tell<'a, A: Allocator + Copy, T: Drop, L: Lines<T>>(
     beginning: usize,
     answer: IResult<&'a [u8], Vec<T, A>>,
 ) -> Result<(String<A>, u8), OutOfMemory>
-    ensures { IfOk result (λ r. IsTold (λ v. lines_text (L.lines report.now) v.items) index beginning answer.entry (string_bytes r.0) r.1) }
+    ensures { IfOk result (λ r. IsAnswerReport (λ v. lines_text (L.lines report.now) v.items) index beginning answer.entry (string_bytes r.0) r.1) }
 {
     match answer {
         Ok((rest, items)) => {
@@ -127,7 +127,7 @@ fn tell_stop<A: Allocator + Copy>(
     beginning: usize,
     stop: Err<Error<&[u8]>>,
 ) -> Result<(String<A>, u8), OutOfMemory>
-    ensures { IfOk result (λ r. IsToldStop beginning stop.entry (string_bytes r.0) r.1) }
+    ensures { IfOk result (λ r. IsStopReport beginning stop.entry (string_bytes r.0) r.1) }
 {
     let mut text = String::new(alloc);
     match stop {

@@ -7,30 +7,24 @@ use Rattle.nom_internal.specs.Word.{Word, word}
 use Rattle.nom_sequence.specs.Sequences as Sequences
 
 module _ {I A E : Type 0} (w : Model I A) {O P : Type 0} where
-  abbrev preceded_meant : Word I O E → Word I P E → Word I P E
-  preceded_meant g h = word (Sequences.preceded_of w g.grammar h.grammar)
-
   pub preceded_of : Word I O E → Word I P E → Word I P E
-  preceded_of g h = preceded_meant g h
+  preceded_of g h = word (Sequences.preceded_of w g.grammar h.grammar)
 
   module _ {g h : Word I O E} {k l : Word I P E} where
-    pub preceded_worded : g ≡ h → k ≡ l → preceded_of g k ≡ preceded_meant h l
+    pub preceded_worded : g ≡ h → k ≡ l → preceded_of g k ≡ word (Sequences.preceded_of w h.grammar l.grammar)
     unfolding preceded_of
-    preceded_worded p q = ap₂ preceded_meant p q
+    preceded_worded p q = ap₂ preceded_of p q
 
     pub preceded_same : g ≡ h → k ≡ l → preceded_of g k ≡ preceded_of h l
     preceded_same p q = ap₂ preceded_of p q
 
-  abbrev terminated_meant : Word I O E → Word I P E → Word I O E
-  terminated_meant g h = word (Sequences.terminated_of w g.grammar h.grammar)
-
   pub terminated_of : Word I O E → Word I P E → Word I O E
-  terminated_of g h = terminated_meant g h
+  terminated_of g h = word (Sequences.terminated_of w g.grammar h.grammar)
 
   module _ {g h : Word I O E} {k l : Word I P E} where
-    pub terminated_worded : g ≡ h → k ≡ l → terminated_of g k ≡ terminated_meant h l
+    pub terminated_worded : g ≡ h → k ≡ l → terminated_of g k ≡ word (Sequences.terminated_of w h.grammar l.grammar)
     unfolding terminated_of
-    terminated_worded p q = ap₂ terminated_meant p q
+    terminated_worded p q = ap₂ terminated_of p q
 
     pub terminated_same : g ≡ h → k ≡ l → terminated_of g k ≡ terminated_of h l
     terminated_same p q = ap₂ terminated_of p q

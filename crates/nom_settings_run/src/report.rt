@@ -1,8 +1,8 @@
 //! The report on a file of settings.
 ghost use Rattle.std.specs.Prelude.{◌≡◌, ◌++◌, ◌≤◌, IfOk, decimal, length, string_bytes, take};
 ghost use Rattle.nom_run.specs.Pieces.{HasRoom, Puts};
-ghost use Rattle.nom_run.specs.Runs.{Tells};
-ghost use Rattle.nom_settings_run.specs.Report.{IsReport, IsTold, IsToldBytes, IsToldStop, entry_text, fault_text, line_text};
+ghost use Rattle.nom_run.specs.Runs.{WritesText};
+ghost use Rattle.nom_settings_run.specs.Report.{IsReport, IsAnswerReport, IsBytesReport, IsStopReport, entry_text, refusal_text, entry_line};
 ghost use Rattle.nom_settings_run.specs.Report.{section_text, sections_text, setting_text};
 
 use crate::settings::{Section, settings};
@@ -66,7 +66,7 @@ fn put_line<A: Allocator, W: Sink>(
 ) -> Result<(), RunError>
     requires { HasRoom room.old }
     ensures room { HasRoom room.new }
-    ensures puts { Puts (W.account sink.old) (W.account sink.new) room.old.items (line_text line column section.now name.now value.now)
+    ensures puts { Puts (W.account sink.old) (W.account sink.new) room.old.items (entry_line line column section.now name.now value.now)
         room.new.items result }
 {
     match put_number(sink, room, line, ":") {
@@ -136,7 +136,7 @@ fn write_sections<'a, A: Allocator + Copy, W: Sink>(
     found: &[Section<Text<'a>, A>],
     sink: &mut W,
 ) -> Result<u8, RunError>
-    ensures { Tells (λ text status. (text ≡ sections_text found.now) × (status ≡ 0)) (W.account sink.old) (W.account sink.new)
+    ensures { WritesText (λ text status. (text ≡ sections_text found.now) × (status ≡ 0)) (W.account sink.old) (W.account sink.new)
         (sink.new ≡ sink.old) result }
 {
     let mut room = match make_room(alloc) {
@@ -160,7 +160,7 @@ fn add_fault<A: Allocator + Copy>(
     column: usize,
     kind: ErrorKind,
 ) -> Result<(), OutOfMemory>
-    ensures { IfOk result (λ _. string_bytes text.new ≡ string_bytes text.old ++ fault_text line column kind) }
+    ensures { IfOk result (λ _. string_bytes text.new ≡ string_bytes text.old ++ refusal_text line column kind) }
 {
     let name = kind.description();
     write!(text, "{line}:{column}: {name}\n")?;
@@ -174,7 +174,7 @@ fn tell_fault<A: Allocator + Copy>(
     column: usize,
     kind: ErrorKind,
 ) -> Result<(String<A>, u8), OutOfMemory>
-    ensures { IfOk result (λ r. (string_bytes r.0 ≡ fault_text line column kind) × (r.1 ≡ 1)) }
+    ensures { IfOk result (λ r. (string_bytes r.0 ≡ refusal_text line column kind) × (r.1 ≡ 1)) }
 {
     let mut text = String::new(alloc);
     add_fault(&mut text, line, column, kind)?;
@@ -186,7 +186,7 @@ fn tell_stop<'a, A: Allocator + Copy>(
     alloc: A,
     stop: Err<Error<Text<'a>>>,
 ) -> Result<(String<A>, u8), OutOfMemory>
-    ensures { IfOk result (λ r. IsToldStop stop.entry (string_bytes r.0) r.1) }
+    ensures { IfOk result (λ r. IsStopReport stop.entry (string_bytes r.0) r.1) }
 {
     match stop {
         Err::Error(error) => {
@@ -207,7 +207,7 @@ fn write_answer<'a, A: Allocator + Copy, W: Sink>(
     answer: IResult<Text<'a>, Vec<Section<Text<'a>, A>, A>, Error<Text<'a>>>,
     sink: &mut W,
 ) -> Result<u8, RunError>
-    ensures { Tells (IsTold answer.entry) (W.account sink.old) (W.account sink.new) (sink.new ≡ sink.old) result }
+    ensures { WritesText (IsAnswerReport answer.entry) (W.account sink.old) (W.account sink.new) (sink.new ≡ sink.old) result }
 {
     match answer {
         Ok((_rest, found)) => write_sections(alloc, &found, sink),
@@ -222,7 +222,7 @@ fn tell_bytes<A: Allocator + Copy>(
     count: usize,
 ) -> Result<(String<A>, u8), OutOfMemory>
     requires { count ≤ length bytes.now }
-    ensures { IfOk result (λ r. IsToldBytes (take count bytes.now) (string_bytes r.0) r.1) }
+    ensures { IfOk result (λ r. IsBytesReport (take count bytes.now) (string_bytes r.0) r.1) }
 {
     let start = Located::new(bytes);
     start.prove_known();

@@ -1,6 +1,6 @@
 -- The bytes of a number, and the number that they write.
 use Rattle.std.proofs.Common.{arith, ◌≡◌, ℕ, ◌+◌, ◌-◌, ◌*◌, ◌^◌, ◌<◌, ◌≤◌, ◌/◌, ◌%◌, zero, suc, List, [], ◌∷◌, ◌++◌, length, reverse, take, drop}
-use Rattle.std.proofs.Common.{true, false, refl, sym, ◌∙◌, ap, subst}
+use Rattle.std.proofs.Common.{true, false, refl, sym, ◌∙◌, ap, subst, Result}
 use Rattle.std.proofs.lemmas.List.{reverse-append}
 use Rattle.std.proofs.lemmas.Nat.{div-mul-add, pow-add}
 use Rattle.std.proofs.Math.Nat.{div-add-mod, mul-le-mul, pow-suc}
@@ -10,6 +10,9 @@ use Rattle.nom_internal.specs.Prelude.{digits_after, value_of}
 use Rattle.nom_number.specs.declared.order.Endianness.TheVariants.{Big, Little, Native}
 use Rattle.nom_number.specs.declared.order.Endianness.{Endianness}
 use Rattle.nom_sink.specs.Digits.{AreBytesOf}
+use Rattle.nom_sink.specs.Written.{LacksRoom, SinkModel, Written}
+use Rattle.nom_sink.specs.declared.error.WriteError.{WriteError}
+use Rattle.nom_sink.proofs.Adding.{written_as}
 
 -- the digits after a number add theirs
 leading : (v : ℕ) (ds : List ℕ) → digits_after 256 v ds ≡ v * 256 ^ length ds + value_of 256 ds
@@ -141,3 +144,22 @@ pub little_bytes : (endian : Endianness) (width count n : ℕ) → is_big endian
 little_bytes Big width count n is below fits = absurd (cc (is))
 little_bytes Little width count n is below fits = low_value width count n below fits
 little_bytes Native width count n is below fits = low_value width count n below fits
+
+-- and as they are added
+module _ {S : Type 0} (m : SinkModel S ℕ) (old new : S) (r : Result (Unit {0}) WriteError) (endian : Endianness) (width count n : ℕ) (bytes : List ℕ) where
+  added : (xs : List ℕ) → AreBytesOf endian count n xs → Written (λ ys. ys ≡ xs) (LacksRoom (length xs)) m old new r →
+      Written (AreBytesOf endian count n) (LacksRoom count) m old new r
+  added xs a w = written_as m old new r (λ ys e. subst (AreBytesOf endian count n) (sym e) a) (λ s e h. subst (λ k. LacksRoom k s e) a.0 h) w
+
+  pub big_added : bytes ≡ bytes_high_first width n → is_big endian ≡ true → count ≤ width → n < 2 ^ (8 * count) →
+      Written (λ ys. ys ≡ take (width - (width - count)) (drop (width - count) bytes))
+      (LacksRoom (length (take (width - (width - count)) (drop (width - count) bytes)))) m old new r →
+      Written (AreBytesOf endian count n) (LacksRoom count) m old new r
+  big_added e is below fits w = added _ (subst (λ xs. AreBytesOf endian count n (take (width - (width - count)) (drop (width - count) xs))) (sym e)
+      (big_bytes endian width count n is below fits)) w
+
+  pub little_added : bytes ≡ bytes_low_first 0 width n → is_big endian ≡ false → count ≤ width → n < 2 ^ (8 * count) →
+      Written (λ ys. ys ≡ take count bytes) (LacksRoom (length (take count bytes))) m old new r →
+      Written (AreBytesOf endian count n) (LacksRoom count) m old new r
+  little_added e is below fits w = added _ (subst (λ xs. AreBytesOf endian count n (take count xs)) (sym e)
+      (little_bytes endian width count n is below fits)) w

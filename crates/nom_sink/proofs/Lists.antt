@@ -1,19 +1,12 @@
 -- Lemmas on the values of a list that are added, one after another.
-use Rattle.std.proofs.Common.{◌≡◌, ℕ, ◌+◌, ◌<◌, ◌≤◌, List, [], ◌∷◌, ◌++◌, length, drop, get_or, zero, suc, refl, sym, ◌∙◌, ap, subst}
-use Rattle.std.proofs.Common.{append_assoc, append-nil, length-append, arith, inl, inr}
+use Rattle.std.proofs.Common.{◌≡◌, ℕ, ◌+◌, ◌<◌, ◌≤◌, List, [], ◌∷◌, ◌++◌, length, drop, get_or, refl, sym, ◌∙◌, ap, subst}
+use Rattle.std.proofs.Common.{append_assoc, append-nil, length-append, inl, inr}
 use Rattle.std.proofs.Common.{take}
 use Rattle.std.proofs.Math.Seq.{take-append_seam}
-use Rattle.std.proofs.lemmas.List.{drop_more}
+use Rattle.std.proofs.lemmas.List.{drop_all, drop_more}
 use Rattle.nom_sink.specs.declared.error.WriteError.{WriteError}
 use Rattle.nom_sink.specs.Lists.{Each, EachFail}
 use Rattle.nom_sink.specs.Written.{Lack, Space, space_at}
-
--- none are left past the end
-drop_none : {A : Type 0} (k : ℕ) (xs : List A) → length xs ≤ k → drop k xs ≡ []
-drop_none zero [] h = refl
-drop_none zero (x ∷ xs) h = absurd (omega (arith, h))
-drop_none (suc k) [] h = refl
-drop_none (suc k) (x ∷ xs) h = drop_none k xs (omega (arith, h))
 
 module _ {O A : Type 0} (Form : O → List A → Type 0) (Fails : O → Space → WriteError → Type 0) (lack : Lack) (vs : List O) where
   -- what was added of the first k values: with forms of those that are left it is one of all, and where one of those fails, so do all
@@ -53,7 +46,7 @@ module _ {O A : Type 0} (Form : O → List A → Type 0) (Fails : O → Space �
   all_added k end old new a = (
     a.added,
     a.whole,
-    subst (λ zs. Each Form vs zs) (append-nil a.added) (a.forms [] (subst (λ us. Each Form us []) (sym (drop_none k vs end)) refl)),
+    subst (λ zs. Each Form vs zs) (append-nil a.added) (a.forms [] (subst (λ us. Each Form us []) (sym (drop_all k vs end)) refl)),
   )
 
 -- what was added is taken back

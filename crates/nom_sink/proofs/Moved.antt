@@ -37,18 +37,7 @@ moved_front buf new used u s m h k all within long is =
     let begins : take s (take u buf) ≡ take s buf = take-take s u buf within in
     let inner : drop s (take u buf) ≡ take (u - s) (drop s buf) =
     ap (λ n. drop s (take n buf)) {x = u} {y = s + (u - s)} (omega (arith, within)) ∙ drop-take s (u - s) buf in
-    let same : length (put_mid s (u - s) buf new) ≡ length buf =
-    omega (
-      arith,
-      length-append (take s buf) (new ++ drop (u - s) (drop s buf)),
-      length-append new (drop (u - s) (drop s buf)),
-      long,
-      k,
-      within,
-      length-take-le s buf (omega (arith, within, k)),
-      length-drop (u - s) (drop s buf),
-      length-drop s buf,
-    ) in
+    let same : length (put_mid s (u - s) buf new) ≡ length buf = same_length s (u - s) buf new (omega (arith, within, k)) long in
     let left : take used (put_mid s (u - s) buf new) ≡ take s buf ++ new =
     front_is used u (put_mid s (u - s) buf new) h (λ b. omega (arith, all b, same)) ∙ take-put_mid s (u - s) buf new u (omega (arith, long, within))
     (omega (arith, within, k)) in

@@ -1,12 +1,13 @@
 -- Characters and the bytes that spell them.
-use Rattle.std.proofs.Common.{arith, ◌≡◌, ℕ, zero, suc, ◌+◌, ◌-◌, ◌*◌, ◌/◌, ◌<◌, ◌≤◌, Bool, true, false, ◌&&◌, List, [], ◌∷◌, ◌++◌, length, take, drop, get_or}
+use Rattle.std.proofs.Common.{arith, ◌≡◌, ℕ, zero, suc, ◌+◌, ◌-◌, ◌*◌, ◌/◌, ◌<◌, ◌≤◌, true, List, [], ◌∷◌, ◌++◌, length, take, drop, get_or}
 use Rattle.std.proofs.Common.{refl, sym, ◌∙◌, ap, subst, append_assoc, append-nil, length-append}
 use Rattle.std.specs.Prelude.{chars, encode_utf8, encode_utf8_all, IsUtf8}
 use Rattle.std.specs.Char.{len_utf8}
 use Rattle.std.specs.Str.{all_scalars}
 use Rattle.std.proofs.Math.Utf8.{scalar}
 use Rattle.std.proofs.Math.Seq.{take-append_seam}
-use Rattle.std.proofs.lemmas.List.{drop_at, length-take, take_all, take_more, take-append-drop}
+use Rattle.std.proofs.lemmas.Bool.{and_from}
+use Rattle.std.proofs.lemmas.List.{drop_at, length-take, nil_from_length, take_all, take_more, take-append-drop}
 use Rattle.std.proofs.lemmas.Str.{IsUtf8-append, IsUtf8-past_char, length-le-encodes}
 use Rattle.std.proofs.lemmas.Str.{chars-nil, chars_past_char, chars-append, chars-encodes, chars_from_encodes}
 use Rattle.std.proofs.lemmas.Str.{encodes-append, encodes-chars, len_utf8_bounds, length-encode, scalars-chars}
@@ -71,18 +72,14 @@ drop_place : (n : ℕ) (cs : List ℕ) → drop (place n cs) (encode_utf8_all cs
 drop_place n cs = ap (λ z. drop (place n cs) z) (ap encode_utf8_all (sym (take-append-drop n cs)) ∙ encodes-append (take n cs) (drop n cs)) ∙
     drop_at (encode_utf8_all (take n cs)) (encode_utf8_all (drop n cs)) (place n cs) refl
 
-both_true : (a b : Bool) → a ≡ true → b ≡ true → (a && b) ≡ true
-both_true true b h k = k
-both_true false b h k = absurd (cc (h))
-
 scalars_append : (xs ys : List ℕ) → all_scalars xs ≡ true → all_scalars ys ≡ true → all_scalars (xs ++ ys) ≡ true
 scalars_append [] ys h k = k
-scalars_append (x ∷ xs) ys h k = let b = both (scalar x) (all_scalars xs) h in both_true (scalar x) (all_scalars (xs ++ ys)) b.0 (scalars_append xs ys b.1 k)
+scalars_append (x ∷ xs) ys h k = let b = both (scalar x) (all_scalars xs) h in and_from (scalar x) (all_scalars (xs ++ ys)) b.0 (scalars_append xs ys b.1 k)
 
 scalars_take : (n : ℕ) (xs : List ℕ) → all_scalars xs ≡ true → all_scalars (take n xs) ≡ true
 scalars_take zero xs h = refl
 scalars_take (suc n) [] h = refl
-scalars_take (suc n) (x ∷ xs) h = let b = both (scalar x) (all_scalars xs) h in both_true (scalar x) (all_scalars (take n xs)) b.0 (scalars_take n xs b.1)
+scalars_take (suc n) (x ∷ xs) h = let b = both (scalar x) (all_scalars xs) h in and_from (scalar x) (all_scalars (take n xs)) b.0 (scalars_take n xs b.1)
 
 scalars_drop : (n : ℕ) (xs : List ℕ) → all_scalars xs ≡ true → all_scalars (drop n xs) ≡ true
 scalars_drop zero xs h = h
@@ -208,15 +205,11 @@ text_room bs rest next old mid c room a e h = omega (
   ap length (chars_past_char rest next c a.valid e),
 )
 
-empty : {A : Type 0} (xs : List A) → length xs ≡ 0 → xs ≡ []
-empty [] e = refl
-empty (x ∷ xs) e = absurd (omega (arith, e))
-
 pub text_done : (bs rest old new : List ℕ) → IsOnText bs rest old new → length rest ≡ 0 → (xs : List ℕ) × (new ≡ old ++ xs) × (xs ≡ chars bs)
 text_done bs rest old new a e = (
   a.done,
   a.whole,
-  sym (a.all ∙ (ap (λ z. a.done ++ chars z) (empty rest e) ∙ (ap (λ z. a.done ++ z) chars-nil ∙ append-nil a.done))),
+  sym (a.all ∙ (ap (λ z. a.done ++ chars z) (nil_from_length rest e) ∙ (ap (λ z. a.done ++ z) chars-nil ∙ append-nil a.done))),
 )
 
 -- a text has no more characters than bytes

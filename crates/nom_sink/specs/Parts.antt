@@ -19,6 +19,10 @@ BothFail {A} First FirstFails SecondFails s e = FirstFails s e ⊎ ((xs : List A
 abbrev pub Meets : {A : Type 0} → (First Second Next : List A → Type 0) → Type 0
 Meets {A} First Second Next = (ys rest : List A) → Second ys → Next rest → First (ys ++ rest)
 
+-- where the second part writes a form of a value
+abbrev pub MeetsForms : {O A : Type 0} → (List A → Type 0) → (O → List A → Type 0) → (List A → Type 0) → Type 0
+MeetsForms {O} First Form Next = Meets First (λ ys. (v : O) × Form v ys) Next
+
 -- a form of a length, and then a form of a part that is so long
 pub record AfterLength {A : Type 0} (Size : ℕ → List A → Type 0) (Part : List A → Type 0) (xs : List A) : Type 0 where
   pub front : List A

@@ -11,7 +11,7 @@ use nom_number::layout::{I8, I16, I24, I32, I64, I128, Layout, U8, U16, U24, U32
 /// A layout of numbers that can be written.
 pub trait ToBits: Layout {
     /// The number needs more bytes than the layout has.
-    ghost Exceeds: { Self.Number → Type 0 };
+    ghost Exceeds: { Self.Number → Type 0 } = { λ _. ⊥ };
 
     /// Returns the bits of a number, or `None` if it needs more bytes.
     fn to_bits(number: &Self::Number) -> Option<u128>
@@ -19,8 +19,6 @@ pub trait ToBits: Layout {
 }
 
 impl ToBits for U8 {
-    ghost Exceeds = { λ n. ⊥ };
-
     #[inline(always)]
     fn to_bits(number: &u8) -> Option<u128> {
         Some(*number as u128)
@@ -28,8 +26,6 @@ impl ToBits for U8 {
 }
 
 impl ToBits for U16 {
-    ghost Exceeds = { λ n. ⊥ };
-
     #[inline(always)]
     fn to_bits(number: &u16) -> Option<u128> {
         Some(*number as u128)
@@ -37,8 +33,6 @@ impl ToBits for U16 {
 }
 
 impl ToBits for U32 {
-    ghost Exceeds = { λ n. ⊥ };
-
     #[inline(always)]
     fn to_bits(number: &u32) -> Option<u128> {
         Some(*number as u128)
@@ -46,8 +40,6 @@ impl ToBits for U32 {
 }
 
 impl ToBits for U64 {
-    ghost Exceeds = { λ n. ⊥ };
-
     #[inline(always)]
     fn to_bits(number: &u64) -> Option<u128> {
         Some(*number as u128)
@@ -55,8 +47,6 @@ impl ToBits for U64 {
 }
 
 impl ToBits for U128 {
-    ghost Exceeds = { λ n. ⊥ };
-
     #[inline(always)]
     fn to_bits(number: &u128) -> Option<u128> {
         Some(*number)
@@ -77,67 +67,37 @@ impl ToBits for U24 {
 }
 
 impl ToBits for I8 {
-    ghost Exceeds = { λ n. ⊥ };
-
     #[inline(always)]
     fn to_bits(number: &i8) -> Option<u128> {
-        if *number < 0 {
-            Some(0xff - (-(*number + 1)) as u128)
-        } else {
-            Some(*number as u128)
-        }
+        Some(number.cast_unsigned() as u128)
     }
 }
 
 impl ToBits for I16 {
-    ghost Exceeds = { λ n. ⊥ };
-
     #[inline(always)]
     fn to_bits(number: &i16) -> Option<u128> {
-        if *number < 0 {
-            Some(0xffff - (-(*number + 1)) as u128)
-        } else {
-            Some(*number as u128)
-        }
+        Some(number.cast_unsigned() as u128)
     }
 }
 
 impl ToBits for I32 {
-    ghost Exceeds = { λ n. ⊥ };
-
     #[inline(always)]
     fn to_bits(number: &i32) -> Option<u128> {
-        if *number < 0 {
-            Some(0xffffffff - (-(*number + 1)) as u128)
-        } else {
-            Some(*number as u128)
-        }
+        Some(number.cast_unsigned() as u128)
     }
 }
 
 impl ToBits for I64 {
-    ghost Exceeds = { λ n. ⊥ };
-
     #[inline(always)]
     fn to_bits(number: &i64) -> Option<u128> {
-        if *number < 0 {
-            Some(0xffffffffffffffff - (-(*number + 1)) as u128)
-        } else {
-            Some(*number as u128)
-        }
+        Some(number.cast_unsigned() as u128)
     }
 }
 
 impl ToBits for I128 {
-    ghost Exceeds = { λ n. ⊥ };
-
     #[inline(always)]
     fn to_bits(number: &i128) -> Option<u128> {
-        if *number < 0 {
-            Some(0xffffffffffffffffffffffffffffffff - (-(*number + 1)) as u128)
-        } else {
-            Some(*number as u128)
-        }
+        Some(number.cast_unsigned())
     }
 }
 

@@ -64,66 +64,42 @@ impl Decimal for usize {
 impl Decimal for i8 {
     #[inline(always)]
     fn magnitude(&self) -> (bool, u128) {
-        if *self < 0 {
-            (true, (-(*self + 1)) as u128 + 1)
-        } else {
-            (false, *self as u128)
-        }
+        (*self < 0, self.unsigned_abs() as u128)
     }
 }
 
 impl Decimal for i16 {
     #[inline(always)]
     fn magnitude(&self) -> (bool, u128) {
-        if *self < 0 {
-            (true, (-(*self + 1)) as u128 + 1)
-        } else {
-            (false, *self as u128)
-        }
+        (*self < 0, self.unsigned_abs() as u128)
     }
 }
 
 impl Decimal for i32 {
     #[inline(always)]
     fn magnitude(&self) -> (bool, u128) {
-        if *self < 0 {
-            (true, (-(*self + 1)) as u128 + 1)
-        } else {
-            (false, *self as u128)
-        }
+        (*self < 0, self.unsigned_abs() as u128)
     }
 }
 
 impl Decimal for i64 {
     #[inline(always)]
     fn magnitude(&self) -> (bool, u128) {
-        if *self < 0 {
-            (true, (-(*self + 1)) as u128 + 1)
-        } else {
-            (false, *self as u128)
-        }
+        (*self < 0, self.unsigned_abs() as u128)
     }
 }
 
 impl Decimal for i128 {
     #[inline(always)]
     fn magnitude(&self) -> (bool, u128) {
-        if *self < 0 {
-            (true, (-(*self + 1)) as u128 + 1)
-        } else {
-            (false, *self as u128)
-        }
+        (*self < 0, self.unsigned_abs() as u128)
     }
 }
 
 impl Decimal for isize {
     #[inline(always)]
     fn magnitude(&self) -> (bool, u128) {
-        if *self < 0 {
-            (true, (-(*self + 1)) as u128 + 1)
-        } else {
-            (false, *self as u128)
-        }
+        (*self < 0, self.unsigned_abs() as u128)
     }
 }
 
@@ -135,8 +111,6 @@ impl<T: OfCode> Piece<T> for Signed {
     ghost Form = { λ o. IsSigned T.of_code o.0 o.1 };
 
     ghost Fails = { λ o. LacksSigned T.of_code o.0 o.1 };
-
-    ghost CanPut = { λ o. Unit {0} };
 
     #[inline]
     fn put<S: Sink<T>>(&self, out: &mut S) -> Result<(), WriteError> {

@@ -19,7 +19,7 @@ pub trait Piece<T> {
     ghost Fails: { Self → Space → WriteError → Type 0 };
 
     /// What must hold so that it may be written.
-    ghost CanPut: { Self → Type 0 };
+    ghost CanPut: { Self → Type 0 } = { λ _. Unit {0} };
 
     /// Adds the piece to `out`. On an error, `out` is as it was.
     fn put<S: Sink<T>>(&self, out: &mut S) -> Result<(), WriteError>
@@ -37,8 +37,6 @@ impl<'a, T> Piece<T> for Plain<'a, T> {
     ghost Form = { λ o xs. xs ≡ o.0.now };
 
     ghost Fails = { λ o. LacksRoom (length o.0.now) };
-
-    ghost CanPut = { λ o. Unit {0} };
 
     #[inline(always)]
     fn put<S: Sink<T>>(&self, out: &mut S) -> Result<(), WriteError> {

@@ -93,8 +93,6 @@ impl<T: OfCode> Piece<T> for OneCode {
 
     ghost Fails = { λ o. LacksRoom 1 };
 
-    ghost CanPut = { λ o. Unit {0} };
-
     #[inline(always)]
     fn put<S: Sink<T>>(&self, out: &mut S) -> Result<(), WriteError> {
         T::put_code(self.0, out)
@@ -144,8 +142,6 @@ impl<T: OfCode, R: Radix> Piece<T> for Digits<R> {
     ghost Form = { λ o. AreDigitsOf T.of_code R.RADIX o.0 };
 
     ghost Fails = { λ o. LacksDigits T.of_code R.RADIX o.0 };
-
-    ghost CanPut = { λ o. Unit {0} };
 
     #[inline(always)]
     fn put<S: Sink<T>>(&self, out: &mut S) -> Result<(), WriteError> {

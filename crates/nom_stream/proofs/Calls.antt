@@ -7,7 +7,7 @@ use Rattle.nom_internal.specs.Prelude.{bytes_model, bytes_lawful, IsSuffixOf, re
 use Rattle.nom_calls.specs.Iterated.{AreItems, Ends}
 use Rattle.nom_stream.specs.declared.stream.Stream.{Stream}
 use Rattle.nom_stream.specs.Items.{Bytes}
-use Rattle.nom_stream.specs.Streams.{Decides, Told, counted}
+use Rattle.nom_stream.specs.Streams.{Decides, ItemResult, counted}
 use Rattle.nom_stream.specs.Wholes.{AreOfWhole, AtWhole, Calls, HasLeft, ItemsOfWhole, items_of, used_by, used_of}
 use Rattle.nom_stream.proofs.Outcomes.{nil_of}
 use Rattle.nom_stream.proofs.Wholes.{answers_whole, left_after}
@@ -17,14 +17,14 @@ AllItems m complete = AreItems bytes_model (AtWhole m complete)
 
 module _ {R A V O : Type 0} (left : R → Option (List ℕ)) (grammar : Grammar Bytes V O (Error Bytes)) (sound : grammar.meaning.IsSound) where
   -- after an answer that gave no item the same bytes are left
-  still_left : (s t : Stream R A) (r : Told O) (whole : Bytes) → used_of r ≡ 0 → Decides left grammar s t r → HasLeft left s whole.now →
+  still_left : (s t : Stream R A) (r : ItemResult O) (whole : Bytes) → used_of r ≡ 0 → Decides left grammar s t r → HasLeft left s whole.now →
       HasLeft left t whole.now
   still_left s t r whole none d has =
       let l = left_after left grammar s t r whole.now d has in
       let front : l.0 ≡ [] = nil_of l.0 (l.1 ∙ none) in
       subst (HasLeft left t) (sym (l.2.2 ∙ ap (λ z. z ++ l.2.0) front)) l.2.1
 
-  skip : (s u t : Stream R A) (r : Told O) (rs : List (Told O)) (whole : Bytes) (limit : ℕ) (trees : List V) → used_of r ≡ 0 →
+  skip : (s u t : Stream R A) (r : ItemResult O) (rs : List (ItemResult O)) (whole : Bytes) (limit : ℕ) (trees : List V) → used_of r ≡ 0 →
       counted s.offset r ≡ s.offset → items_of (r ∷ rs) ≡ items_of rs → Decides left grammar s u r →
       AreOfWhole left grammar u t rs whole limit trees → AreOfWhole left grammar s t (r ∷ rs) whole limit trees
   skip s u t r rs whole limit trees none count same d k =
@@ -42,14 +42,14 @@ module _ {R A V O : Type 0} (left : R → Option (List ℕ)) (grammar : Grammar 
         settings = k.settings ∙ d.settings.1;
       }
 
-  abbrev AreSo : Stream R A → Stream R A → List (Told O) → Type 0
+  abbrev AreSo : Stream R A → Stream R A → List (ItemResult O) → Type 0
   AreSo s t rs =
       (whole : Bytes) → bytes_model.IsKnown whole → HasLeft left s whole.now → s.offset ≤ 2 ^ 64 - 1 →
       (limit : ℕ) (trees : List V) → AllItems grammar.meaning s.settings.complete (length (items_of rs) + limit) whole trees →
       AreOfWhole left grammar s t rs whole limit trees
 
   -- an item before those that follow
-  prepend : (s u t : Stream R A) (n : ℕ) (o : O) (rs : List (Told O)) (whole next : Bytes) (size limit : ℕ) (v : V) (vs : List V) →
+  prepend : (s u t : Stream R A) (n : ℕ) (o : O) (rs : List (ItemResult O)) (whole next : Bytes) (size limit : ℕ) (v : V) (vs : List V) →
       Decides left grammar s u (Ok (Some (n, o))) → n ≡ size → grammar.IsOutput v o → IsSuffixOf bytes_model whole size next →
       AreOfWhole left grammar u t rs next limit vs → AreOfWhole left grammar s t (Ok (Some (n, o)) ∷ rs) whole limit (v ∷ vs)
   prepend s u t n o rs whole next size limit v vs d count item rest k =
@@ -69,7 +69,7 @@ module _ {R A V O : Type 0} (left : R → Option (List ℕ)) (grammar : Grammar 
         settings = k.settings ∙ d.settings.1;
       }
 
-  item_first : (s u t : Stream R A) (n : ℕ) (o : O) (rs : List (Told O)) → Decides left grammar s u (Ok (Some (n, o))) → AreSo u t rs →
+  item_first : (s u t : Stream R A) (n : ℕ) (o : O) (rs : List (ItemResult O)) → Decides left grammar s u (Ok (Some (n, o))) → AreSo u t rs →
       (whole : Bytes) → bytes_model.IsKnown whole → HasLeft left s whole.now → s.offset ≤ 2 ^ 64 - 1 →
       (limit : ℕ) (trees : List V) → AllItems grammar.meaning s.settings.complete (suc (length (items_of rs) + limit)) whole trees →
       AreOfWhole left grammar s t (Ok (Some (n, o)) ∷ rs) whole limit trees
@@ -92,7 +92,7 @@ module _ {R A V O : Type 0} (left : R → Option (List ℕ)) (grammar : Grammar 
       (others next rest.known then (omega (arith, counts)) limit vs
       (subst (λ z. AllItems grammar.meaning z.complete (length (items_of rs) + limit) next vs) (sym d.settings.1) a.4))
 
-  are_so : (rs : List (Told O)) (s t : Stream R A) → Calls left grammar rs s t → AreSo s t rs
+  are_so : (rs : List (ItemResult O)) (s t : Stream R A) → Calls left grammar rs s t → AreSo s t rs
   are_so [] s t e whole known has low limit trees a =
       let none : 0 + limit ≡ limit = omega arith in
       record {

@@ -9,7 +9,7 @@ use Rattle.nom_stream.specs.declared.step.Taken.TheVariants as Took
 use Rattle.nom_stream.specs.declared.stream.Stream.{Stream}
 use Rattle.nom_stream.specs.Held.{held_of, last_of}
 use Rattle.nom_stream.specs.Items.{Bytes, HoldsLast, Takes}
-use Rattle.nom_stream.specs.Streams.{Answers, Ends, Tells}
+use Rattle.nom_stream.specs.Streams.{Answers, Ends, IsItemResult}
 use Rattle.nom_stream.specs.Streams.Answers.{Decided, AtEnd, Full, Faulted, Lacking}
 use Rattle.nom_stream.specs.Streams.Ends.{Clean, Within, Completed}
 use Rattle.nom_stream.specs.Wholes.{BytesOfWhole}
@@ -28,7 +28,7 @@ module _ {A V O : Type 0} (grammar : Grammar Bytes V O (Error Bytes)) (h : Held 
       omega (arith, (means.3).1, ap length t.is_held, ap length (means.3).2, length-append front (held_of h))
 
   of_taken : (more : Bool) (old : List ℕ) (taken : Taken O) → Takes grammar more old (held_of h) taken → HoldsLast old h taken →
-      Tells taken (Ok (Some (n, o))) → AreFirst old
+      IsItemResult taken (Ok (Some (n, o))) → AreFirst old
   of_taken more old (Took.Item k p) t l e =
       let both : ◌≡◌ {A = ℕ × O} (n, o) (k, p) = cc (e) in
       let same : n ≡ k = ap (λ (z : ℕ × O). z.0) both in

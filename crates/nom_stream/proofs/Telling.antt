@@ -17,8 +17,9 @@ use Rattle.nom_stream.specs.Held.{held_of}
 use Rattle.nom_stream.specs.Items.{Bytes, HoldsLast, IsUndecided, Stays, Takes}
 use Rattle.nom_io.specs.Faults.{NoFault, OneFault}
 use Rattle.nom_io.proofs.SeveralCalls.{fault_kept, fault_then, none_then}
-use Rattle.nom_stream.specs.Streams.{Answers, AreFillings, CountsFaults, Decides, Ends, EndsAsReader, Fills, Gives, IsEnough, IsUnread, IsUntold, LacksRoom}
-use Rattle.nom_stream.specs.Streams.{ReadAsNeeded, Reads, ReadsNothing, Tells, TellsFault, TellsNoFault, Told, Waited, counted}
+use Rattle.nom_stream.specs.Streams.{Answers, AreFillings, CountsFaults, Decides, Ends, EndsAsReader}
+use Rattle.nom_stream.specs.Streams.{Fills, Gives, HasEnough, IsUnread, IsUntold, BufferLacksRoom}
+use Rattle.nom_stream.specs.Streams.{ReadAsNeeded, Reads, ReadsNothing, IsItemResult, TellsFault, TellsNoFault, ItemResult, Waited, counted}
 use Rattle.nom_stream.specs.Streams.AreFillings.{NoFilling, OneMore}
 use Rattle.nom_stream.specs.Wanted.{most_read, wanted_of}
 use Rattle.nom_stream.specs.Streams.Answers.{Decided, AtEnd, Full, Faulted, Lacking}
@@ -29,16 +30,16 @@ use Rattle.nom_stream.proofs.Reading.{gives_more}
 
 module _ {R A V O : Type 0} (grammar : Grammar Bytes V O (Error Bytes)) (s t : Stream R A) where
   -- an item that is told of what is held as a complete input
-  pub completed : (k : Needed) (h : Held A) (taken : Taken O) (r : Told O) → t.held ≡ h → 0 < length (held_of s.held) →
-      s.settings.complete ≡ true → Takes grammar false (held_of s.held) (held_of h) taken → HoldsLast (held_of s.held) h taken → Tells taken r →
+  pub completed : (k : Needed) (h : Held A) (taken : Taken O) (r : ItemResult O) → t.held ≡ h → 0 < length (held_of s.held) →
+      s.settings.complete ≡ true → Takes grammar false (held_of s.held) (held_of h) taken → HoldsLast (held_of s.held) h taken → IsItemResult taken r →
       Ends grammar s t k r
   completed k h taken r e some complete g l tells =
       Completed some complete taken (subst (λ z. Takes grammar false (held_of s.held) (held_of z) taken) (sym e) g)
       (subst (λ z. HoldsLast (held_of s.held) z taken) (sym e) l) tells
 
   -- what is told of what is held, where that decides
-  pub decided : (h : Held A) (taken : Taken O) (r : Told O) → t.held ≡ h → (IsUndecided taken → ⊥) →
-      Takes grammar true (held_of s.held) (held_of h) taken → HoldsLast (held_of s.held) h taken → Tells taken r → Answers grammar s t r
+  pub decided : (h : Held A) (taken : Taken O) (r : ItemResult O) → t.held ≡ h → (IsUndecided taken → ⊥) →
+      Takes grammar true (held_of s.held) (held_of h) taken → HoldsLast (held_of s.held) h taken → IsItemResult taken r → Answers grammar s t r
   decided h taken r e d g l tells =
       Decided taken d (subst (λ z. Takes grammar true (held_of s.held) (held_of z) taken) (sym e) g)
       (subst (λ z. HoldsLast (held_of s.held) z taken) (sym e) l) tells
@@ -70,7 +71,7 @@ still_none s u t a b (inl f) = inl (subst (λ z. NoFault s.source.faults z.fault
 still_none s u t a b (inr f) = inr (f.0, ((f.1).0, subst (λ z. OneFault s.source.faults z.faults (f.1).0) (sym a) (f.1).1, b ∙ (f.1).2))
 
 -- an answer that tells no fault
-counts_none : {R A O : Type 0} (s t : Stream R A) (taken : Taken O) (r : Told O) → Tells taken r → TellsNoFault s t → CountsFaults s t r
+counts_none : {R A O : Type 0} (s t : Stream R A) (taken : Taken O) (r : ItemResult O) → IsItemResult taken r → TellsNoFault s t → CountsFaults s t r
 counts_none s t (Took.Item n o) r e f = subst (CountsFaults s t) (sym e) f
 counts_none s t Took.Nothing r e f = subst (CountsFaults s t) (sym e) f
 counts_none s t (Took.Undecided k) r e f = subst (CountsFaults s t) (sym e) f
@@ -78,13 +79,13 @@ counts_none s t (Took.Refused k n) r e f = subst (CountsFaults s t) (sym e) f
 counts_none s t (Took.Failed k n) r e f = subst (CountsFaults s t) (sym e) f
 counts_none s t Took.OutOfMemory r e f = subst (CountsFaults s t) (sym e) f
 
-more_reasons : {R A : Type 0} (count : ℕ) (t : Stream R A) (P Q : Type 0) → IsEnough count t P → IsEnough count t (P ⊎ Q)
+more_reasons : {R A : Type 0} (count : ℕ) (t : Stream R A) (P Q : Type 0) → HasEnough count t P → HasEnough count t (P ⊎ Q)
 more_reasons count t P Q (inl a) = inl a
 more_reasons count t P Q (inr (inl a)) = inr (inl a)
 more_reasons count t P Q (inr (inr (inl a))) = inr (inr (inl a))
 more_reasons count t P Q (inr (inr (inr a))) = inr (inr (inr (inl a)))
 
-counts_end : {R A V O : Type 0} (grammar : Grammar Bytes V O (Error Bytes)) (s u t : Stream R A) (k : Needed) (r : Told O) → Ends grammar u t k r →
+counts_end : {R A V O : Type 0} (grammar : Grammar Bytes V O (Error Bytes)) (s u t : Stream R A) (k : Needed) (r : ItemResult O) → Ends grammar u t k r →
     TellsNoFault s t → CountsFaults s t r
 counts_end grammar s u t k r (Clean a b e) f = subst (CountsFaults s t) (sym e) f
 counts_end grammar s u t k r (Within a b c e) f = subst (CountsFaults s t) (sym e) f
@@ -101,7 +102,7 @@ turns_left false false most held = suc (most - held)
 pub record SoFar {R A V O : Type 0} (left : R → Option (List ℕ)) (grammar : Grammar Bytes V O (Error Bytes)) (s u : Stream R A) (lacks : Bool) : Type 0 where
   pub at_end : EndsAsReader left s → EndsAsReader left u
   pub reads : Reads left grammar s u (IsUntold u ⊎ (lacks ≡ true))
-  pub room : lacks ≡ true → LacksRoom u
+  pub room : lacks ≡ true → BufferLacksRoom u
   pub faults : TellsNoFault s u
   pub no_read : s.ended ≡ true → (u.source ≡ s.source) × (u.ended ≡ true)
   pub settings : u.settings ≡ s.settings
@@ -116,7 +117,7 @@ pub record Stands {R A V O : Type 0} (left : R → Option (List ℕ)) (grammar :
 module _ {R A V O : Type 0} (left : R → Option (List ℕ)) (grammar : Grammar Bytes V O (Error Bytes)) (s u : Stream R A) (lacks : Bool)
     (i : SoFar left grammar s u lacks) where
   -- what is told now is nothing to what was read before
-  weakened : (r : Told O) (given : List ℕ) → ReadAsNeeded grammar s u (IsUntold u ⊎ (lacks ≡ true)) given → ReadAsNeeded grammar s u (IsUnread u r) given
+  weakened : (r : ItemResult O) (given : List ℕ) → ReadAsNeeded grammar s u (IsUntold u ⊎ (lacks ≡ true)) given → ReadAsNeeded grammar s u (IsUnread u r) given
   weakened r given (NoneRead e f) = NoneRead e f
   weakened r given (MoreRead earlier last e all f (inl a)) = MoreRead earlier last e all f (inl a)
   weakened r given (MoreRead earlier last e all f (inr (inl a))) = MoreRead earlier last e all f (inr (inl a))
@@ -124,7 +125,7 @@ module _ {R A V O : Type 0} (left : R → Option (List ℕ)) (grammar : Grammar 
   weakened r given (MoreRead earlier last e all f (inr (inr (inr (inl a))))) = MoreRead earlier last e all f (inr (inr (inr (inr (inl a)))))
   weakened r given (MoreRead earlier last e all f (inr (inr (inr (inr a))))) = MoreRead earlier last e all f (inr (inr (inr (inr (inr (i.room a))))))
 
-  reads_so_far : (r : Told O) → Reads left grammar s u (IsUnread u r)
+  reads_so_far : (r : ItemResult O) → Reads left grammar s u (IsUnread u r)
   reads_so_far r = record { given = i.reads.given; gives = i.reads.gives; as_needed = weakened r i.reads.given i.reads.as_needed }
 
   -- where more may be read, each filling gave as many bytes as were wanted
@@ -142,8 +143,8 @@ module _ {R A V O : Type 0} (left : R → Option (List ℕ)) (grammar : Grammar 
   all_filled given added goes_on few told enough (MoreRead earlier last e all f (inr (inr (inr (inr a))))) = absurd (cc (enough, a))
 
   -- it is decided, and told
-  pub decides_item : (t : Stream R A) (h : Held A) (taken : Taken O) (r : Told O) → (IsUndecided taken → ⊥) →
-      Takes grammar true (held_of u.held) (held_of h) taken → HoldsLast (held_of u.held) h taken → Tells taken r → t.offset ≡ counted u.offset r →
+  pub decides_item : (t : Stream R A) (h : Held A) (taken : Taken O) (r : ItemResult O) → (IsUndecided taken → ⊥) →
+      Takes grammar true (held_of u.held) (held_of h) taken → HoldsLast (held_of u.held) h taken → IsItemResult taken r → t.offset ≡ counted u.offset r →
       (t.source ≡ u.source) × (t.held ≡ h) × (t.settings ≡ u.settings) × (t.ended ≡ u.ended) × (t.pending ≡ u.pending) → Decides left grammar s t r
   decides_item t h taken r d g l tells count o = record {
     filled = u;
@@ -162,7 +163,7 @@ module _ {R A V O : Type 0} (left : R → Option (List ℕ)) (grammar : Grammar 
 module _ {R A V O : Type 0} {left : R → Option (List ℕ)} {grammar : Grammar Bytes V O (Error Bytes)} {s u : Stream R A} {lacks : Bool} {k : Needed}
     (there : Stands left grammar s u lacks k) where
   -- the reader is at its end
-  pub decides_end : (t : Stream R A) (r : Told O) → u.ended ≡ true → Ends grammar u t k r → ReadsNothing u t r → Decides left grammar s t r
+  pub decides_end : (t : Stream R A) (r : ItemResult O) → u.ended ≡ true → Ends grammar u t k r → ReadsNothing u t r → Decides left grammar s t r
   decides_end t r e ends o =
       let i = there.so_far in
       record {
@@ -179,7 +180,7 @@ module _ {R A V O : Type 0} {left : R → Option (List ℕ)} {grammar : Grammar 
       }
 
   -- an answer for which nothing is done, and that has no item
-  stopped : (r : Told O) → CountsFaults s u r → u.offset ≡ counted u.offset r → Answers grammar u u r → Decides left grammar s u r
+  stopped : (r : ItemResult O) → CountsFaults s u r → u.offset ≡ counted u.offset r → Answers grammar u u r → Decides left grammar s u r
   stopped r faults same answers =
       let i = there.so_far in
       record {
@@ -211,7 +212,7 @@ module _ {R A V O : Type 0} {left : R → Option (List ℕ)} {grammar : Grammar 
   reads_on : u.ended ≡ false → length (held_of u.held) < u.settings.most → u.pending ≡ None → lacks ≡ false → (wants : ℕ) →
       wants ≡ wanted_of u.settings k (length (held_of u.held)) → (Unreadable : Type 0) (t : Stream R A) → Fills left u t →
       length (held_of t.held) < wants + length (held_of u.held) + most_read u.settings →
-      IsEnough (wants + length (held_of u.held)) t Unreadable → Reads left grammar s t Unreadable
+      HasEnough (wants + length (held_of u.held)) t Unreadable → Reads left grammar s t Unreadable
   reads_on goes_on few told has_room wants as_many Unreadable t f below enough =
       let i = there.so_far in
       let given = i.reads.given in
@@ -229,7 +230,7 @@ module _ {R A V O : Type 0} {left : R → Option (List ℕ)} {grammar : Grammar 
               waits = subst (λ z. Takes grammar true z z (Undecided k)) here there.waits;
               no_more = omega (arith, below, ap length f.gives.added, length-append (held_of u.held) f.given, wanted, ap most_read i.settings);
             })
-            (subst (λ z. IsEnough z t Unreadable) all enough);
+            (subst (λ z. HasEnough z t Unreadable) all enough);
       }
 
   -- or a read failed: nothing is read then
@@ -285,7 +286,7 @@ module _ {R A V O : Type 0} {left : R → Option (List ℕ)} {grammar : Grammar 
 
   -- so it is of a stream after more was waited for, which told no fault
   further : (t : Stream R A) (wants : ℕ) (r : Result (Unit {0}) Unread) (lack : Bool) → u.ended ≡ false → Waited left u t wants r → u.pending ≡ None →
-      TellsNoFault u t → (lack ≡ true → LacksRoom t) → Reads left grammar s t (IsUntold t ⊎ (lack ≡ true)) → SoFar left grammar s t lack
+      TellsNoFault u t → (lack ≡ true → BufferLacksRoom t) → Reads left grammar s t (IsUntold t ⊎ (lack ≡ true)) → SoFar left grammar s t lack
   further t wants r lack goes_on d told faults room reads =
       let i = there.so_far in
       record {
@@ -318,7 +319,7 @@ module _ {R A V O : Type 0} {left : R → Option (List ℕ)} {grammar : Grammar 
 
 -- what is told at the end, by a grammar's state that was kept
 pub ends_by : {R A V O State : Type 0} (grammar : State → Grammar Bytes V O (Error Bytes)) (p q : State) → p ≡ q → {u t : Stream R A} {k : Needed}
-    {r : Told O} → Ends (grammar p) u t k r → Ends (grammar q) u t k r
+    {r : ItemResult O} → Ends (grammar p) u t k r → Ends (grammar q) u t k r
 ends_by grammar p q e {u} {t} {k} {r} h = subst (λ z. Ends (grammar z) u t k r) e h
 
 -- where what was taken leaves the item undecided, all is held as it was

@@ -11,7 +11,7 @@ use Rattle.nom_stream.specs.declared.step.Taken.TheVariants as Took
 use Rattle.nom_stream.specs.declared.stream.Stream.{Stream}
 use Rattle.nom_stream.specs.Held.{held_of}
 use Rattle.nom_stream.specs.Items.{Bytes, IsUndecided, Takes}
-use Rattle.nom_stream.specs.Streams.{Answers, Decides, Ends, EndsAsReader, Gives, Tells, Told}
+use Rattle.nom_stream.specs.Streams.{Answers, Decides, Ends, EndsAsReader, Gives, IsItemResult, ItemResult}
 use Rattle.nom_stream.specs.Streams.Answers.{Decided, AtEnd, Full, Faulted, Lacking}
 use Rattle.nom_stream.specs.Streams.Ends.{Clean, Within, Completed}
 use Rattle.nom_stream.specs.Wholes.{AtWhole, TellsFailure, HasLeft, IsLacking, TellsWhole, AnswersWhole, used_of}
@@ -72,11 +72,11 @@ module _ {V : Type 0} (m : Meaning Bytes V (Error Bytes)) (lawful : IsLawful byt
   completed e true f y ky d k o p a c (inr b) = lawful.one_outcome false y i o p ky ki (record { elements_are = sym d; mark_is = refl }) c tt b.2
 
   -- what is needed at an input is needed at each that is equal as models
-  lacking_alike : i.now ≡ x.now → (k : Option ℕ) → m.answers true x (Stop (Needs k)) → m.answers true i (Stop (Needs k))
-  lacking_alike e k a = lawful.consistent true x i (Stop (Needs k)) kx ki (record { elements_are = sym e; mark_is = refl }) a tt
+  lacking_consistent : i.now ≡ x.now → (k : Option ℕ) → m.answers true x (Stop (Needs k)) → m.answers true i (Stop (Needs k))
+  lacking_consistent e k a = lawful.consistent true x i (Stop (Needs k)) kx ki (record { elements_are = sym e; mark_is = refl }) a tt
 
 module _ {R A V O : Type 0} (grammar : Grammar Bytes V O (Error Bytes)) (t : Stream R A) (i : Bytes) (p : Outcome V) where
-  abbrev Tellings : Told O → Type 0
+  abbrev Tellings : ItemResult O → Type 0
   Tellings r = TellsWhole grammar t r i p
 
   -- of a parse that decides: its outcome is that of the whole
@@ -87,7 +87,7 @@ module _ {R A V O : Type 0} (grammar : Grammar Bytes V O (Error Bytes)) (t : Str
     tells_failure TooLarge a = large a
 
     tells : (held : (more ≡ true → ⊥) → held_of t.held ≡ x.now → held_of t.held ≡ i.now) (taken : Taken O) →
-        (more ≡ true → IsUndecided taken → ⊥) → Means grammar more x (held_of t.held) taken → (r : Told O) → Tells taken r → Tellings r
+        (more ≡ true → IsUndecided taken → ⊥) → Means grammar more x (held_of t.held) taken → (r : ItemResult O) → IsItemResult taken r → Tellings r
     tells held (Took.Item n o) d h r e = subst Tellings (sym e) (h.0, h.1, same (Accept n h.0) h.2 (λ _. tt))
     tells held Took.Nothing d h r e = subst Tellings (sym e) ((h.0).0, same (Accept 0 (h.0).0) (h.0).1 (λ _. tt))
     tells held (Took.Undecided k) d h r e = subst Tellings (sym e) (held (λ f. d f tt) h.1, same (Stop (Needs (size_of k))) h.0 (λ f. absurd (d f tt)))
@@ -97,13 +97,14 @@ module _ {R A V O : Type 0} (grammar : Grammar Bytes V O (Error Bytes)) (t : Str
 
 -- how many bytes an item had: they are no longer among those that no item had
 module _ {R A V O : Type 0} (grammar : Grammar Bytes V O (Error Bytes)) (t : Stream R A) where
-  abbrev Moves : List ℕ → Told O → Type 0
+  abbrev Moves : List ℕ → ItemResult O → Type 0
   Moves old r = (front : List ℕ) × (length front ≡ used_of r) × (old ≡ front ++ held_of t.held)
 
-  stays : (old : List ℕ) (r : Told O) → used_of r ≡ 0 → held_of t.held ≡ old → Moves old r
+  stays : (old : List ℕ) (r : ItemResult O) → used_of r ≡ 0 → held_of t.held ≡ old → Moves old r
   stays old r e h = ([], sym e, sym h)
 
-  pub moves : (more : Bool) (x : Bytes) (taken : Taken O) → Means grammar more x (held_of t.held) taken → (r : Told O) → Tells taken r → Moves x.now r
+  pub moves : (more : Bool) (x : Bytes) (taken : Taken O) → Means grammar more x (held_of t.held) taken → (r : ItemResult O) → IsItemResult taken r →
+      Moves x.now r
   moves more x (Took.Item n o) h r e = subst (Moves x.now) (sym e) (h.3)
   moves more x Took.Nothing h r e = stays x.now r (ap used_of e) h.1
   moves more x (Took.Undecided k) h r e = stays x.now r (ap used_of e) h.1
@@ -111,15 +112,16 @@ module _ {R A V O : Type 0} (grammar : Grammar Bytes V O (Error Bytes)) (t : Str
   moves more x (Took.Failed k at) h r e = stays x.now r (ap used_of e) h.1
   moves more x Took.OutOfMemory h r e = stays x.now r (ap used_of e) h
 
-  moves_taken : (more : Bool) (old : List ℕ) (taken : Taken O) (r : Told O) → Takes grammar more old (held_of t.held) taken → Tells taken r → Moves old r
+  moves_taken : (more : Bool) (old : List ℕ) (taken : Taken O) (r : ItemResult O) → Takes grammar more old (held_of t.held) taken → IsItemResult taken r →
+      Moves old r
   moves_taken more old taken r k e = subst (λ z. Moves z r) k.is_held (moves more k.input taken (meant grammar more old (held_of t.held) taken k) r e)
 
-  moves_ends : (u : Stream R A) (k : Needed) (r : Told O) → Ends grammar u t k r → Moves (held_of u.held) r
+  moves_ends : (u : Stream R A) (k : Needed) (r : ItemResult O) → Ends grammar u t k r → Moves (held_of u.held) r
   moves_ends u k r (Clean a b e) = stays (held_of u.held) r (ap used_of e) (b ∙ sym a)
   moves_ends u k r (Within s a b e) = stays (held_of u.held) r (ap used_of e) b
   moves_ends u k r (Completed s a taken g l e) = moves_taken false (held_of u.held) taken r g e
 
-  pub moves_answer : (u : Stream R A) (r : Told O) → Answers grammar u t r → Moves (held_of u.held) r
+  pub moves_answer : (u : Stream R A) (r : ItemResult O) → Answers grammar u t r → Moves (held_of u.held) r
   moves_answer u r (Decided taken d g l e) = moves_taken true (held_of u.held) taken r g e
   moves_answer u r (AtEnd e k g h) = moves_ends u k r h
   moves_answer u r (Full a b w e) = stays (held_of u.held) r (ap used_of e) b
@@ -132,8 +134,8 @@ module _ {R A V O : Type 0} (left : R → Option (List ℕ)) (grammar : Grammar 
   at_end : u.ended ≡ true → i.now ≡ held_of u.held
   at_end e = has.2 ∙ ap (λ z. held_of u.held ++ z) (has.3 e) ∙ append-nil (held_of u.held)
 
-  of_decided : (taken : Taken O) (r : Told O) → (IsUndecided taken → ⊥) → Takes grammar true (held_of u.held) (held_of t.held) taken →
-      Tells taken r → TellsWhole grammar t r i p
+  of_decided : (taken : Taken O) (r : ItemResult O) → (IsUndecided taken → ⊥) → Takes grammar true (held_of u.held) (held_of t.held) taken →
+      IsItemResult taken r → TellsWhole grammar t r i p
   of_decided taken r d g e =
       let x = g.input in
       let longer : i.now ≡ x.now ++ has.0 = has.2 ∙ ap (λ z. z ++ has.0) (sym g.is_held) in
@@ -142,7 +144,7 @@ module _ {R A V O : Type 0} (left : R → Option (List ℕ)) (grammar : Grammar 
       (f refl) b) (λ a. inr (inr (x, has.0, longer, a)))
       (λ f. absurd (f refl)) taken (λ _. d) (meant grammar true (held_of u.held) (held_of t.held) taken g) r e
 
-  of_ends : u.ended ≡ true → (k : Needed) (r : Told O) → Takes grammar true (held_of u.held) (held_of u.held) (Took.Undecided k) →
+  of_ends : u.ended ≡ true → (k : Needed) (r : ItemResult O) → Takes grammar true (held_of u.held) (held_of u.held) (Took.Undecided k) →
       Ends grammar u t k r → TellsWhole grammar t r i p
   of_ends ended k r g (Clean a c e) =
       let x = g.input in
@@ -151,7 +153,7 @@ module _ {R A V O : Type 0} (left : R → Option (List ℕ)) (grammar : Grammar 
       subst (λ z. TellsWhole grammar t z i p) (sym e) (
         at_end ended ∙ a,
         size_of k,
-        lacking_alike grammar.meaning (g.parses.lawful sound) x i g.known ki all
+        lacking_consistent grammar.meaning (g.parses.lawful sound) x i g.known ki all
             (size_of k) h.0,
       )
   of_ends ended k r g (Within s a c e) =
@@ -171,7 +173,7 @@ module _ {R A V O : Type 0} (left : R → Option (List ℕ)) (grammar : Grammar 
       tells grammar t i p false y (λ o c f. one o c) (λ c. inr (inl (sym (one (Stop (Fails TooLarge)) c))))
       (λ f c. c ∙ sym all_too) taken (λ f. absurd (cc (f))) (meant grammar false (held_of u.held) (held_of t.held) taken q) r e
 
-  pub of_answer : (r : Told O) → Answers grammar u t r → TellsWhole grammar t r i p
+  pub of_answer : (r : ItemResult O) → Answers grammar u t r → TellsWhole grammar t r i p
   of_answer r (Decided taken d g l e) = of_decided taken r d g e
   of_answer r (AtEnd e k g h) = of_ends e k r g h
   of_answer r (Full a c w e) = subst (λ z. TellsWhole grammar t z i p) (sym e)
@@ -188,7 +190,7 @@ module _ {R A V O : Type 0} (left : R → Option (List ℕ)) (grammar : Grammar 
       (subst (λ z. AtWhole grammar.meaning z.complete whole p) (sym d.settings.0) b) sound r d.answers
 
   -- and the bytes that no item had are a rest of the whole
-  pub left_after : (s t : Stream R A) (r : Told O) (xs : List ℕ) → Decides left grammar s t r → HasLeft left s xs → (front : List ℕ) ×
+  pub left_after : (s t : Stream R A) (r : ItemResult O) (xs : List ℕ) → Decides left grammar s t r → HasLeft left s xs → (front : List ℕ) ×
       (length front ≡ used_of r) × ((rest : List ℕ) × HasLeft left t rest × (xs ≡ front ++ rest))
   left_after s t r xs d has =
       let u = d.filled in

@@ -6,11 +6,11 @@ use Rattle.nom_internal.specs.Prelude.{Grammar}
 use Rattle.nom_stream.specs.declared.stream.Stop.{Stop}
 use Rattle.nom_stream.specs.declared.stream.Stream.{Stream}
 use Rattle.nom_stream.specs.Items.{Bytes}
-use Rattle.nom_stream.specs.Streams.{Decides, Told}
+use Rattle.nom_stream.specs.Streams.{Decides, ItemResult}
 use Rattle.nom_stream.specs.Wholes.{Calls}
 
 -- answers that are items, each with how many bytes it has
-abbrev pub told_of : {O : Type 0} → List (ℕ × O) → List (Told O)
+abbrev pub told_of : {O : Type 0} → List (ℕ × O) → List (ItemResult O)
 told_of [] = []
 told_of (p ∷ ps) = Ok (Some p) ∷ told_of ps
 

@@ -19,20 +19,20 @@ use Rattle.nom_io.specs.declared.faults.Faults.{Faults}
 use Rattle.nom_stream.specs.Wanted.{most_read, wanted_of}
 
 -- an item with how many bytes it has, none at the end, or why there is none
-abbrev pub Told : Type 0 → Type 0
-Told O = Result (Option (ℕ × O)) Why.Stop
+abbrev pub ItemResult : Type 0 → Type 0
+ItemResult O = Result (Option (ℕ × O)) Why.Stop
 
 -- what is told of what was taken
-abbrev pub Tells : {O : Type 0} → Taken O → Told O → Type 0
-Tells (Took.Item n o) r = r ≡ Ok (Some (n, o))
-Tells Took.Nothing r = r ≡ Err Stopped.Nothing
-Tells (Took.Undecided k) r = r ≡ Err (Stopped.Incomplete k)
-Tells (Took.Refused e n) r = r ≡ Err (Stopped.Refused e n)
-Tells (Took.Failed e n) r = r ≡ Err (Stopped.Failed e n)
-Tells Took.OutOfMemory r = r ≡ Err Stopped.OutOfMemory
+abbrev pub IsItemResult : {O : Type 0} → Taken O → ItemResult O → Type 0
+IsItemResult (Took.Item n o) r = r ≡ Ok (Some (n, o))
+IsItemResult Took.Nothing r = r ≡ Err Stopped.Nothing
+IsItemResult (Took.Undecided k) r = r ≡ Err (Stopped.Incomplete k)
+IsItemResult (Took.Refused e n) r = r ≡ Err (Stopped.Refused e n)
+IsItemResult (Took.Failed e n) r = r ≡ Err (Stopped.Failed e n)
+IsItemResult Took.OutOfMemory r = r ≡ Err Stopped.OutOfMemory
 
 -- the offset after an answer: an item's bytes are counted, up to the greatest `u64`
-abbrev pub counted : {O : Type 0} → ℕ → Told O → ℕ
+abbrev pub counted : {O : Type 0} → ℕ → ItemResult O → ℕ
 counted offset (Ok (Some (n, o))) = min (offset + n) (2 ^ 64 - 1)
 counted offset (Ok None) = offset
 counted offset (Err e) = offset
@@ -59,12 +59,12 @@ module _ {R A : Type 0} (left : R → Option (List ℕ)) where
     ReadsOnce (Err e) = Gives []
 
 -- that many bytes are held; or the reader is at its end, no more may be held, or bytes couldn't be read
-abbrev pub IsEnough : {R A : Type 0} → (count : ℕ) → Stream R A → (Unreadable : Type 0) → Type 0
-IsEnough count t Unreadable = (count ≤ length (held_of t.held)) ⊎ (t.ended ≡ true) ⊎ (t.settings.most ≤ length (held_of t.held)) ⊎ Unreadable
+abbrev pub HasEnough : {R A : Type 0} → (count : ℕ) → Stream R A → (Unreadable : Type 0) → Type 0
+HasEnough count t Unreadable = (count ≤ length (held_of t.held)) ⊎ (t.ended ≡ true) ⊎ (t.settings.most ≤ length (held_of t.held)) ⊎ Unreadable
 
 -- memory is wanted: the buffer has too little for the bytes that are held and those that a read asks for, as far as the limit lets it
-abbrev pub LacksRoom : {R A : Type 0} → Stream R A → Type 0
-LacksRoom t = vec_capacity t.held.bytes < min (length (held_of t.held) + most_read t.settings) t.settings.most
+abbrev pub BufferLacksRoom : {R A : Type 0} → Stream R A → Type 0
+BufferLacksRoom t = vec_capacity t.held.bytes < min (length (held_of t.held) + most_read t.settings) t.settings.most
 
 -- of one read
 abbrev pub CountsOnce : {T : Type 0} → (old new : Faults) → Result T Unread → Type 0
@@ -94,7 +94,7 @@ module _ {R A : Type 0} (s t : Stream R A) where
   CountsUnread (Err (Unread.Fault e)) = TellsFault e
   CountsUnread (Err Unread.OutOfMemory) = (s.pending ≡ None) × TellsNoFault
 
-  abbrev pub CountsFaults : {O : Type 0} → Told O → Type 0
+  abbrev pub CountsFaults : {O : Type 0} → ItemResult O → Type 0
   CountsFaults (Ok x) = TellsNoFault
   CountsFaults (Err (Stopped.Refused e n)) = TellsNoFault
   CountsFaults (Err (Stopped.Failed e n)) = TellsNoFault
@@ -115,22 +115,22 @@ pub record MayWait {R A : Type 0} (s : Stream R A) (wants : ℕ) : Type 0 where
 pub record Waited {R A : Type 0} (left : R → Option (List ℕ)) (s t : Stream R A) (wants : ℕ) (r : Result (Unit {0}) Unread) : Type 0 where
   pub at_end : EndsAsReader left t
   pub fills : Fills left s t
-  pub enough : IsOk r → IsEnough (wants + length (held_of s.held)) t (IsUntold t)
+  pub enough : IsOk r → HasEnough (wants + length (held_of s.held)) t (IsUntold t)
   pub some : IsOk r → (t.ended ≡ true) ⊎ (length (held_of s.held) < length (held_of t.held))
   pub no_more : length (held_of t.held) < wants + length (held_of s.held) + most_read s.settings
-  pub memory : r ≡ Err Unread.OutOfMemory → LacksRoom t
+  pub memory : r ≡ Err Unread.OutOfMemory → BufferLacksRoom t
   pub none : (e : Io.Error) → r ≡ Err (Unread.Fault e) → held_of t.held ≡ held_of s.held
   pub faults : CountsUnread s t r
   pub settings : t.settings ≡ s.settings
   pub offset : t.offset ≡ s.offset
 
 -- bytes couldn't be read: a read failed, and that is told, or is yet to be; or there is no room for one
-abbrev pub IsUnread : {R A O : Type 0} → Stream R A → Told O → Type 0
-IsUnread t r = ((e : Io.Error) × (r ≡ Err (Stopped.Fault e))) ⊎ IsUntold t ⊎ LacksRoom t
+abbrev pub IsUnread : {R A O : Type 0} → Stream R A → ItemResult O → Type 0
+IsUnread t r = ((e : Io.Error) × (r ≡ Err (Stopped.Fault e))) ⊎ IsUntold t ⊎ BufferLacksRoom t
 
 -- these bytes leave the item undecided
-abbrev pub Waits : {V O : Type 0} → Grammar Bytes V O (Error Bytes) → List ℕ → Type 0
-Waits grammar xs = (k : Needed) × Takes grammar true xs xs (Took.Undecided k)
+abbrev pub WaitsForMore : {V O : Type 0} → Grammar Bytes V O (Error Bytes) → List ℕ → Type 0
+WaitsForMore grammar xs = (k : Needed) × Takes grammar true xs xs (Took.Undecided k)
 
 module _ {V O : Type 0} (grammar : Grammar Bytes V O (Error Bytes)) (settings : Settings) (held : List ℕ) where
   -- A filling: bytes that were read after those that were held and those of earlier fillings. These were parsed before it, and left the
@@ -153,37 +153,38 @@ module _ {R A V O : Type 0} (grammar : Grammar Bytes V O (Error Bytes)) (s t : S
     NoneRead : given ≡ [] → t.source ≡ s.source → ReadAsNeeded given
     MoreRead : (earlier last : List ℕ) → given ≡ earlier ++ last → AreFillings grammar s.settings (held_of s.held) earlier →
         (f : IsFilling grammar s.settings (held_of s.held) earlier last) →
-        IsEnough (wanted_of s.settings f.needed (length (held_of s.held ++ earlier)) + length (held_of s.held ++ earlier)) t Unreadable →
+        HasEnough (wanted_of s.settings f.needed (length (held_of s.held ++ earlier)) + length (held_of s.held ++ earlier)) t Unreadable →
         ReadAsNeeded given
 
 module _ {R A V O : Type 0} (grammar : Grammar Bytes V O (Error Bytes)) (s t : Stream R A) where
   -- what is told at the end of the reader, where what is held isn't decided
-  pub data Ends (k : Needed) (r : Told O) : Type 0 where
+  pub data Ends (k : Needed) (r : ItemResult O) : Type 0 where
     -- nothing is held
     Clean : held_of s.held ≡ [] → held_of t.held ≡ [] → r ≡ Ok None → Ends k r
     -- the data ended within an item
     Within : 0 < length (held_of s.held) → s.settings.complete ≡ false → held_of t.held ≡ held_of s.held → r ≡ Err (Stopped.Incomplete k) → Ends k r
     -- or what is held is parsed as a complete input
     Completed : 0 < length (held_of s.held) → s.settings.complete ≡ true → (taken : Taken O) → Takes grammar false (held_of s.held) (held_of t.held) taken →
-        HoldsLast (held_of s.held) t.held taken → Tells taken r → Ends k r
+        HoldsLast (held_of s.held) t.held taken → IsItemResult taken r → Ends k r
 
   -- what is told of what is held
-  pub data Answers (r : Told O) : Type 0 where
+  pub data Answers (r : ItemResult O) : Type 0 where
     -- it is decided
     Decided : (taken : Taken O) → (IsUndecided taken → ⊥) → Takes grammar true (held_of s.held) (held_of t.held) taken →
-        HoldsLast (held_of s.held) t.held taken → Tells taken r → Answers r
+        HoldsLast (held_of s.held) t.held taken → IsItemResult taken r → Answers r
     -- the reader is at its end
     AtEnd : s.ended ≡ true → (k : Needed) → Takes grammar true (held_of s.held) (held_of s.held) (Took.Undecided k) → Ends k r → Answers r
     -- as many bytes are held as may be, and don't decide
-    Full : s.settings.most ≤ length (held_of s.held) → held_of t.held ≡ held_of s.held → Waits grammar (held_of s.held) → r ≡ Err Stopped.TooLong → Answers r
+    Full : s.settings.most ≤ length (held_of s.held) → held_of t.held ≡ held_of s.held → WaitsForMore grammar (held_of s.held) → r ≡ Err Stopped.TooLong →
+        Answers r
     -- it isn't decided, and a read failed
-    Faulted : (e : Io.Error) → held_of t.held ≡ held_of s.held → Waits grammar (held_of s.held) → r ≡ Err (Stopped.Fault e) → Answers r
+    Faulted : (e : Io.Error) → held_of t.held ≡ held_of s.held → WaitsForMore grammar (held_of s.held) → r ≡ Err (Stopped.Fault e) → Answers r
     -- it isn't decided, and there is no room for more
-    Lacking : LacksRoom s → held_of t.held ≡ held_of s.held → Waits grammar (held_of s.held) → r ≡ Err Stopped.OutOfMemory → Answers r
+    Lacking : BufferLacksRoom s → held_of t.held ≡ held_of s.held → WaitsForMore grammar (held_of s.held) → r ≡ Err Stopped.OutOfMemory → Answers r
 
 -- What else holds of a stream after an answer for which nothing was read: the bytes of an item are counted, and are the last that were
 -- used.
-pub record ReadsNothing {R A O : Type 0} (s t : Stream R A) (r : Told O) : Type 0 where
+pub record ReadsNothing {R A O : Type 0} (s t : Stream R A) (r : ItemResult O) : Type 0 where
   pub offset : t.offset ≡ counted s.offset r
   pub last : IfOk r (λ r. IfSome r (λ p. p.0 ≤ t.held.start))
   pub source : t.source ≡ s.source
@@ -199,7 +200,8 @@ module _ {R A V O : Type 0} (left : R → Option (List ℕ)) (grammar : Grammar 
     pub as_needed : ReadAsNeeded grammar s t Unreadable given
 
 -- One answer: some bytes were read, as they were needed, and of what is held then an answer is told.
-pub record Decides {R A V O : Type 0} (left : R → Option (List ℕ)) (grammar : Grammar Bytes V O (Error Bytes)) (s t : Stream R A) (r : Told O) : Type 0 where
+pub record Decides {R A V O : Type 0} (left : R →
+    Option (List ℕ)) (grammar : Grammar Bytes V O (Error Bytes)) (s t : Stream R A) (r : ItemResult O) : Type 0 where
   -- the stream as it stood then
   pub filled : Stream R A
   pub reads : Reads left grammar s filled (IsUnread filled r)

@@ -8,7 +8,7 @@ use Rattle.nom_stream.specs.declared.stream.Stop.TheVariants as Stopped
 use Rattle.nom_stream.specs.declared.stream.Stream.{Stream}
 use Rattle.nom_stream.specs.Held.{held_of, last_of}
 use Rattle.nom_stream.specs.Items.{Bytes}
-use Rattle.nom_stream.specs.Streams.{Decides, Told}
+use Rattle.nom_stream.specs.Streams.{Decides, ItemResult}
 
 -- These are the bytes that no item had yet: those that are held, and those that the reader has left, where they are known. A stream that
 -- has ended has none of the latter; that holds of a new one, and calls of `next_item` keep it.
@@ -16,18 +16,18 @@ abbrev pub HasLeft : {R A : Type 0} → (R → Option (List ℕ)) → Stream R A
 HasLeft left s xs = (after : List ℕ) × (left s.source.inner ≡ Some after) × (xs ≡ held_of s.held ++ after) × (s.ended ≡ true → after ≡ [])
 
 -- the items that were told, and how many bytes they have
-abbrev pub items_of : {O : Type 0} → List (Told O) → List O
+abbrev pub items_of : {O : Type 0} → List (ItemResult O) → List O
 items_of [] = []
 items_of (Ok (Some (n, o)) ∷ rs) = o ∷ items_of rs
 items_of (Ok None ∷ rs) = items_of rs
 items_of (Err e ∷ rs) = items_of rs
 
-abbrev pub used_of : {O : Type 0} → Told O → ℕ
+abbrev pub used_of : {O : Type 0} → ItemResult O → ℕ
 used_of (Ok (Some (n, o))) = n
 used_of (Ok None) = 0
 used_of (Err e) = 0
 
-abbrev pub used_by : {O : Type 0} → List (Told O) → ℕ
+abbrev pub used_by : {O : Type 0} → List (ItemResult O) → ℕ
 used_by [] = 0
 used_by (r ∷ rs) = used_of r + used_by rs
 
@@ -51,7 +51,7 @@ module _ {V : Type 0} (m : Meaning Bytes V (Error Bytes)) where
       ((x : Bytes) × (more : List ℕ) × (i.now ≡ x.now ++ more) × m.answers true x (Stop (Fails TooLarge)))
 
 -- What an answer tells of the outcome p at i, the bytes that no item had before; t is the stream after it.
-abbrev pub TellsWhole : {R A V O : Type 0} → Grammar Bytes V O (Error Bytes) → Stream R A → Told O → Bytes → Outcome V → Type 0
+abbrev pub TellsWhole : {R A V O : Type 0} → Grammar Bytes V O (Error Bytes) → Stream R A → ItemResult O → Bytes → Outcome V → Type 0
 TellsWhole {V = V} grammar t (Ok (Some (n, o))) i p = (v : V) × grammar.IsOutput v o × (Accept n v ≡ p)
 TellsWhole grammar t (Ok None) i p = (i.now ≡ []) × (k : Option ℕ) × grammar.meaning.answers true i (Stop (Needs k))
 TellsWhole grammar t (Err (Stopped.Refused e at)) i p = p ≡ Refuse
@@ -64,12 +64,12 @@ TellsWhole grammar t (Err Stopped.OutOfMemory) i p = Unit {0}
 
 module _ {R A V O : Type 0} (left : R → Option (List ℕ)) (grammar : Grammar Bytes V O (Error Bytes)) where
   -- calls of `next_item`, one after another, and what each answered
-  abbrev pub Calls : List (Told O) → Stream R A → Stream R A → Type 0
+  abbrev pub Calls : List (ItemResult O) → Stream R A → Stream R A → Type 0
   Calls [] s t = t ≡ s
   Calls (r ∷ rs) s t = (u : Stream R A) × Decides left grammar s u r × Calls rs u t
 
   -- The answers rs, of which the items are the first of those that the whole has; place is where the next one begins.
-  pub record AreOfWhole (s t : Stream R A) (rs : List (Told O)) (whole : Bytes) (limit : ℕ) (trees : List V) : Type 0 where
+  pub record AreOfWhole (s t : Stream R A) (rs : List (ItemResult O)) (whole : Bytes) (limit : ℕ) (trees : List V) : Type 0 where
     pub first : List V
     pub others : List V
     pub trees_are : trees ≡ first ++ others
@@ -85,7 +85,7 @@ module _ (A : Type 0) {R V O : Type 0} (left : R → Option (List ℕ)) (grammar
   -- One answer is that of the whole, however its bytes came.
   abbrev pub AnswersWhole : Type 0
   AnswersWhole =
-      (s t : Stream R A) (r : Told O) → Decides left grammar s t r → (whole : Bytes) → bytes_model.IsKnown whole → HasLeft left s whole.now →
+      (s t : Stream R A) (r : ItemResult O) → Decides left grammar s t r → (whole : Bytes) → bytes_model.IsKnown whole → HasLeft left s whole.now →
       (p : Outcome V) → AtWhole grammar.meaning s.settings.complete whole p → TellsWhole grammar t r whole p
 
   -- The bytes of an item, as they are lent after the call, are the first of those that no item had before it.
@@ -98,7 +98,7 @@ module _ (A : Type 0) {R V O : Type 0} (left : R → Option (List ℕ)) (grammar
   -- where calls between them gave none.
   abbrev pub ItemsOfWhole : Type 0
   ItemsOfWhole =
-      (s t : Stream R A) (rs : List (Told O)) → Calls left grammar rs s t → (whole : Bytes) → bytes_model.IsKnown whole → HasLeft left s whole.now →
+      (s t : Stream R A) (rs : List (ItemResult O)) → Calls left grammar rs s t → (whole : Bytes) → bytes_model.IsKnown whole → HasLeft left s whole.now →
       s.offset ≤ 2 ^ 64 - 1 →
       (limit : ℕ) (trees : List V) → AreItems bytes_model (AtWhole grammar.meaning s.settings.complete) (length (items_of rs) + limit) whole trees →
       AreOfWhole left grammar s t rs whole limit trees

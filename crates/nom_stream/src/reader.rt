@@ -71,7 +71,7 @@ impl<R: Read> Reader<R> {
         match self.inner.read(room) {
             Ok(count) => Ok(count),
             Err(error) => {
-                self.faults.give(error);
+                self.faults.count_error(error);
                 Err(error)
             }
         }

@@ -67,7 +67,7 @@ impl<R: Read, A: Allocator + Copy> Stream<R, A> {
     ghost use Rattle.std.specs.Prelude.{◌≡◌, false, ◌<◌, ◌+◌, ◌^◌, None, Err, IfOk, IfSome, [], length, vec_capacity};
     ghost use Rattle.nom_stream.specs.Held.{held_of, last_of};
     ghost use Rattle.nom_stream.specs.Streams.{CountsOnce, Decides, Ends, MayWait, ReadsNothing};
-    ghost use Rattle.nom_stream.specs.Streams.{ReadsOnce, Tells, Waited, counted};
+    ghost use Rattle.nom_stream.specs.Streams.{ReadsOnce, IsItemResult, Waited, counted};
 
     /// Returns a stream that starts at the reader's present place.
     pub fn new(alloc: A, source: R, settings: Settings) -> Self
@@ -162,7 +162,7 @@ impl<R: Read, A: Allocator + Copy> Stream<R, A> {
     // What is told of what was taken; the bytes of an item are counted.
     #[inline(always)]
     fn tell<T>(&mut self, taken: Taken<T>) -> Result<Option<(usize, T)>, Stop>
-        ensures tells { Tells taken result }
+        ensures tells { IsItemResult taken result }
         ensures offset { self.new.offset ≡ counted self.old.offset result }
         ensures others { (self.new.source ≡ self.old.source) × (self.new.held ≡ self.old.held)
             × (self.new.settings ≡ self.old.settings) × (self.new.ended ≡ self.old.ended) × (self.new.pending ≡ self.old.pending) }

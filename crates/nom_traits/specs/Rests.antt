@@ -35,8 +35,8 @@ module _ {I A : Type 0} (w : Model I A) where
   same_then x y z r s = record { elements_are = r.elements_are ∙ s.elements_are; mark_is = r.mark_is ∙ s.mark_is }
 
   -- a rest of an input is a rest of one that is equal as models
-  pub rest_alike : (x y : I) (n : ℕ) (j : I) → IsSame w x y → IsSuffixOf w x n j → IsSuffixOf w y n j
-  rest_alike x y n j r p = record {
+  pub rest_consistent : (x y : I) (n : ℕ) (j : I) → IsSame w x y → IsSuffixOf w x n j → IsSuffixOf w y n j
+  rest_consistent x y n j r p = record {
     known = p.known;
     front = p.front;
     whole = sym r.elements_are ∙ p.whole;

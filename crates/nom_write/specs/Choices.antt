@@ -19,12 +19,12 @@ pub record BranchForms (O A : Type 0) : Type 1 where
   pub Form : O → List A → Type 0
   pub Fails : O → Space → WriteError → Type 0
 
-abbrev pub first_forms : {O A : Type 0} → (O → List A → Type 0) → (O → Space → WriteError → Type 0) → BranchForms O A
-first_forms Form Fails = record { Form = Form; Fails = Fails }
+abbrev pub first_forms : {P O A : Type 0} → (P → O → List A → Type 0) → (P → O → Space → WriteError → Type 0) → P → BranchForms O A
+first_forms Form Fails p = record { Form = Form p; Fails = Fails p }
 
 -- the branches before, and one more
-abbrev pub or_forms : {O A : Type 0} → BranchForms O A → (O → List A → Type 0) → (O → Space → WriteError → Type 0) → BranchForms O A
-or_forms before Form Fails = record {
-  Form = λ v. Either (before.Form v) (before.Fails v) (Form v);
-  Fails = λ v. EitherFails (before.Fails v) (Fails v);
+abbrev pub or_forms : {P O A : Type 0} → BranchForms O A → (P → O → List A → Type 0) → (P → O → Space → WriteError → Type 0) → P → BranchForms O A
+or_forms before Form Fails p = record {
+  Form = λ v. Either (before.Form v) (before.Fails v) (Form p v);
+  Fails = λ v. EitherFails (before.Fails v) (Fails p v);
 }

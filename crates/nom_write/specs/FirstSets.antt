@@ -47,10 +47,10 @@ whole_first code [] = None
 whole_first code (x ∷ xs) = Some (map code (x ∷ xs) ∷ [])
 
 -- those that one of two begins with
-abbrev pub either_first : Option Words → Option Words → Option Words
-either_first (Some bs) (Some cs) = Some (bs ++ cs)
-either_first (Some bs) None = None
-either_first None cs = None
+abbrev pub or_first : Option Words → Option Words → Option Words
+or_first (Some bs) (Some cs) = Some (bs ++ cs)
+or_first (Some bs) None = None
+or_first None cs = None
 
 -- they begin with items of the codes of one of some words
 pub record BeginsWith {A : Type 0} (code : A → ℕ) (bs : Words) (xs : List A) : Type 0 where
@@ -87,21 +87,32 @@ abbrev pub AreDisjoint : {I A V O R E : Type 0} → Model I A → Grammar I V O 
 AreDisjoint w g words Form other = Differ words other (Refuses w g Form)
 
 -- Some branches: they parse as one grammar, their forms begin with these words, and each stands apart from all before it.
-pub record Branches (I O E : Type 0) : Type 1 where
+pub record Branches (I A O E : Type 0) : Type 1 where
   pub Tree : Type 0
+  pub model : Model I A
+  pub errors : Errors I E
   pub grammar : Grammar I Tree O E
   pub words : Option Words
   pub AreAllDisjoint : Type 0
 
-abbrev pub one_branch : {I V O E : Type 0} → Grammar I V O E → Option Words → Branches I O E
-one_branch {V = V} g words = record { Tree = V; grammar = g; words = words; AreAllDisjoint = Unit {0} }
+abbrev pub one_branch : {I A S P V O E : Type 0} → Model I A → Errors I E → (S → Grammar I V O E) → (P → S) → (P → Option Words) → P → Branches I A O E
+one_branch {V = V} w errs grammar state First p = record {
+  Tree = V;
+  model = w;
+  errors = errs;
+  grammar = grammar (state p);
+  words = First p;
+  AreAllDisjoint = Unit {0};
+}
 
 -- and one more
-abbrev pub or_branch : {I A V O E : Type 0} → Model I A → Errors I E → Branches I O E → Grammar I V O E → (O → List A → Type 0) → Option Words →
-    Branches I O E
-or_branch {V = V} w errs before g Form words = record {
+abbrev pub or_branch : {I A S P V O E : Type 0} → Branches I A O E → (S → Grammar I V O E) → (P → S) → (P → O → List A → Type 0) → (P → Option Words) → P →
+    Branches I A O E
+or_branch {V = V} before grammar state Form First p = record {
   Tree = before.Tree ⊎ V;
-  grammar = either_of errs.joined errs.grows before.grammar g;
-  words = either_first before.words words;
-  AreAllDisjoint = before.AreAllDisjoint × AreDisjoint w before.grammar before.words Form words;
+  model = before.model;
+  errors = before.errors;
+  grammar = either_of before.errors.joined before.errors.grows before.grammar (grammar (state p));
+  words = or_first before.words (First p);
+  AreAllDisjoint = before.AreAllDisjoint × AreDisjoint before.model before.grammar before.words (Form p) (First p);
 }

@@ -2,7 +2,7 @@
 use Rattle.std.specs.Prelude.{◌≡◌, ℕ, ◌<◌, ◌≤◌, Bool, true, false, ◌⊎◌, List, ◌∷◌, length, Option, Some, None}
 use Rattle.std.specs.List.{All}
 use Rattle.nom_internal.specs.Prelude.{EndsAt, Model}
-use Rattle.nom_bytes.specs.ParsedRuns.{IsWithin}
+use Rattle.nom_bytes.specs.ParsedRuns.{IsWithinBound}
 use Rattle.nom_sink.specs.declared.error.WriteError.{WriteError}
 use Rattle.nom_sink.specs.declared.error.WriteError.TheVariants.{Mismatch}
 use Rattle.nom_write.specs.Reads.{Holds}
@@ -26,7 +26,7 @@ module _ {I A : Type 0} (w : Model I A) (Test : A → Bool → Type 0) (least : 
     pub holds : Holds w v xs
     pub meets : All (λ x. Test x true) xs
     pub enough : least ≤ length xs
-    pub within : IsWithin bound (length xs)
+    pub within : IsWithinBound bound (length xs)
 
   -- too few items, too many, or one that fails the test
   abbrev pub IsNoRun : I → Type 0

@@ -2,7 +2,6 @@
 //! them longer.
 ghost use Rattle.std.specs.Prelude.{◌≡◌, false, None, Some, List, []};
 ghost use Rattle.std.specs.Fn.{FnReturnsAt};
-ghost use Rattle.nom_bytes.specs.laws.RunLaws.{run_lawful};
 ghost use Rattle.nom_character.specs.ClassRuns.{IsOf, class_lawful, least_of, wanted_error, wanted_grows};
 ghost use Rattle.nom_character_integer.specs.laws.IntegerLaws.{integer_lawful, range_of};
 ghost use Rattle.nom_error.specs.declared.kind.ErrorKind.TheVariants as Kind;
@@ -12,7 +11,7 @@ ghost use Rattle.nom_write.specs.laws.ChoiceReads.{map_back_ends, opt_ends};
 ghost use Rattle.nom_write.specs.laws.DecimalReads.{decimal_ends};
 ghost use Rattle.nom_write.specs.laws.LeafReads.{binary_reads, byte_reads};
 ghost use Rattle.nom_write.specs.laws.ListReads.{many0_ends};
-ghost use Rattle.nom_write.specs.laws.RunReads.{premised_ends, run_ends};
+ghost use Rattle.nom_write.specs.laws.RunReads.{run_ends, test_ends};
 ghost use Rattle.nom_write.specs.laws.SeparatedReads.{many1_ends};
 ghost use Rattle.nom_write.specs.laws.SequenceReads.{first_end, followed_ends, last_end, next_end, pair_ends, preceded_ends, tuple_ends};
 
@@ -60,24 +59,17 @@ impl<F: ToBits, I: Input<Item = u8>, E: ParseError<I>> Ending<I> for Binary<F, I
 }
 
 impl<I: Unmarked, P: Predicate<I::Item>, E: ParseError<I>> Ending<I> for SplitPosition<P, I, E> {
-    ghost ends = { λ p k c e. premised_ends (P.Runs (P.state p.predicate)) (P.IsSound (P.state p.predicate))
-        (run_ends I.model (P.answers (P.state p.predicate)) 0 None (λ _ _. ⊥) ⊥
-        (run_lawful I.model I.Item.IsValue I.values (P.answers (P.state p.predicate)) (P.fixed (P.state p.predicate) k) None 0
-        (λ _ _. ⊥) ⊥) I.one_mark) };
+    ghost ends = { λ p k c e. let s = P.state p.predicate in test_ends I.model I.values (P.fixed s k) (P.Runs s) (P.IsSound s) None 0 (λ _ _. ⊥) ⊥ I.one_mark };
 }
 
 impl<I: Unmarked, P: Predicate<I::Item>, E: ParseError<I>> Ending<I> for SplitPosition1<P, I, E> {
-    ghost ends = { λ p k c e. premised_ends (P.Runs (P.state p.predicate)) (P.IsSound (P.state p.predicate))
-        (run_ends I.model (P.answers (P.state p.predicate)) 1 None (λ i. E.errors.of_kind i p.kind) E.errors.grows
-        (run_lawful I.model I.Item.IsValue I.values (P.answers (P.state p.predicate)) (P.fixed (P.state p.predicate) k) None 1
-        (λ i. E.errors.of_kind i p.kind) E.errors.grows) I.one_mark) };
+    ghost ends = { λ p k c e. let s = P.state p.predicate in test_ends I.model I.values (P.fixed s k) (P.Runs s) (P.IsSound s) None 1 (λ i. E.errors.of_kind i
+        p.kind) E.errors.grows I.one_mark };
 }
 
 impl<I: Unmarked, P: Predicate<I::Item>, E: ParseError<I>> Ending<I> for TakeWhileMN<P, I, E> {
-    ghost ends = { λ p k c e. premised_ends (P.Runs (P.state p.predicate)) (P.IsSound (P.state p.predicate))
-        (run_ends I.model (P.answers (P.state p.predicate)) p.m (Some p.n) (λ i. E.errors.of_kind i Kind.TakeWhileMN) E.errors.grows
-        (run_lawful I.model I.Item.IsValue I.values (P.answers (P.state p.predicate)) (P.fixed (P.state p.predicate) k) (Some p.n) p.m
-        (λ i. E.errors.of_kind i Kind.TakeWhileMN) E.errors.grows) I.one_mark) };
+    ghost ends = { λ p k c e. let s = P.state p.predicate in test_ends I.model I.values (P.fixed s k) (P.Runs s) (P.IsSound s) (Some p.n) p.m (λ i.
+        E.errors.of_kind i Kind.TakeWhileMN) E.errors.grows I.one_mark };
 }
 
 impl<I: Unmarked, E: ParseError<I>> Ending<I> for ClassRun<I, E>
@@ -155,7 +147,7 @@ impl<I: Items, F: Writer<I> + Drop, G: Ending<I, Error = F::Error> + Drop> Endin
 impl<I: Items, P: Writer<I>, Q: Ending<I, Error = P::Error>> Ending<I> for (P, Q) {
     ghost MayEnd = { λ p. Q.MayEnd p.1 × ((b : Q.Output) (ys : List I.Item) → Q.Form p.1 b ys → P.Follow p.0 ys) };
 
-    ghost ends = { λ p k c e. tuple_ends (λ o. (o.0, o.1)) (first_end I.lawful (P.reads p.0 k.0 c.0.0) (last_end e.1 (Q.ends p.1 k.1 c.0.1 e.0))) };
+    ghost ends = { λ p k c e. tuple_ends (λ o. (o.0, o.1)) (first_end (P.reads p.0 k.0 c.0.0) (last_end I.lawful e.1 (Q.ends p.1 k.1 c.0.1 e.0))) };
 }
 
 impl<I: Items, P: Writer<I>, Q: Writer<I, Error = P::Error>, R: Ending<I, Error = P::Error>> Ending<
@@ -163,8 +155,8 @@ impl<I: Items, P: Writer<I>, Q: Writer<I, Error = P::Error>, R: Ending<I, Error 
 > for (P, Q, R) {
     ghost MayEnd = { λ p. R.MayEnd p.2 × ((b : R.Output) (ys : List I.Item) → R.Form p.2 b ys → Q.Follow p.1 ys) };
 
-    ghost ends = { λ p k c e. tuple_ends (λ o. (o.0, (o.1, o.2))) (first_end I.lawful (P.reads p.0 k.0 c.0.0) (next_end I.lawful c.1 (Q.reads p.1 k.1.0 c.0.1)
-        (last_end e.1 (R.ends p.2 k.1.1 c.0.2 e.0)))) };
+    ghost ends = { λ p k c e. tuple_ends (λ o. (o.0, (o.1, o.2))) (first_end (P.reads p.0 k.0 c.0.0) (next_end c.1 (Q.reads p.1 k.1.0 c.0.1) (last_end I.lawful
+        e.1 (R.ends p.2 k.1.1 c.0.2 e.0)))) };
 }
 
 impl<
@@ -176,8 +168,8 @@ impl<
 > Ending<I> for (P, Q, R, S) {
     ghost MayEnd = { λ p. S.MayEnd p.3 × ((b : S.Output) (ys : List I.Item) → S.Form p.3 b ys → R.Follow p.2 ys) };
 
-    ghost ends = { λ p k c e. tuple_ends (λ o. (o.0, (o.1, (o.2, o.3)))) (first_end I.lawful (P.reads p.0 k.0 c.0.0) (next_end I.lawful c.1 (Q.reads p.1 k.1.0
-        c.0.1) (next_end I.lawful c.2 (R.reads p.2 k.1.1.0 c.0.2) (last_end e.1 (S.ends p.3 k.1.1.1 c.0.3 e.0))))) };
+    ghost ends = { λ p k c e. tuple_ends (λ o. (o.0, (o.1, (o.2, o.3)))) (first_end (P.reads p.0 k.0 c.0.0) (next_end c.1 (Q.reads p.1 k.1.0 c.0.1) (next_end
+        c.2 (R.reads p.2 k.1.1.0 c.0.2) (last_end I.lawful e.1 (S.ends p.3 k.1.1.1 c.0.3 e.0))))) };
 }
 
 impl<
@@ -190,9 +182,8 @@ impl<
 > Ending<I> for (P, Q, R, S, T) {
     ghost MayEnd = { λ p. T.MayEnd p.4 × ((b : T.Output) (ys : List I.Item) → T.Form p.4 b ys → S.Follow p.3 ys) };
 
-    ghost ends = { λ p k c e. tuple_ends (λ o. (o.0, (o.1, (o.2, (o.3, o.4))))) (first_end I.lawful (P.reads p.0 k.0 c.0.0) (next_end I.lawful c.1 (Q.reads
-        p.1 k.1.0 c.0.1) (next_end I.lawful c.2 (R.reads p.2 k.1.1.0 c.0.2) (next_end I.lawful c.3 (S.reads p.3 k.1.1.1.0 c.0.3) (last_end e.1 (T.ends p.4
-        k.1.1.1.1 c.0.4 e.0)))))) };
+    ghost ends = { λ p k c e. tuple_ends (λ o. (o.0, (o.1, (o.2, (o.3, o.4))))) (first_end (P.reads p.0 k.0 c.0.0) (next_end c.1 (Q.reads p.1 k.1.0 c.0.1)
+        (next_end c.2 (R.reads p.2 k.1.1.0 c.0.2) (next_end c.3 (S.reads p.3 k.1.1.1.0 c.0.3) (last_end I.lawful e.1 (T.ends p.4 k.1.1.1.1 c.0.4 e.0)))))) };
 }
 
 impl<
@@ -206,9 +197,9 @@ impl<
 > Ending<I> for (P, Q, R, S, T, U) {
     ghost MayEnd = { λ p. U.MayEnd p.5 × ((b : U.Output) (ys : List I.Item) → U.Form p.5 b ys → T.Follow p.4 ys) };
 
-    ghost ends = { λ p k c e. tuple_ends (λ o. (o.0, (o.1, (o.2, (o.3, (o.4, o.5)))))) (first_end I.lawful (P.reads p.0 k.0 c.0.0) (next_end I.lawful c.1
-        (Q.reads p.1 k.1.0 c.0.1) (next_end I.lawful c.2 (R.reads p.2 k.1.1.0 c.0.2) (next_end I.lawful c.3 (S.reads p.3 k.1.1.1.0 c.0.3) (next_end I.lawful
-        c.4 (T.reads p.4 k.1.1.1.1.0 c.0.4) (last_end e.1 (U.ends p.5 k.1.1.1.1.1 c.0.5 e.0))))))) };
+    ghost ends = { λ p k c e. tuple_ends (λ o. (o.0, (o.1, (o.2, (o.3, (o.4, o.5)))))) (first_end (P.reads p.0 k.0 c.0.0) (next_end c.1 (Q.reads p.1 k.1.0
+        c.0.1) (next_end c.2 (R.reads p.2 k.1.1.0 c.0.2) (next_end c.3 (S.reads p.3 k.1.1.1.0 c.0.3) (next_end c.4 (T.reads p.4 k.1.1.1.1.0 c.0.4) (last_end
+        I.lawful e.1 (U.ends p.5 k.1.1.1.1.1 c.0.5 e.0))))))) };
 }
 
 impl<
@@ -223,10 +214,9 @@ impl<
 > Ending<I> for (P, Q, R, S, T, U, V) {
     ghost MayEnd = { λ p. V.MayEnd p.6 × ((b : V.Output) (ys : List I.Item) → V.Form p.6 b ys → U.Follow p.5 ys) };
 
-    ghost ends = { λ p k c e. tuple_ends (λ o. (o.0, (o.1, (o.2, (o.3, (o.4, (o.5, o.6))))))) (first_end I.lawful (P.reads p.0 k.0 c.0.0) (next_end I.lawful
-        c.1 (Q.reads p.1 k.1.0 c.0.1) (next_end I.lawful c.2 (R.reads p.2 k.1.1.0 c.0.2) (next_end I.lawful c.3 (S.reads p.3 k.1.1.1.0 c.0.3) (next_end
-        I.lawful c.4 (T.reads p.4 k.1.1.1.1.0 c.0.4) (next_end I.lawful c.5 (U.reads p.5 k.1.1.1.1.1.0 c.0.5) (last_end e.1 (V.ends p.6 k.1.1.1.1.1.1 c.0.6
-        e.0)))))))) };
+    ghost ends = { λ p k c e. tuple_ends (λ o. (o.0, (o.1, (o.2, (o.3, (o.4, (o.5, o.6))))))) (first_end (P.reads p.0 k.0 c.0.0) (next_end c.1 (Q.reads p.1
+        k.1.0 c.0.1) (next_end c.2 (R.reads p.2 k.1.1.0 c.0.2) (next_end c.3 (S.reads p.3 k.1.1.1.0 c.0.3) (next_end c.4 (T.reads p.4 k.1.1.1.1.0 c.0.4)
+        (next_end c.5 (U.reads p.5 k.1.1.1.1.1.0 c.0.5) (last_end I.lawful e.1 (V.ends p.6 k.1.1.1.1.1.1 c.0.6 e.0)))))))) };
 }
 
 impl<
@@ -242,8 +232,8 @@ impl<
 > Ending<I> for (P, Q, R, S, T, U, V, W) {
     ghost MayEnd = { λ p. W.MayEnd p.7 × ((b : W.Output) (ys : List I.Item) → W.Form p.7 b ys → V.Follow p.6 ys) };
 
-    ghost ends = { λ p k c e. tuple_ends (λ o. (o.0, (o.1, (o.2, (o.3, (o.4, (o.5, (o.6, o.7)))))))) (first_end I.lawful (P.reads p.0 k.0 c.0.0) (next_end
-        I.lawful c.1 (Q.reads p.1 k.1.0 c.0.1) (next_end I.lawful c.2 (R.reads p.2 k.1.1.0 c.0.2) (next_end I.lawful c.3 (S.reads p.3 k.1.1.1.0 c.0.3)
-        (next_end I.lawful c.4 (T.reads p.4 k.1.1.1.1.0 c.0.4) (next_end I.lawful c.5 (U.reads p.5 k.1.1.1.1.1.0 c.0.5) (next_end I.lawful c.6 (V.reads p.6
-        k.1.1.1.1.1.1.0 c.0.6) (last_end e.1 (W.ends p.7 k.1.1.1.1.1.1.1 c.0.7 e.0))))))))) };
+    ghost ends = { λ p k c e. tuple_ends (λ o. (o.0, (o.1, (o.2, (o.3, (o.4, (o.5, (o.6, o.7)))))))) (first_end (P.reads p.0 k.0 c.0.0) (next_end c.1 (Q.reads
+        p.1 k.1.0 c.0.1) (next_end c.2 (R.reads p.2 k.1.1.0 c.0.2) (next_end c.3 (S.reads p.3 k.1.1.1.0 c.0.3) (next_end c.4 (T.reads p.4 k.1.1.1.1.0 c.0.4)
+        (next_end c.5 (U.reads p.5 k.1.1.1.1.1.0 c.0.5) (next_end c.6 (V.reads p.6 k.1.1.1.1.1.1.0 c.0.6) (last_end I.lawful e.1 (W.ends p.7 k.1.1.1.1.1.1.1
+        c.0.7 e.0))))))))) };
 }

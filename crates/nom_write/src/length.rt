@@ -23,7 +23,7 @@ use std::marker::PhantomData;
 /// A number type that holds sizes.
 pub trait OfSize: ToUsize {
     /// The sizes that it can't hold.
-    ghost Exceeds: { ℕ → Type 0 };
+    ghost Exceeds: { ℕ → Type 0 } = { λ _. ⊥ };
 
     /// Returns the number that stands for `size`, or `None` if the type can't hold it.
     fn of_size(size: usize) -> Option<Self>
@@ -66,8 +66,6 @@ impl OfSize for u32 {
 }
 
 impl OfSize for u64 {
-    ghost Exceeds = { λ n. ⊥ };
-
     #[inline(always)]
     fn of_size(size: usize) -> Option<u64> {
         Some(size as u64)
@@ -75,8 +73,6 @@ impl OfSize for u64 {
 }
 
 impl OfSize for usize {
-    ghost Exceeds = { λ n. ⊥ };
-
     #[inline(always)]
     fn of_size(size: usize) -> Option<usize> {
         Some(size)

@@ -4,10 +4,7 @@ ghost use Rattle.nom_write.specs.laws.FirstSetLaws.{map_begins};
 ghost use Rattle.nom_sink.specs.declared.error.WriteError.{WriteError};
 ghost use Rattle.std.specs.Borrow.{Bor};
 ghost use Rattle.std.specs.Fn.{FnReturnsAt};
-ghost use Rattle.nom_internal.specs.Prelude.{SeesAlike, map_by};
-ghost use Rattle.nom_internal.specs.laws.MappedLaws.{given_pinned, map_lawful, map_steady};
 ghost use Rattle.nom_write.specs.laws.ChoiceReads.{map_back_reads};
-ghost use Rattle.nom_internal.specs.Words as Words;
 
 use crate::writer::Writer;
 use nom_error::answer::PResult;
@@ -19,12 +16,15 @@ use nom_sink::sink::Sink;
 use nom_traits::input::Items;
 use nom_traits::view::Viewed;
 
-/// The parser that `map_both` returns.
+/// A map, and the way back from its values.
 #[derive(Drop)]
-pub struct MapBoth<F, G, H> {
-    pub map: Map<F, G>,
+pub struct BothWays<M, H> {
+    pub map: M,
     pub back: H,
 }
+
+/// The parser that `map_both` returns.
+pub type MapBoth<F, G, H> = BothWays<Map<F, G>, H>;
 
 /// Parses like `map(parser, to)`, and writes what `from` returns for a value.
 ///
@@ -34,48 +34,46 @@ pub struct MapBoth<F, G, H> {
 pub fn map_both<F, G, H>(parser: F, to: G, from: H) -> MapBoth<F, G, H>
     ensures { result ≡ record { map = record { parser = parser; map = to }; back = from } }
 {
-    MapBoth {
+    BothWays {
         map: Map { parser, map: to },
         back: from,
     }
 }
 
-impl<I: Items, F: Parser<I> + Drop, O: Drop, G: Fn(F::Output) -> O, H> Parser<I>
-    for MapBoth<F, G, H> {
-    type Output = O;
+/// Parses as the map does.
+impl<I: Items, M: Parser<I>, H> Parser<I> for BothWays<M, H> {
+    type Output = M::Output;
 
-    type Error = F::Error;
+    type Error = M::Error;
 
-    ghost State = { F.State × G };
+    ghost State = { M.State };
 
-    ghost state = { λ p. (F.state p.map.parser, p.map.map) };
+    ghost state = { λ p. M.state p.map };
 
-    ghost Tree = { F.Tree };
+    ghost Tree = { M.Tree };
 
-    ghost grammar = { λ s. map_by (G.pre s.1) (G.post s.1) (F.grammar s.0) };
+    ghost grammar = { M.grammar };
 
-    ghost word = { λ s. Words.map_of (G.pre s.1) (G.post s.1) (F.word s.0) };
+    ghost word = { M.word };
 
-    ghost worded = { λ s. Words.map_worded (G.pre s.1) (G.post s.1) (F.worded s.0) };
+    ghost worded = { M.worded };
 
-    ghost SideCondition = { λ mode old new. F.SideCondition mode old.map.parser new.map.parser };
+    ghost SideCondition = { λ mode old new. M.SideCondition mode old.map new.map };
 
     #[inline(always)]
-    fn process<OM: OutputMode>(&mut self, input: I) -> PResult<I, O, F::Error> {
+    fn process<OM: OutputMode>(&mut self, input: I) -> PResult<I, M::Output, M::Error> {
         self.map.process::<OM>(input)
     }
 
-    ghost lawful = { λ s k. map_lawful (F.lawful s.0 k) };
+    ghost lawful = { M.lawful };
 }
 
-impl<I: Items, F: StreamParser<I> + Drop, O: Viewed + Drop, G: Fn(F::Output) -> O, H> StreamParser<
-    I,
-> for MapBoth<F, G, H> {
-    ghost Pins = { λ p. F.Pins p.map.parser × SeesAlike F.Output.view O.view (G.post p.map.map) };
+impl<I: Items, M: StreamParser<I>, H> StreamParser<I> for BothWays<M, H> {
+    ghost Pins = { λ p. M.Pins p.map };
 
-    ghost pinned = { λ p k h. given_pinned (F.pinned p.map.parser k h.0) h.1 };
+    ghost pinned = { λ p. M.pinned p.map };
 
-    ghost steady = { λ s k. map_steady (F.steady s.0 k) };
+    ghost steady = { M.steady };
 }
 
 /// Returns what a closure maps a value back to.

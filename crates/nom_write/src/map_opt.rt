@@ -1,34 +1,20 @@
 //! Maps that may refuse an output, with a way back.
-ghost use Rattle.std.specs.Prelude.{◌≡◌, ◌⊎◌, None, Some, true};
+ghost use Rattle.std.specs.Prelude.{◌≡◌, ◌⊎◌, None, Some};
 ghost use Rattle.std.specs.Borrow.{Bor};
 ghost use Rattle.std.specs.Fn.{FnReturnsAt};
-ghost use Rattle.nom_error.specs.Modes.{with_outputs};
-ghost use Rattle.nom_internal.specs.Judged.{map_opt_by};
-ghost use Rattle.nom_internal.specs.Prelude.{SeesAlike};
-ghost use Rattle.nom_internal.specs.Results.{JudgedSideCondition};
-ghost use Rattle.nom_internal.specs.laws.JudgedLaws.{judged_lawful, judged_steady};
-ghost use Rattle.nom_internal.specs.laws.MappedLaws.{given_pinned};
 ghost use Rattle.nom_sink.specs.declared.error.WriteError.{WriteError};
 ghost use Rattle.nom_write.specs.laws.JudgedReads.{map_opt_back_begins, map_opt_back_reads};
-ghost use Rattle.nom_internal.specs.Words as Words;
 
-use crate::map::mapped_back;
+use crate::map::{BothWays, mapped_back};
 use crate::writer::Writer;
-use nom_error::answer::PResult;
-use nom_error::mode::OutputMode;
 use nom_internal::judged::MapOpt;
-use nom_internal::parser::{Parser, StreamParser};
 use nom_sink::error::WriteError;
 use nom_sink::sink::Sink;
 use nom_traits::input::Items;
 use nom_traits::view::Viewed;
 
 /// The parser that `map_opt_both` returns.
-#[derive(Drop)]
-pub struct MapOptBoth<F, G, H> {
-    pub map: MapOpt<F, G>,
-    pub back: H,
-}
+pub type MapOptBoth<F, G, H> = BothWays<MapOpt<F, G>, H>;
 
 /// Parses like `map_opt(parser, to)`, and writes what `from` returns for a value.
 ///
@@ -38,52 +24,10 @@ pub struct MapOptBoth<F, G, H> {
 pub fn map_opt_both<F, G, H>(parser: F, to: G, from: H) -> MapOptBoth<F, G, H>
     ensures { result ≡ record { map = record { parser = parser; map = to }; back = from } }
 {
-    MapOptBoth {
+    BothWays {
         map: MapOpt { parser, map: to },
         back: from,
     }
-}
-
-impl<I: Items, F: Parser<I> + Drop, O: Drop, G: Fn(F::Output) -> Option<O>, H> Parser<I>
-    for MapOptBoth<F, G, H> {
-    type Output = O;
-
-    type Error = F::Error;
-
-    ghost State = { F.State × G };
-
-    ghost state = { λ p. (F.state p.map.parser, p.map.map) };
-
-    ghost Tree = { F.Tree };
-
-    ghost grammar = { λ s. map_opt_by F.Error.errors (G.pre s.1) (G.post s.1) (F.grammar s.0) };
-
-    ghost word = { λ s. Words.map_opt_of F.Error.errors (G.pre s.1) (G.post s.1) (F.word s.0) };
-
-    ghost worded = { λ s. Words.map_opt_worded F.Error.errors (G.pre s.1) (G.post s.1) (F.worded s.0) };
-
-    ghost SideCondition = { λ mode old new i. JudgedSideCondition (F.SideCondition (with_outputs true mode) old.map.parser new.map.parser i) };
-
-    #[inline(always)]
-    fn process<OM: OutputMode>(&mut self, input: I) -> PResult<I, O, F::Error> {
-        self.map.process::<OM>(input)
-    }
-
-    ghost lawful = { λ s k. judged_lawful k.1 (F.lawful s.0 k.0) };
-}
-
-impl<
-    I: Items,
-    F: StreamParser<I> + Drop,
-    O: Viewed + Drop,
-    G: Fn(F::Output) -> Option<O>,
-    H,
-> StreamParser<I> for MapOptBoth<F, G, H> {
-    ghost Pins = { λ p. F.Pins p.map.parser × SeesAlike F.Output.view O.view (λ a o. G.post p.map.map a (Some o)) };
-
-    ghost pinned = { λ p k h. given_pinned (F.pinned p.map.parser k.0 h.0) h.1 };
-
-    ghost steady = { λ s k. judged_steady k.1 (F.steady s.0 k.0) };
 }
 
 /// Writes what the value is mapped back to.

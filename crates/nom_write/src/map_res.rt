@@ -1,35 +1,21 @@
 //! Maps that may refuse an output with an error, with a way back.
-ghost use Rattle.std.specs.Prelude.{◌≡◌, ◌⊎◌, None, Ok, Some, true};
+ghost use Rattle.std.specs.Prelude.{◌≡◌, ◌⊎◌, None, Ok, Some};
 ghost use Rattle.std.specs.Borrow.{Bor};
 ghost use Rattle.std.specs.Fn.{FnReturnsAt};
-ghost use Rattle.nom_error.specs.Modes.{with_outputs};
-ghost use Rattle.nom_internal.specs.Judged.{map_res_by};
-ghost use Rattle.nom_internal.specs.Prelude.{SeesAlike};
-ghost use Rattle.nom_internal.specs.Results.{JudgedSideCondition};
-ghost use Rattle.nom_internal.specs.laws.JudgedLaws.{judged_lawful, judged_steady};
-ghost use Rattle.nom_internal.specs.laws.MappedLaws.{given_pinned};
 ghost use Rattle.nom_sink.specs.declared.error.WriteError.{WriteError};
 ghost use Rattle.nom_write.specs.laws.JudgedReads.{map_res_back_begins, map_res_back_reads};
-ghost use Rattle.nom_internal.specs.Words as Words;
 
-use crate::map::mapped_back;
+use crate::map::{BothWays, mapped_back};
 use crate::writer::Writer;
-use nom_error::answer::PResult;
-use nom_error::mode::OutputMode;
 use nom_error::outside::FromExternalError;
 use nom_internal::judged::MapRes;
-use nom_internal::parser::{Parser, StreamParser};
 use nom_sink::error::WriteError;
 use nom_sink::sink::Sink;
 use nom_traits::input::Items;
 use nom_traits::view::Viewed;
 
 /// The parser that `map_res_both` returns.
-#[derive(Drop)]
-pub struct MapResBoth<F, G, H> {
-    pub map: MapRes<F, G>,
-    pub back: H,
-}
+pub type MapResBoth<F, G, H> = BothWays<MapRes<F, G>, H>;
 
 /// Parses like `map_res(parser, to)`, and writes what `from` returns for a value.
 ///
@@ -39,59 +25,10 @@ pub struct MapResBoth<F, G, H> {
 pub fn map_res_both<F, G, H>(parser: F, to: G, from: H) -> MapResBoth<F, G, H>
     ensures { result ≡ record { map = record { parser = parser; map = to }; back = from } }
 {
-    MapResBoth {
+    BothWays {
         map: MapRes { parser, map: to },
         back: from,
     }
-}
-
-impl<I: Items, X: Drop, F: Parser<I> + Drop, O: Drop, G: Fn(F::Output) -> Result<O, X>, H> Parser<I>
-    for MapResBoth<F, G, H>
-where
-    F::Error: FromExternalError<I, X>,
-{
-    type Output = O;
-
-    type Error = F::Error;
-
-    ghost State = { F.State × G };
-
-    ghost state = { λ p. (F.state p.map.parser, p.map.map) };
-
-    ghost Tree = { F.Tree };
-
-    ghost grammar = { λ s. map_res_by F.Error.externals (G.pre s.1) (G.post s.1) (F.grammar s.0) };
-
-    ghost word = { λ s. Words.map_res_of F.Error.externals (G.pre s.1) (G.post s.1) (F.word s.0) };
-
-    ghost worded = { λ s. Words.map_res_worded F.Error.externals (G.pre s.1) (G.post s.1) (F.worded s.0) };
-
-    ghost SideCondition = { λ mode old new i. JudgedSideCondition (F.SideCondition (with_outputs true mode) old.map.parser new.map.parser i) };
-
-    #[inline(always)]
-    fn process<OM: OutputMode>(&mut self, input: I) -> PResult<I, O, F::Error> {
-        self.map.process::<OM>(input)
-    }
-
-    ghost lawful = { λ s k. judged_lawful k.1 (F.lawful s.0 k.0) };
-}
-
-impl<
-    I: Items,
-    X: Drop,
-    F: StreamParser<I> + Drop,
-    O: Viewed + Drop,
-    G: Fn(F::Output) -> Result<O, X>,
-    H,
-> StreamParser<I> for MapResBoth<F, G, H>
-where
-    F::Error: FromExternalError<I, X>,
-{
-    ghost Pins = { λ p. F.Pins p.map.parser × SeesAlike F.Output.view O.view (λ a o. G.post p.map.map a (Ok o)) };
-
-    ghost pinned = { λ p k h. given_pinned (F.pinned p.map.parser k.0 h.0) h.1 };
-
-    ghost steady = { λ s k. judged_steady k.1 (F.steady s.0 k.0) };
 }
 
 /// Writes what the value is mapped back to.

@@ -58,8 +58,6 @@ impl<I: Unmarked> Piece<I::Item> for AllItems<I> {
 
     ghost Fails = { λ o. LacksRoom (length (I.model.elements o.0)) };
 
-    ghost CanPut = { λ o. Unit {0} };
-
     #[inline(always)]
     fn put<S: Sink<I::Item>>(&self, out: &mut S) -> Result<(), WriteError> {
         self.0.add_to(out)

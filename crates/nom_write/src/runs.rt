@@ -4,12 +4,11 @@ ghost use Rattle.std.proofs.Common.{refl};
 ghost use Rattle.nom_bytes.specs.Tests.{free};
 ghost use Rattle.nom_error.specs.declared.kind.ErrorKind.TheVariants as Kind;
 ghost use Rattle.nom_traits.specs.declared.character.AsciiClass.TheVariants as Class;
-ghost use Rattle.nom_bytes.specs.laws.RunLaws.{run_lawful};
 ghost use Rattle.nom_character.specs.ClassRuns.{IsOf, class_lawful, least_of, wanted_error, wanted_grows};
 ghost use Rattle.nom_write.specs.Runs.{BeginsOther, IsNoRun, IsRunForm, RunFails};
 ghost use Rattle.nom_sink.specs.Written.{Written};
 ghost use Rattle.nom_write.specs.laws.FirstSetLaws.{no_first};
-ghost use Rattle.nom_write.specs.laws.RunReads.{premised_reads, run_reads};
+ghost use Rattle.nom_write.specs.laws.RunReads.{run_reads, test_reads};
 ghost use Rattle.nom_traits.specs.declared.character.AsciiClass.{AsciiClass};
 
 use crate::unmarked::Unmarked;
@@ -88,10 +87,7 @@ impl<I: Unmarked, P: Predicate<I::Item>, E: ParseError<I>> Writer<I> for SplitPo
         write_run::<I, P, S>(&self.predicate, 0, None, *value, out)
     }
 
-    ghost reads = { λ p k c. premised_reads (P.Runs (P.state p.predicate)) (P.IsSound (P.state p.predicate))
-        (run_reads I.model (P.answers (P.state p.predicate)) 0 None (λ _ _. ⊥) ⊥
-        (run_lawful I.model I.Item.IsValue I.values (P.answers (P.state p.predicate)) (P.fixed (P.state p.predicate) k) None 0
-        (λ _ _. ⊥) ⊥) I.one_mark) };
+    ghost reads = { λ p k c. let s = P.state p.predicate in test_reads I.model I.values (P.fixed s k) (P.Runs s) (P.IsSound s) None 0 (λ _ _. ⊥) ⊥ I.one_mark };
 
     ghost begins = { λ p. no_first };
 }
@@ -111,10 +107,8 @@ impl<I: Unmarked, P: Predicate<I::Item>, E: ParseError<I>> Writer<I> for SplitPo
         write_run::<I, P, S>(&self.predicate, 1, None, *value, out)
     }
 
-    ghost reads = { λ p k c. premised_reads (P.Runs (P.state p.predicate)) (P.IsSound (P.state p.predicate))
-        (run_reads I.model (P.answers (P.state p.predicate)) 1 None (λ i. E.errors.of_kind i p.kind) E.errors.grows
-        (run_lawful I.model I.Item.IsValue I.values (P.answers (P.state p.predicate)) (P.fixed (P.state p.predicate) k) None 1
-        (λ i. E.errors.of_kind i p.kind) E.errors.grows) I.one_mark) };
+    ghost reads = { λ p k c. let s = P.state p.predicate in test_reads I.model I.values (P.fixed s k) (P.Runs s) (P.IsSound s) None 1 (λ i. E.errors.of_kind i
+        p.kind) E.errors.grows I.one_mark };
 
     ghost begins = { λ p. no_first };
 }
@@ -134,10 +128,8 @@ impl<I: Unmarked, P: Predicate<I::Item>, E: ParseError<I>> Writer<I> for TakeWhi
         write_run::<I, P, S>(&self.predicate, self.m, Some(self.n), *value, out)
     }
 
-    ghost reads = { λ p k c. premised_reads (P.Runs (P.state p.predicate)) (P.IsSound (P.state p.predicate))
-        (run_reads I.model (P.answers (P.state p.predicate)) p.m (Some p.n) (λ i. E.errors.of_kind i Kind.TakeWhileMN) E.errors.grows
-        (run_lawful I.model I.Item.IsValue I.values (P.answers (P.state p.predicate)) (P.fixed (P.state p.predicate) k) (Some p.n) p.m
-        (λ i. E.errors.of_kind i Kind.TakeWhileMN) E.errors.grows) I.one_mark) };
+    ghost reads = { λ p k c. let s = P.state p.predicate in test_reads I.model I.values (P.fixed s k) (P.Runs s) (P.IsSound s) (Some p.n) p.m (λ i.
+        E.errors.of_kind i Kind.TakeWhileMN) E.errors.grows I.one_mark };
 
     ghost begins = { λ p. no_first };
 }

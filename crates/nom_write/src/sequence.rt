@@ -2,7 +2,7 @@
 ghost use Rattle.std.specs.Prelude.{◌≡◌, ℕ, List, ◌++◌, length};
 ghost use Rattle.nom_write.specs.laws.FirstSetLaws.{both_begins, pair_begins, preceded_begins, terminated_begins};
 ghost use Rattle.nom_sink.specs.Written.{LacksRoom};
-ghost use Rattle.nom_sink.specs.Parts.{Both, BothFail, Meets};
+ghost use Rattle.nom_sink.specs.Parts.{Both, BothFail, MeetsForms};
 ghost use Rattle.nom_write.specs.laws.SequenceReads.{pair_reads, preceded_reads, terminated_reads};
 
 use crate::piece::{Fixed, OneValue};
@@ -23,8 +23,7 @@ impl<I: Items, F: Writer<I> + Drop, G: Writer<I, Error = F::Error> + Drop> Write
 
     ghost Follow = { λ p. G.Follow p.second };
 
-    ghost CanWrite = { λ p. F.CanWrite p.first × G.CanWrite p.second × Meets (F.Follow p.first) (λ ys. (b : G.Output) × G.Form p.second b ys)
-        (G.Follow p.second) };
+    ghost CanWrite = { λ p. F.CanWrite p.first × G.CanWrite p.second × MeetsForms (F.Follow p.first) (G.Form p.second) (G.Follow p.second) };
 
     ghost First = { λ p. F.First p.first };
 

@@ -48,14 +48,14 @@ pub record Exclusive (O A : Type 0) : Type 1 where
   pub forms : BranchForms O A
   pub AreExclusive : Type 0
 
-abbrev pub first_exclusive : {O A : Type 0} → (O → List A → Type 0) → (O → Space → WriteError → Type 0) → Exclusive O A
-first_exclusive Form Fails = record { forms = first_forms Form Fails; AreExclusive = Unit {0} }
+abbrev pub first_exclusive : {P O A : Type 0} → (P → O → List A → Type 0) → (P → O → Space → WriteError → Type 0) → P → Exclusive O A
+first_exclusive Form Fails p = record { forms = first_forms Form Fails p; AreExclusive = Unit {0} }
 
 -- the branches before, and one more
-abbrev pub or_exclusive : {O A : Type 0} → Exclusive O A → (O → List A → Type 0) → (O → Space → WriteError → Type 0) → Exclusive O A
-or_exclusive before Form Fails = record {
-  forms = or_forms before.forms Form Fails;
-  AreExclusive = before.AreExclusive × Excludes before.forms.Form before.forms.Fails Form;
+abbrev pub or_exclusive : {P O A : Type 0} → Exclusive O A → (P → O → List A → Type 0) → (P → O → Space → WriteError → Type 0) → P → Exclusive O A
+or_exclusive before Form Fails p = record {
+  forms = or_forms before.forms Form Fails p;
+  AreExclusive = before.AreExclusive × Excludes before.forms.Form before.forms.Fails (Form p);
 }
 
 -- no value has two forms

@@ -2,7 +2,7 @@
 //! `specs/laws/ChoiceForms.antt`.
 ghost use Rattle.nom_write_canonical.specs.Forms.{Excludes, first_exclusive, or_exclusive};
 ghost use Rattle.nom_write_canonical.specs.laws.CaseForms.{alt_accepts};
-ghost use Rattle.nom_write_canonical.specs.laws.ChoiceForms.{either_accepts, either_one};
+ghost use Rattle.nom_write_canonical.specs.laws.ChoiceForms.{either_accepts, either_one, or_accepts, or_one};
 
 use crate::canonical::Canonical;
 use nom_branch::Choice;
@@ -23,13 +23,13 @@ impl<
 
 impl<I: Items, P: Canonical<I>, Q: Canonical<I, Error = P::Error, Output = P::Output>> Canonical<I>
     for Choice<(P, Q)> {
-    ghost IsCanonical = { λ p. let b = p.parsers in (P.IsCanonical b.0 × Q.IsCanonical b.1) × (or_exclusive (first_exclusive (P.Form b.0) (P.Fails b.0))
-        (Q.Form b.1) (Q.Fails b.1)).AreExclusive };
+    ghost IsCanonical = { λ p. let b = p.parsers in (P.IsCanonical b.0 × Q.IsCanonical b.1) × (or_exclusive (first_exclusive P.Form P.Fails b.0) Q.Form Q.Fails
+        b.1).AreExclusive };
 
-    ghost accepts_forms = { λ p c. let b = p.parsers in let e = P.Error.errors in alt_accepts e (either_accepts e c.1.1 (P.accepts_forms b.0 c.0.0)
-        (Q.accepts_forms b.1 c.0.1)) };
+    ghost accepts_forms = { λ p c. let b = p.parsers in let e = P.Error.errors in alt_accepts e (or_accepts e (λ d. P.accepts_forms b.0 c.0.0) (Q.accepts_forms
+        b.1 c.0.1) c.1) };
 
-    ghost one_form = { λ p c v. let b = p.parsers in either_one ((c.1.1).apart v) (P.one_form b.0 c.0.0 v) (Q.one_form b.1 c.0.1 v) };
+    ghost one_form = { λ p c. let b = p.parsers in or_one (λ d. P.one_form b.0 c.0.0) (Q.one_form b.1 c.0.1) c.1 };
 }
 
 impl<
@@ -39,13 +39,12 @@ impl<
     R: Canonical<I, Error = P::Error, Output = P::Output>,
 > Canonical<I> for Choice<(P, Q, R)> {
     ghost IsCanonical = { λ p. let b = p.parsers in (P.IsCanonical b.0 × Q.IsCanonical b.1 × R.IsCanonical b.2) × (or_exclusive (or_exclusive (first_exclusive
-        (P.Form b.0) (P.Fails b.0)) (Q.Form b.1) (Q.Fails b.1)) (R.Form b.2) (R.Fails b.2)).AreExclusive };
+        P.Form P.Fails b.0) Q.Form Q.Fails b.1) R.Form R.Fails b.2).AreExclusive };
 
-    ghost accepts_forms = { λ p c. let b = p.parsers in let e = P.Error.errors in alt_accepts e (either_accepts e c.1.1 (either_accepts e c.1.0.1
-        (P.accepts_forms b.0 c.0.0) (Q.accepts_forms b.1 c.0.1)) (R.accepts_forms b.2 c.0.2)) };
+    ghost accepts_forms = { λ p c. let b = p.parsers in let e = P.Error.errors in alt_accepts e (or_accepts e (or_accepts e (λ d. P.accepts_forms b.0 c.0.0)
+        (Q.accepts_forms b.1 c.0.1)) (R.accepts_forms b.2 c.0.2) c.1) };
 
-    ghost one_form = { λ p c v. let b = p.parsers in either_one ((c.1.1).apart v) (either_one ((c.1.0.1).apart v) (P.one_form b.0 c.0.0 v) (Q.one_form b.1
-        c.0.1 v)) (R.one_form b.2 c.0.2 v) };
+    ghost one_form = { λ p c. let b = p.parsers in or_one (or_one (λ d. P.one_form b.0 c.0.0) (Q.one_form b.1 c.0.1)) (R.one_form b.2 c.0.2) c.1 };
 }
 
 impl<
@@ -56,14 +55,13 @@ impl<
     S: Canonical<I, Error = P::Error, Output = P::Output>,
 > Canonical<I> for Choice<(P, Q, R, S)> {
     ghost IsCanonical = { λ p. let b = p.parsers in (P.IsCanonical b.0 × Q.IsCanonical b.1 × R.IsCanonical b.2 × S.IsCanonical b.3) × (or_exclusive
-        (or_exclusive (or_exclusive (first_exclusive (P.Form b.0) (P.Fails b.0)) (Q.Form b.1) (Q.Fails b.1)) (R.Form b.2) (R.Fails b.2)) (S.Form b.3) (S.Fails
-        b.3)).AreExclusive };
+        (or_exclusive (or_exclusive (first_exclusive P.Form P.Fails b.0) Q.Form Q.Fails b.1) R.Form R.Fails b.2) S.Form S.Fails b.3).AreExclusive };
 
-    ghost accepts_forms = { λ p c. let b = p.parsers in let e = P.Error.errors in alt_accepts e (either_accepts e c.1.1 (either_accepts e c.1.0.1
-        (either_accepts e c.1.0.0.1 (P.accepts_forms b.0 c.0.0) (Q.accepts_forms b.1 c.0.1)) (R.accepts_forms b.2 c.0.2)) (S.accepts_forms b.3 c.0.3)) };
+    ghost accepts_forms = { λ p c. let b = p.parsers in let e = P.Error.errors in alt_accepts e (or_accepts e (or_accepts e (or_accepts e (λ d. P.accepts_forms
+        b.0 c.0.0) (Q.accepts_forms b.1 c.0.1)) (R.accepts_forms b.2 c.0.2)) (S.accepts_forms b.3 c.0.3) c.1) };
 
-    ghost one_form = { λ p c v. let b = p.parsers in either_one ((c.1.1).apart v) (either_one ((c.1.0.1).apart v) (either_one ((c.1.0.0.1).apart v)
-        (P.one_form b.0 c.0.0 v) (Q.one_form b.1 c.0.1 v)) (R.one_form b.2 c.0.2 v)) (S.one_form b.3 c.0.3 v) };
+    ghost one_form = { λ p c. let b = p.parsers in or_one (or_one (or_one (λ d. P.one_form b.0 c.0.0) (Q.one_form b.1 c.0.1)) (R.one_form b.2 c.0.2))
+        (S.one_form b.3 c.0.3) c.1 };
 }
 
 impl<
@@ -75,16 +73,14 @@ impl<
     T: Canonical<I, Error = P::Error, Output = P::Output>,
 > Canonical<I> for Choice<(P, Q, R, S, T)> {
     ghost IsCanonical = { λ p. let b = p.parsers in (P.IsCanonical b.0 × Q.IsCanonical b.1 × R.IsCanonical b.2 × S.IsCanonical b.3 × T.IsCanonical b.4) ×
-        (or_exclusive (or_exclusive (or_exclusive (or_exclusive (first_exclusive (P.Form b.0) (P.Fails b.0)) (Q.Form b.1) (Q.Fails b.1)) (R.Form b.2) (R.Fails
-        b.2)) (S.Form b.3) (S.Fails b.3)) (T.Form b.4) (T.Fails b.4)).AreExclusive };
+        (or_exclusive (or_exclusive (or_exclusive (or_exclusive (first_exclusive P.Form P.Fails b.0) Q.Form Q.Fails b.1) R.Form R.Fails b.2) S.Form S.Fails b.3)
+        T.Form T.Fails b.4).AreExclusive };
 
-    ghost accepts_forms = { λ p c. let b = p.parsers in let e = P.Error.errors in alt_accepts e (either_accepts e c.1.1 (either_accepts e c.1.0.1
-        (either_accepts e c.1.0.0.1 (either_accepts e c.1.0.0.0.1 (P.accepts_forms b.0 c.0.0) (Q.accepts_forms b.1 c.0.1)) (R.accepts_forms b.2 c.0.2))
-        (S.accepts_forms b.3 c.0.3)) (T.accepts_forms b.4 c.0.4)) };
+    ghost accepts_forms = { λ p c. let b = p.parsers in let e = P.Error.errors in alt_accepts e (or_accepts e (or_accepts e (or_accepts e (or_accepts e (λ d.
+        P.accepts_forms b.0 c.0.0) (Q.accepts_forms b.1 c.0.1)) (R.accepts_forms b.2 c.0.2)) (S.accepts_forms b.3 c.0.3)) (T.accepts_forms b.4 c.0.4) c.1) };
 
-    ghost one_form = { λ p c v. let b = p.parsers in either_one ((c.1.1).apart v) (either_one ((c.1.0.1).apart v) (either_one ((c.1.0.0.1).apart v)
-        (either_one ((c.1.0.0.0.1).apart v) (P.one_form b.0 c.0.0 v) (Q.one_form b.1 c.0.1 v)) (R.one_form b.2 c.0.2 v)) (S.one_form b.3 c.0.3 v)) (T.one_form
-        b.4 c.0.4 v) };
+    ghost one_form = { λ p c. let b = p.parsers in or_one (or_one (or_one (or_one (λ d. P.one_form b.0 c.0.0) (Q.one_form b.1 c.0.1)) (R.one_form b.2 c.0.2))
+        (S.one_form b.3 c.0.3)) (T.one_form b.4 c.0.4) c.1 };
 }
 
 impl<
@@ -97,16 +93,15 @@ impl<
     U: Canonical<I, Error = P::Error, Output = P::Output>,
 > Canonical<I> for Choice<(P, Q, R, S, T, U)> {
     ghost IsCanonical = { λ p. let b = p.parsers in (P.IsCanonical b.0 × Q.IsCanonical b.1 × R.IsCanonical b.2 × S.IsCanonical b.3 × T.IsCanonical b.4 ×
-        U.IsCanonical b.5) × (or_exclusive (or_exclusive (or_exclusive (or_exclusive (or_exclusive (first_exclusive (P.Form b.0) (P.Fails b.0)) (Q.Form b.1)
-        (Q.Fails b.1)) (R.Form b.2) (R.Fails b.2)) (S.Form b.3) (S.Fails b.3)) (T.Form b.4) (T.Fails b.4)) (U.Form b.5) (U.Fails b.5)).AreExclusive };
+        U.IsCanonical b.5) × (or_exclusive (or_exclusive (or_exclusive (or_exclusive (or_exclusive (first_exclusive P.Form P.Fails b.0) Q.Form Q.Fails b.1)
+        R.Form R.Fails b.2) S.Form S.Fails b.3) T.Form T.Fails b.4) U.Form U.Fails b.5).AreExclusive };
 
-    ghost accepts_forms = { λ p c. let b = p.parsers in let e = P.Error.errors in alt_accepts e (either_accepts e c.1.1 (either_accepts e c.1.0.1
-        (either_accepts e c.1.0.0.1 (either_accepts e c.1.0.0.0.1 (either_accepts e c.1.0.0.0.0.1 (P.accepts_forms b.0 c.0.0) (Q.accepts_forms b.1 c.0.1))
-        (R.accepts_forms b.2 c.0.2)) (S.accepts_forms b.3 c.0.3)) (T.accepts_forms b.4 c.0.4)) (U.accepts_forms b.5 c.0.5)) };
+    ghost accepts_forms = { λ p c. let b = p.parsers in let e = P.Error.errors in alt_accepts e (or_accepts e (or_accepts e (or_accepts e (or_accepts e
+        (or_accepts e (λ d. P.accepts_forms b.0 c.0.0) (Q.accepts_forms b.1 c.0.1)) (R.accepts_forms b.2 c.0.2)) (S.accepts_forms b.3 c.0.3)) (T.accepts_forms
+        b.4 c.0.4)) (U.accepts_forms b.5 c.0.5) c.1) };
 
-    ghost one_form = { λ p c v. let b = p.parsers in either_one ((c.1.1).apart v) (either_one ((c.1.0.1).apart v) (either_one ((c.1.0.0.1).apart v)
-        (either_one ((c.1.0.0.0.1).apart v) (either_one ((c.1.0.0.0.0.1).apart v) (P.one_form b.0 c.0.0 v) (Q.one_form b.1 c.0.1 v)) (R.one_form b.2 c.0.2 v))
-        (S.one_form b.3 c.0.3 v)) (T.one_form b.4 c.0.4 v)) (U.one_form b.5 c.0.5 v) };
+    ghost one_form = { λ p c. let b = p.parsers in or_one (or_one (or_one (or_one (or_one (λ d. P.one_form b.0 c.0.0) (Q.one_form b.1 c.0.1)) (R.one_form b.2
+        c.0.2)) (S.one_form b.3 c.0.3)) (T.one_form b.4 c.0.4)) (U.one_form b.5 c.0.5) c.1 };
 }
 
 impl<
@@ -120,18 +115,15 @@ impl<
     V: Canonical<I, Error = P::Error, Output = P::Output>,
 > Canonical<I> for Choice<(P, Q, R, S, T, U, V)> {
     ghost IsCanonical = { λ p. let b = p.parsers in (P.IsCanonical b.0 × Q.IsCanonical b.1 × R.IsCanonical b.2 × S.IsCanonical b.3 × T.IsCanonical b.4 ×
-        U.IsCanonical b.5 × V.IsCanonical b.6) × (or_exclusive (or_exclusive (or_exclusive (or_exclusive (or_exclusive (or_exclusive (first_exclusive (P.Form
-        b.0) (P.Fails b.0)) (Q.Form b.1) (Q.Fails b.1)) (R.Form b.2) (R.Fails b.2)) (S.Form b.3) (S.Fails b.3)) (T.Form b.4) (T.Fails b.4)) (U.Form b.5)
-        (U.Fails b.5)) (V.Form b.6) (V.Fails b.6)).AreExclusive };
+        U.IsCanonical b.5 × V.IsCanonical b.6) × (or_exclusive (or_exclusive (or_exclusive (or_exclusive (or_exclusive (or_exclusive (first_exclusive P.Form
+        P.Fails b.0) Q.Form Q.Fails b.1) R.Form R.Fails b.2) S.Form S.Fails b.3) T.Form T.Fails b.4) U.Form U.Fails b.5) V.Form V.Fails b.6).AreExclusive };
 
-    ghost accepts_forms = { λ p c. let b = p.parsers in let e = P.Error.errors in alt_accepts e (either_accepts e c.1.1 (either_accepts e c.1.0.1
-        (either_accepts e c.1.0.0.1 (either_accepts e c.1.0.0.0.1 (either_accepts e c.1.0.0.0.0.1 (either_accepts e c.1.0.0.0.0.0.1 (P.accepts_forms b.0
-        c.0.0) (Q.accepts_forms b.1 c.0.1)) (R.accepts_forms b.2 c.0.2)) (S.accepts_forms b.3 c.0.3)) (T.accepts_forms b.4 c.0.4)) (U.accepts_forms b.5
-        c.0.5)) (V.accepts_forms b.6 c.0.6)) };
+    ghost accepts_forms = { λ p c. let b = p.parsers in let e = P.Error.errors in alt_accepts e (or_accepts e (or_accepts e (or_accepts e (or_accepts e
+        (or_accepts e (or_accepts e (λ d. P.accepts_forms b.0 c.0.0) (Q.accepts_forms b.1 c.0.1)) (R.accepts_forms b.2 c.0.2)) (S.accepts_forms b.3 c.0.3))
+        (T.accepts_forms b.4 c.0.4)) (U.accepts_forms b.5 c.0.5)) (V.accepts_forms b.6 c.0.6) c.1) };
 
-    ghost one_form = { λ p c v. let b = p.parsers in either_one ((c.1.1).apart v) (either_one ((c.1.0.1).apart v) (either_one ((c.1.0.0.1).apart v)
-        (either_one ((c.1.0.0.0.1).apart v) (either_one ((c.1.0.0.0.0.1).apart v) (either_one ((c.1.0.0.0.0.0.1).apart v) (P.one_form b.0 c.0.0 v) (Q.one_form
-        b.1 c.0.1 v)) (R.one_form b.2 c.0.2 v)) (S.one_form b.3 c.0.3 v)) (T.one_form b.4 c.0.4 v)) (U.one_form b.5 c.0.5 v)) (V.one_form b.6 c.0.6 v) };
+    ghost one_form = { λ p c. let b = p.parsers in or_one (or_one (or_one (or_one (or_one (or_one (λ d. P.one_form b.0 c.0.0) (Q.one_form b.1 c.0.1))
+        (R.one_form b.2 c.0.2)) (S.one_form b.3 c.0.3)) (T.one_form b.4 c.0.4)) (U.one_form b.5 c.0.5)) (V.one_form b.6 c.0.6) c.1 };
 }
 
 impl<
@@ -147,16 +139,13 @@ impl<
 > Canonical<I> for Choice<(P, Q, R, S, T, U, V, W)> {
     ghost IsCanonical = { λ p. let b = p.parsers in (P.IsCanonical b.0 × Q.IsCanonical b.1 × R.IsCanonical b.2 × S.IsCanonical b.3 × T.IsCanonical b.4 ×
         U.IsCanonical b.5 × V.IsCanonical b.6 × W.IsCanonical b.7) × (or_exclusive (or_exclusive (or_exclusive (or_exclusive (or_exclusive (or_exclusive
-        (or_exclusive (first_exclusive (P.Form b.0) (P.Fails b.0)) (Q.Form b.1) (Q.Fails b.1)) (R.Form b.2) (R.Fails b.2)) (S.Form b.3) (S.Fails b.3)) (T.Form
-        b.4) (T.Fails b.4)) (U.Form b.5) (U.Fails b.5)) (V.Form b.6) (V.Fails b.6)) (W.Form b.7) (W.Fails b.7)).AreExclusive };
+        (or_exclusive (first_exclusive P.Form P.Fails b.0) Q.Form Q.Fails b.1) R.Form R.Fails b.2) S.Form S.Fails b.3) T.Form T.Fails b.4) U.Form U.Fails b.5)
+        V.Form V.Fails b.6) W.Form W.Fails b.7).AreExclusive };
 
-    ghost accepts_forms = { λ p c. let b = p.parsers in let e = P.Error.errors in alt_accepts e (either_accepts e c.1.1 (either_accepts e c.1.0.1
-        (either_accepts e c.1.0.0.1 (either_accepts e c.1.0.0.0.1 (either_accepts e c.1.0.0.0.0.1 (either_accepts e c.1.0.0.0.0.0.1 (either_accepts e
-        c.1.0.0.0.0.0.0.1 (P.accepts_forms b.0 c.0.0) (Q.accepts_forms b.1 c.0.1)) (R.accepts_forms b.2 c.0.2)) (S.accepts_forms b.3 c.0.3)) (T.accepts_forms
-        b.4 c.0.4)) (U.accepts_forms b.5 c.0.5)) (V.accepts_forms b.6 c.0.6)) (W.accepts_forms b.7 c.0.7)) };
+    ghost accepts_forms = { λ p c. let b = p.parsers in let e = P.Error.errors in alt_accepts e (or_accepts e (or_accepts e (or_accepts e (or_accepts e
+        (or_accepts e (or_accepts e (or_accepts e (λ d. P.accepts_forms b.0 c.0.0) (Q.accepts_forms b.1 c.0.1)) (R.accepts_forms b.2 c.0.2)) (S.accepts_forms
+        b.3 c.0.3)) (T.accepts_forms b.4 c.0.4)) (U.accepts_forms b.5 c.0.5)) (V.accepts_forms b.6 c.0.6)) (W.accepts_forms b.7 c.0.7) c.1) };
 
-    ghost one_form = { λ p c v. let b = p.parsers in either_one ((c.1.1).apart v) (either_one ((c.1.0.1).apart v) (either_one ((c.1.0.0.1).apart v)
-        (either_one ((c.1.0.0.0.1).apart v) (either_one ((c.1.0.0.0.0.1).apart v) (either_one ((c.1.0.0.0.0.0.1).apart v) (either_one
-        ((c.1.0.0.0.0.0.0.1).apart v) (P.one_form b.0 c.0.0 v) (Q.one_form b.1 c.0.1 v)) (R.one_form b.2 c.0.2 v)) (S.one_form b.3 c.0.3 v)) (T.one_form b.4
-        c.0.4 v)) (U.one_form b.5 c.0.5 v)) (V.one_form b.6 c.0.6 v)) (W.one_form b.7 c.0.7 v) };
+    ghost one_form = { λ p c. let b = p.parsers in or_one (or_one (or_one (or_one (or_one (or_one (or_one (λ d. P.one_form b.0 c.0.0) (Q.one_form b.1 c.0.1))
+        (R.one_form b.2 c.0.2)) (S.one_form b.3 c.0.3)) (T.one_form b.4 c.0.4)) (U.one_form b.5 c.0.5)) (V.one_form b.6 c.0.6)) (W.one_form b.7 c.0.7) c.1 };
 }

@@ -9,10 +9,10 @@ use Rattle.nom_stream.specs.declared.step.Taken.{Taken}
 use Rattle.nom_stream.specs.declared.step.Taken.TheVariants as Took
 use Rattle.nom_stream.specs.Items.{Answered, Bytes, IsUndecided, Takes, taken_of}
 use Rattle.nom_stream.specs.Items as Items
-use Rattle.nom_stream.specs.Streams.{Tells, Told}
+use Rattle.nom_stream.specs.Streams.{IsItemResult, ItemResult}
 
 -- an item is told that has bytes
-pub item_told : {O : Type 0} (n : ℕ) (o : O) (r : Told O) → 0 < n → Tells (taken_of n o) r → r ≡ Ok (Some (n, o))
+pub item_told : {O : Type 0} (n : ℕ) (o : O) (r : ItemResult O) → 0 < n → IsItemResult (taken_of n o) r → r ≡ Ok (Some (n, o))
 item_told zero o r some s = absurd (omega (arith, some))
 item_told (suc n) o r some s = s
 

@@ -10,7 +10,7 @@ use Rattle.nom_stream.specs.declared.stream.Stop.TheVariants as Stopped
 use Rattle.nom_stream.specs.declared.stream.Stream.{Stream}
 use Rattle.nom_stream.specs.Held.{held_of}
 use Rattle.nom_stream.specs.Items.{Bytes, IsUndecided}
-use Rattle.nom_stream.specs.Streams.{Answers, Ends, EndsAsReader, Gives, Tells, Told}
+use Rattle.nom_stream.specs.Streams.{Answers, Ends, EndsAsReader, Gives, IsItemResult, ItemResult}
 use Rattle.nom_stream.specs.Streams.Answers.{Decided, AtEnd, Full, Faulted, Lacking}
 use Rattle.nom_stream.specs.Streams.Ends.{Clean, Within, Completed}
 use Rattle.nom_stream.specs.Wholes.{Calls, HasLeft}
@@ -128,7 +128,7 @@ module _ {V O : Type 0} (view : View O) (Pins : Type 0) (g : Grammar Bytes V O (
     -- what is told where an item is left
     module _ (v : O) (xs : List ℕ) (item : IsIt v xs) (after rest : List ℕ) (e : held_of u.held ++ after ≡ xs ++ rest)
         (ends : u.ended ≡ true → after ≡ []) where
-      abbrev TellsIt : Told O → Type 0
+      abbrev TellsIt : ItemResult O → Type 0
       TellsIt (Ok (Some (n, o))) = (n ≡ length xs) × (Pins → view.value o ≡ view.value v) × ((front : List ℕ) × (length front ≡ n) ×
           (held_of u.held ≡ front ++ held_of t.held))
       TellsIt (Ok None) = ⊥
@@ -148,14 +148,14 @@ module _ {V O : Type 0} (view : View O) (Pins : Type 0) (g : Grammar Bytes V O (
         not_failed Outright a = let w = decided v xs item x known after rest whole (Stop (Fails Outright)) a tt in absurd (cc (w.1))
         not_failed TooLarge a = lawful.never_fails TooLarge never true x known a
 
-        told_it : (taken : Taken O) → (IsUndecided taken → ⊥) → TellsOutcome g x (held_of t.held) taken → (r : Told O) → Tells taken r → TellsIt r
+        told_it : (taken : Taken O) → (IsUndecided taken → ⊥) → TellsOutcome g x (held_of t.held) taken → (r : ItemResult O) → IsItemResult taken r → TellsIt r
         told_it taken d (inl (Accept n tree, a, h)) r s =
             let w = decided v xs item x known after rest whole (Accept n tree) a tt in
             let both : ◌≡◌ {A = Outcome V} (Accept n tree) (Accept (items_len bytes_model.item_len xs) w.0) = w.1 in
             let size : n ≡ items_len bytes_model.item_len xs = cc (both) in
             let same : tree ≡ w.0 = cc (both) in
             let long : n ≡ length xs = size ∙ items_len-ones xs in
-            let given = item_told n h.0 r (omega (arith, long, item.some)) (subst (λ z. Tells z r) h.2 s) in
+            let given = item_told n h.0 r (omega (arith, long, item.some)) (subst (λ z. IsItemResult z r) h.2 s) in
             let front = h.3 in
             subst TellsIt (sym given) (
               long,
@@ -166,13 +166,13 @@ module _ {V O : Type 0} (view : View O) (Pins : Type 0) (g : Grammar Bytes V O (
         told_it taken d (inl (Stop (Fails cause), a, h)) r s = absurd (not_failed cause a)
         told_it taken d (inl (Stop (Needs j), a, h)) r s = absurd (d (subst (λ z. IsUndecided z) (sym h.1) tt))
         told_it taken d (inr h) r s =
-            let given = subst (λ z. Tells z r) h.1 s in
+            let given = subst (λ z. IsItemResult z r) h.1 s in
             subst TellsIt (sym given) (h.0 ∙ is)
 
         all_there : u.ended ≡ true → x.now ≡ xs ++ rest
         all_there f = sym (append-nil x.now) ∙ (ap (λ z. x.now ++ z) (sym (ends f)) ∙ whole)
 
-      answer_tells : (r : Told O) → Answers g u t r → TellsIt r
+      answer_tells : (r : ItemResult O) → Answers g u t r → TellsIt r
       answer_tells r (Decided taken d k l s) = told_it k.input k.known k.is_held taken d (told g (held_of u.held) (held_of t.held) taken k) r s
       answer_tells r (AtEnd f n k h) =
           let a = lacks g (held_of u.held) (held_of u.held) n k in
@@ -187,7 +187,7 @@ module _ {V O : Type 0} (view : View O) (Pins : Type 0) (g : Grammar Bytes V O (
 
     -- and where none is
     module _ (v : O) (xs : List ℕ) (item : IsIt v xs) (none : held_of u.held ≡ []) where
-      abbrev TellsEnd : Told O → Type 0
+      abbrev TellsEnd : ItemResult O → Type 0
       TellsEnd (Ok (Some p)) = ⊥
       TellsEnd (Ok None) = held_of t.held ≡ []
       TellsEnd (Err (Stopped.Refused k at)) = ⊥
@@ -206,35 +206,35 @@ module _ {V O : Type 0} (view : View O) (Pins : Type 0) (g : Grammar Bytes V O (
         never_failed Outright a = never_decided (Stop (Fails Outright)) a tt
         never_failed TooLarge a = lawful.never_fails TooLarge never true x known a
 
-        told_end : (taken : Taken O) → (IsUndecided taken → ⊥) → TellsOutcome g x (held_of t.held) taken → (r : Told O) → Tells taken r →
+        told_end : (taken : Taken O) → (IsUndecided taken → ⊥) → TellsOutcome g x (held_of t.held) taken → (r : ItemResult O) → IsItemResult taken r →
             TellsEnd r
         told_end taken d (inl (Accept n tree, a, h)) r s = absurd (never_decided (Accept n tree) a tt)
         told_end taken d (inl (Refuse, a, h)) r s = absurd (never_decided Refuse a tt)
         told_end taken d (inl (Stop (Fails cause), a, h)) r s = absurd (never_failed cause a)
         told_end taken d (inl (Stop (Needs j), a, h)) r s = absurd (d (subst (λ z. IsUndecided z) (sym h.1) tt))
         told_end taken d (inr h) r s =
-            let given = subst (λ z. Tells z r) h.1 s in
+            let given = subst (λ z. IsItemResult z r) h.1 s in
             subst TellsEnd (sym given) (h.0 ∙ (is ∙ none))
 
-      end_tells : (k : Needed) (r : Told O) → Ends g u t k r → TellsEnd r
+      end_tells : (k : Needed) (r : ItemResult O) → Ends g u t k r → TellsEnd r
       end_tells k r (Clean a b s) = subst TellsEnd (sym s) b
       end_tells k r (Within some a b s) = absurd (omega (arith, some, ap length none))
       end_tells k r (Completed some a taken q l s) = absurd (omega (arith, some, ap length none))
 
-      ending_tells : (r : Told O) → Answers g u t r → TellsEnd r
+      ending_tells : (r : ItemResult O) → Answers g u t r → TellsEnd r
       ending_tells r (Decided taken d k l s) = told_end k.input k.known k.is_held taken d (told g (held_of u.held) (held_of t.held) taken k) r s
       ending_tells r (AtEnd f n k h) = end_tells n r h
       ending_tells r (Full m b w s) = subst TellsEnd (sym s) (omega (arith, m, ap length none, item.some, item.fits), b ∙ none)
       ending_tells r (Faulted why b w s) = subst TellsEnd (sym s) (b ∙ none)
       ending_tells r (Lacking l b w s) = subst TellsEnd (sym s) (b ∙ none)
 
-  abbrev TellingWithin : ℕ → List O → List (Told O) → Type 0
+  abbrev TellingWithin : ℕ → List O → List (ItemResult O) → Type 0
   TellingWithin limit = TellsItems view Pins (limit < most)
 
   module _ {R A : Type 0} (left : R → Option (List ℕ)) (first : O) (form : List ℕ) (item : IsIt first form) (limit : ℕ) where
     -- after an answer the rest is told of what is left
     one_item : (u t : Stream R A) (v : O) (xs after rest : List ℕ) (i : IsIt v xs) (e : held_of u.held ++ after ≡ xs ++ rest)
-        (ends : u.ended ≡ true → after ≡ []) (vs : List O) (r : Told O) (rs : List (Told O)) → u.settings.most ≡ limit →
+        (ends : u.ended ≡ true → after ≡ []) (vs : List O) (r : ItemResult O) (rs : List (ItemResult O)) → u.settings.most ≡ limit →
         TellsIt u t v xs i after rest e ends r → (held_of t.held ++ after ≡ rest → TellingWithin limit vs rs) →
         (held_of t.held ++ after ≡ xs ++ rest → TellingWithin limit (v ∷ vs) rs) → TellingWithin limit (v ∷ vs) (r ∷ rs)
     one_item u t v xs after rest i e ends vs (Ok (Some (n, o))) rs m h f k =
@@ -251,7 +251,7 @@ module _ {V O : Type 0} (view : View O) (Pins : Type 0) (g : Grammar Bytes V O (
     one_item u t v xs after rest i e ends vs (Err (Stopped.Fault why)) rs m h f k = k (ap (λ z. z ++ after) h ∙ e)
     one_item u t v xs after rest i e ends vs (Err Stopped.OutOfMemory) rs m h f k = k (ap (λ z. z ++ after) h ∙ e)
 
-    no_item : (u t : Stream R A) (none : held_of u.held ≡ []) (r : Told O) (rs : List (Told O)) → u.settings.most ≡ limit →
+    no_item : (u t : Stream R A) (none : held_of u.held ≡ []) (r : ItemResult O) (rs : List (ItemResult O)) → u.settings.most ≡ limit →
         TellsEnd u t first form item none r → (held_of t.held ≡ [] → TellingWithin limit [] rs) → TellingWithin limit [] (r ∷ rs)
     no_item u t none (Ok (Some p)) rs m h k = absurd h
     no_item u t none (Ok None) rs m h k = k h
@@ -268,7 +268,7 @@ module _ {V O : Type 0} (view : View O) (Pins : Type 0) (g : Grammar Bytes V O (
         (t.ended ≡ true → after ≡ []) → held_of t.held ++ after ≡ xs → HasLeft left t xs
     still_left u t after xs same there ends e = (after, ap (λ z. left z.inner) same ∙ there, sym e, ends)
 
-    tells : (vs : List O) (xs : List ℕ) (rs : List (Told O)) (s t : Stream R A) → Each IsIt vs xs → HasLeft left s xs → Calls left g rs s t →
+    tells : (vs : List O) (xs : List ℕ) (rs : List (ItemResult O)) (s t : Stream R A) → Each IsIt vs xs → HasLeft left s xs → Calls left g rs s t →
         s.settings.most ≡ limit → TellingWithin limit vs rs
     tells [] xs [] s t h has c m = tt
     tells (v ∷ vs) xs [] s t h has c m = tt

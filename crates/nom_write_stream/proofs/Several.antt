@@ -8,7 +8,7 @@ use Rattle.nom_sink.specs.Written.{Space}
 use Rattle.nom_write_stream.specs.declared.outgoing.Outgoing.{Outgoing}
 use Rattle.nom_write_stream.specs.declared.outgoing.Unwritten.{Unwritten}
 use Rattle.nom_write_stream.specs.declared.outgoing.Unwritten.TheVariants.{TooLong, Mismatch, Nothing, OverLimit, Fault, OutOfMemory}
-use Rattle.nom_write_stream.specs.Outgoing.{WritesItem, WritesItems, Counts, IsItem, Sends, WhyNot}
+use Rattle.nom_write_stream.specs.Outgoing.{WritesItem, WritesItems, CountsUnwritten, IsItem, Sends, WhyNot}
 use Rattle.nom_io.specs.Faults.{NoFault}
 use Rattle.nom_io.proofs.SeveralCalls.{fault_then, none_then}
 use Rattle.nom_write_stream.proofs.Sending.{no_call, sends_none, sends_then}
@@ -43,7 +43,8 @@ take_all zero (v ∷ vs) h = absurd (omega (arith, h))
 take_all (suc k) [] h = refl
 take_all (suc k) (v ∷ vs) h = ap (λ us. v ∷ us) (take_all k vs (omega (arith, h)))
 
-counts_then : {W A : Type 0} (a b c : Outgoing W A) (why : Unwritten) → NoFault a.target.faults b.target.faults → Counts b c why → Counts a c why
+counts_then : {W A : Type 0} (a b c : Outgoing W A) (why : Unwritten) → NoFault a.target.faults b.target.faults → CountsUnwritten b c why →
+    CountsUnwritten a c why
 counts_then a b c (TooLong at) p q = none_then a.target.faults b.target.faults c.target.faults p q
 counts_then a b c (Mismatch at) p q = none_then a.target.faults b.target.faults c.target.faults p q
 counts_then a b c Nothing p q = none_then a.target.faults b.target.faults c.target.faults p q

@@ -64,25 +64,25 @@ module _ (Form : List ℕ → Type 0) (Fails : Space → WriteError → Type 0) 
   WhyNot OutOfMemory = (start : ℕ) × (start ≤ most) × FailsWith start Write.OutOfMemory
 
 -- What `add` does to what is held: a form of the item is added, or there is no room for it, or it can't be written.
-abbrev pub Fits : {W A : Type 0} → (a b : Outgoing W A) → (List ℕ → Type 0) → (Space → WriteError → Type 0) → Result Bool Unwritten → Type 0
-Fits a b Form Fails (Ok true) = (xs : List ℕ) × IsItem Form a.most xs × (held_of b ≡ held_of a ++ xs)
-Fits a b Form Fails (Ok false) = (held_of b ≡ held_of a) × NoRoom Form Fails a.most (length (held_of a))
-Fits a b Form Fails (Err why) = (held_of b ≡ held_of a) × WhyNot Form Fails a.most why × ((e : Error) → why ≡ Fault e → ⊥)
+abbrev pub WritesFit : {W A : Type 0} → (a b : Outgoing W A) → (List ℕ → Type 0) → (Space → WriteError → Type 0) → Result Bool Unwritten → Type 0
+WritesFit a b Form Fails (Ok true) = (xs : List ℕ) × IsItem Form a.most xs × (held_of b ≡ held_of a ++ xs)
+WritesFit a b Form Fails (Ok false) = (held_of b ≡ held_of a) × NoRoom Form Fails a.most (length (held_of a))
+WritesFit a b Form Fails (Err why) = (held_of b ≡ held_of a) × WhyNot Form Fails a.most why × ((e : Error) → why ≡ Fault e → ⊥)
 
 -- a write failed where that is told, and else none did
-abbrev pub Counts : {W A : Type 0} → (a b : Outgoing W A) → Unwritten → Type 0
-Counts a b (TooLong at) = NoFault a.target.faults b.target.faults
-Counts a b (Mismatch at) = NoFault a.target.faults b.target.faults
-Counts a b Nothing = NoFault a.target.faults b.target.faults
-Counts a b OverLimit = NoFault a.target.faults b.target.faults
-Counts a b (Fault e) = OneFault a.target.faults b.target.faults e
-Counts a b OutOfMemory = NoFault a.target.faults b.target.faults
+abbrev pub CountsUnwritten : {W A : Type 0} → (a b : Outgoing W A) → Unwritten → Type 0
+CountsUnwritten a b (TooLong at) = NoFault a.target.faults b.target.faults
+CountsUnwritten a b (Mismatch at) = NoFault a.target.faults b.target.faults
+CountsUnwritten a b Nothing = NoFault a.target.faults b.target.faults
+CountsUnwritten a b OverLimit = NoFault a.target.faults b.target.faults
+CountsUnwritten a b (Fault e) = OneFault a.target.faults b.target.faults e
+CountsUnwritten a b OutOfMemory = NoFault a.target.faults b.target.faults
 
 module _ {W A : Type 0} (contents : W → Option (List ℕ)) (a b : Outgoing W A) where
   -- what one `write_item` does: a form of the item is held or written after what was held, or there is a reason
   abbrev pub WritesItem : (List ℕ → Type 0) → (Space → WriteError → Type 0) → Result (Unit {0}) Unwritten → Type 0
   WritesItem Form Fails (Ok _) = (xs : List ℕ) × IsItem Form a.most xs × Sends contents a b xs × NoFault a.target.faults b.target.faults
-  WritesItem Form Fails (Err why) = Sends contents a b [] × WhyNot Form Fails a.most why × Counts a b why
+  WritesItem Form Fails (Err why) = Sends contents a b [] × WhyNot Form Fails a.most why × CountsUnwritten a b why
 
   -- what `write_items` does: forms of the items, one after another; or of those before one, and a reason of that one
   abbrev pub WritesItems : {O : Type 0} → (O → List ℕ → Type 0) → (O → Space → WriteError → Type 0) → List O → Result (Unit {0}) Halted →
@@ -90,4 +90,4 @@ module _ {W A : Type 0} (contents : W → Option (List ℕ)) (a b : Outgoing W A
   WritesItems Form Fails vs (Ok _) = (xs : List ℕ) × Each (λ v. IsItem (Form v) a.most) vs xs × Sends contents a b xs × NoFault a.target.faults b.target.faults
   WritesItems {O} Form Fails vs (Err h) =
       (xs : List ℕ) × Each (λ v. IsItem (Form v) a.most) (take h.count vs) xs × Sends contents a b xs × (h.count < length vs) ×
-      ((v : O) × (v ≡ get_or vs h.count v) × WhyNot (Form v) (Fails v) a.most h.why) × Counts a b h.why
+      ((v : O) × (v ≡ get_or vs h.count v) × WhyNot (Form v) (Fails v) a.most h.why) × CountsUnwritten a b h.why

@@ -5,7 +5,7 @@ use Rattle.nom_internal.specs.Prelude.{bytes_model, Grammar, Outcome, View}
 use Rattle.nom_stream.specs.declared.stream.Stop.TheVariants as Stopped
 use Rattle.nom_stream.specs.declared.stream.Stream.{Stream}
 use Rattle.nom_stream.specs.Items.{Bytes}
-use Rattle.nom_stream.specs.Streams.{Told}
+use Rattle.nom_stream.specs.Streams.{ItemResult}
 use Rattle.nom_stream.specs.Wholes.{Calls, HasLeft}
 use Rattle.nom_sink.specs.Lists.{Each}
 use Rattle.nom_write_stream.specs.declared.outgoing.Outgoing.{Outgoing}
@@ -21,7 +21,7 @@ HasOutcomes g = HasOutcome (g.meaning.answers true)
 module _ {O : Type 0} (view : View O) (Pins : Type 0) (Short : Type 0) where
   -- Answers of `next_item` tell these values, in order, and then the end: equal as viewed, where outputs are pinned. A read that
   -- failed and want of memory lose none of them; nor does a limit, which is told only where it is too short.
-  abbrev pub TellsItems : List O → List (Told O) → Type 0
+  abbrev pub TellsItems : List O → List (ItemResult O) → Type 0
   TellsItems vs [] = Unit {0}
   TellsItems [] (Ok None ∷ rs) = TellsItems [] rs
   TellsItems (v ∷ vs) (Ok None ∷ rs) = ⊥
@@ -41,7 +41,7 @@ module _ (A : Type 0) {R V O : Type 0} (left : R → Option (List ℕ)) (view : 
   -- that no item is where there are no bytes.
   abbrev pub ItemsOfForms : Type 0
   ItemsOfForms = (most : ℕ) (first : O) (form : List ℕ) → IsItem (Form first) most form → (vs : List O) (xs : List ℕ) →
-      Each (λ v. IsItem (Form v) most) vs xs → (s t : Stream R A) (rs : List (Told O)) → HasLeft left s xs → Calls left g rs s t →
+      Each (λ v. IsItem (Form v) most) vs xs → (s t : Stream R A) (rs : List (ItemResult O)) → HasLeft left s xs → Calls left g rs s t →
       TellsItems view Pins (s.settings.most < most) vs rs
 
 -- Items were written, and then all that was held; a stream reads just what the writer took. Its answers tell these items.
@@ -51,5 +51,5 @@ ItemsOfPipe A B {R} {W} {V} {O} left contents view Pins g Form =
     (a b : Outgoing W B) (v : O) (vs : List O) (xs before taken : List ℕ) → Each (λ v. IsItem (Form v) a.most) (v ∷ vs) xs →
     held_of a ≡ [] → Sends contents a b xs → held_of b ≡ [] → contents a.target.inner ≡ Some before → contents b.target.inner ≡ Some
     (before ++ taken) →
-    (s t : Stream R A) (rs : List (Told O)) → HasLeft left s taken → Calls left g rs s t →
+    (s t : Stream R A) (rs : List (ItemResult O)) → HasLeft left s taken → Calls left g rs s t →
     TellsItems view Pins (s.settings.most < a.most) (v ∷ vs) rs

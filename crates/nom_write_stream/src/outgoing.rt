@@ -69,7 +69,7 @@ fn why_of(error: WriteError, start: usize) -> Option<Unwritten>
 
 impl<W: Write, A: Allocator> Outgoing<W, A> {
     ghost use Rattle.std.specs.Prelude.{◌<◌, [], IfErr, IfOk, OnErr, OnOk};
-    ghost use Rattle.nom_write_stream.specs.Outgoing.{WritesItem, WritesItems, Fits, Flushes, Sends, held_of};
+    ghost use Rattle.nom_write_stream.specs.Outgoing.{WritesItem, WritesItems, WritesFit, Flushes, Sends, held_of};
     ghost use Rattle.nom_io.specs.Faults.{CountsCalls, IsLate};
 
     /// Returns an empty buffer before `target`, and takes the memory for `most` bytes.
@@ -99,7 +99,7 @@ impl<W: Write, A: Allocator> Outgoing<W, A> {
         value: &P::Output,
     ) -> Result<bool, Unwritten>
         requires can { P.CanWrite writer.now }
-        ensures added { Fits self.old self.new (P.Form writer.now value.now) (P.Fails writer.now value.now) result }
+        ensures added { WritesFit self.old self.new (P.Form writer.now value.now) (P.Fails writer.now value.now) result }
         ensures others { (self.new.target ≡ self.old.target) × (self.new.most ≡ self.old.most) }
     {
         let start = self.held.bytes.len();

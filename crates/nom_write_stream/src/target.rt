@@ -89,7 +89,7 @@ impl<W: Write> Target<W> {
                 Ok(count)
             }
             Err(error) => {
-                self.faults.give(error);
+                self.faults.count_error(error);
                 Err(error)
             }
         }

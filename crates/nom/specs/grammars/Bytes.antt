@@ -10,6 +10,7 @@ pub use Rattle.nom_number.specs.declared.order.Endianness.TheVariants.{Big, Litt
 use Rattle.nom_search.specs.Substrings.{FindsBytes}
 use Rattle.nom.specs.grammars.Grammar as Grammars
 use Rattle.nom.specs.grammars.Grammar.{Grammar}
+pub use Rattle.nom.specs.grammars.Grammar.{cut_of, map_of, opt_of, peek_of, value_of}
 use Rattle.nom.specs.grammars.Leaves as Leaves
 
 abbrev pub Bytes : Type 0
@@ -60,15 +61,6 @@ separated_pair_of = Grammars.separated_pair_of bytes_model
 abbrev pub delimited_of : {V O U P S Q : Type 0} → BytesGrammar V O → BytesGrammar U P → BytesGrammar S Q → BytesGrammar U P
 delimited_of = Grammars.delimited_of bytes_model
 
-abbrev pub opt_of : {V O : Type 0} → BytesGrammar V O → BytesGrammar (Option V) (Option O)
-opt_of = Grammars.opt_of
-
-abbrev pub cut_of : {V O : Type 0} → BytesGrammar V O → BytesGrammar V O
-cut_of = Grammars.cut_of
-
-abbrev pub peek_of : {V O : Type 0} → BytesGrammar V O → BytesGrammar V O
-peek_of = Grammars.peek_of
-
 abbrev pub not_of : {V O : Type 0} → BytesGrammar V O → BytesGrammar (Unit {0}) (Unit {0})
 not_of = Grammars.not_of plain_errors
 
@@ -118,9 +110,6 @@ many1_count_of = Grammars.many1_count_of bytes_model plain_errors
 
 abbrev pub many_m_n_count_of : {V O : Type 0} → ℕ → ℕ → BytesGrammar V O → BytesGrammar (List V) ℕ
 many_m_n_count_of = Grammars.many_m_n_count_of bytes_model plain_errors
-
-abbrev pub map_of : {V O P : Type 0} → (O → P) → BytesGrammar V O → BytesGrammar V P
-map_of = Grammars.map_of
 
 abbrev pub take_while1_of : (ℕ → Bool) → BytesGrammar (Slice bytes_model) Bytes
 take_while1_of = Leaves.take_while1_of bytes_model plain_errors
@@ -262,9 +251,6 @@ verify_of = Grammars.verify_of plain_errors
 
 abbrev pub map_opt_of : {V O P : Type 0} → (O → Option P) → BytesGrammar V O → BytesGrammar V P
 map_opt_of = Grammars.map_opt_of plain_errors
-
-abbrev pub value_of : {V O P : Type 0} → P → BytesGrammar V O → BytesGrammar P P
-value_of = Grammars.value_of
 
 abbrev pub signed_number_of : Endianness → ℕ → BytesGrammar ℤ ℤ
 signed_number_of = Leaves.signed_number_of bytes_model plain_errors

@@ -9,6 +9,7 @@ pub use Rattle.nom_error.specs.PlainErrors.{plain_errors}
 use Rattle.nom_search.specs.Substrings.{FindsFirst}
 use Rattle.nom.specs.grammars.Grammar as Grammars
 use Rattle.nom.specs.grammars.Grammar.{Grammar}
+pub use Rattle.nom.specs.grammars.Grammar.{cut_of, map_of, opt_of, peek_of, value_of}
 use Rattle.nom.specs.grammars.Leaves as Leaves
 
 abbrev pub Text : Type 0
@@ -57,15 +58,6 @@ separated_pair_of = Grammars.separated_pair_of text_model
 
 abbrev pub delimited_of : {V O U P S Q : Type 0} → TextGrammar V O → TextGrammar U P → TextGrammar S Q → TextGrammar U P
 delimited_of = Grammars.delimited_of text_model
-
-abbrev pub opt_of : {V O : Type 0} → TextGrammar V O → TextGrammar (Option V) (Option O)
-opt_of = Grammars.opt_of
-
-abbrev pub cut_of : {V O : Type 0} → TextGrammar V O → TextGrammar V O
-cut_of = Grammars.cut_of
-
-abbrev pub peek_of : {V O : Type 0} → TextGrammar V O → TextGrammar V O
-peek_of = Grammars.peek_of
 
 abbrev pub not_of : {V O : Type 0} → TextGrammar V O → TextGrammar (Unit {0}) (Unit {0})
 not_of = Grammars.not_of plain_errors
@@ -116,9 +108,6 @@ many1_count_of = Grammars.many1_count_of text_model plain_errors
 
 abbrev pub many_m_n_count_of : {V O : Type 0} → ℕ → ℕ → TextGrammar V O → TextGrammar (List V) ℕ
 many_m_n_count_of = Grammars.many_m_n_count_of text_model plain_errors
-
-abbrev pub map_of : {V O P : Type 0} → (O → P) → TextGrammar V O → TextGrammar V P
-map_of = Grammars.map_of
 
 abbrev pub take_while1_of : (ℕ → Bool) → TextGrammar (Slice text_model) Text
 take_while1_of = Leaves.take_while1_of text_model plain_errors
@@ -250,9 +239,6 @@ verify_of = Grammars.verify_of plain_errors
 
 abbrev pub map_opt_of : {V O P : Type 0} → (O → Option P) → TextGrammar V O → TextGrammar V P
 map_opt_of = Grammars.map_opt_of plain_errors
-
-abbrev pub value_of : {V O P : Type 0} → P → TextGrammar V O → TextGrammar P P
-value_of = Grammars.value_of
 
 abbrev pub length_count_of : {V U P M : Type 0} → TextGrammar V ℕ → TextGrammar U P → TextGrammar (List U) (Vec P M)
 length_count_of = Grammars.length_count_of text_model plain_errors

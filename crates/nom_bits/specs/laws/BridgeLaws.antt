@@ -1,7 +1,8 @@
 -- The laws of parsers of bits among parsers of bytes, and of bytes among parsers of bits.
 use Rattle.std.specs.Prelude.{◌≡◌, ℕ, ◌+◌, ◌*◌, Bool, true, false, ◌++◌, Option, Some, None, refl}
 use Rattle.std.proofs.Common.{arith, sym, ◌∙◌, ap, subst, inl, inr, append_assoc}
-use Rattle.nom_internal.specs.Prelude.{Errors, Model, InputLaws, IsBoundary, IsSuffixOf, IsSame, Related, rest_alike, items_len-append, items_len-ones, IsCount}
+use Rattle.nom_internal.specs.Prelude.{Errors, Model, InputLaws, IsBoundary, IsSuffixOf, IsSame}
+use Rattle.nom_internal.specs.Prelude.{Related, rest_consistent, items_len-append, items_len-ones, IsCount}
 use Rattle.nom_internal.specs.Prelude.{all_bits, AreBytes, bits_model, Outcome, Cause, Accept, Refuse, Stop, Fails, Needs, Outright, TooLarge, IsDecided}
 use Rattle.nom_internal.specs.Prelude.{Meaning, IsLawful, IsSteady}
 use Rattle.nom_traits.specs.BitLists.{length-all_bits}
@@ -27,8 +28,8 @@ too_many (Some n) i a b = omega (arith, a, b.0)
 too_many None i a b = a
 
 module _ {I : Type 0} (w : Model I ℕ) where
-  count_alike : (x y : I) (c n : ℕ) → IsSame w x y → IsCount w x c n → IsCount w y c n
-  count_alike x y c n r q = record {
+  count_consistent : (x y : I) (c n : ℕ) → IsSame w x y → IsCount w x c n → IsCount w y c n
+  count_consistent x y c n r q = record {
     place = record { front = q.place.front; rest = q.place.rest; whole = sym r.elements_are ∙ q.place.whole; length_is = q.place.length_is };
     count_is = q.count_is;
   }
@@ -47,10 +48,10 @@ module _ {I : Type 0} (w : Model I ℕ) (l : InputLaws w) {T : Type 0} where
   bits_same longer x y (Stop (Fails cause)) o p r s u = s ∙ sym u
   bits_same longer x y (Stop (Needs k)) o p r s u = s ∙ sym u
 
-  bits_alike : (x y : I) (a o : Outcome T) → IsSame w x y → BitsBecome w x a o → BitsBecome w y a o
-  bits_alike x y (Accept n t) o r s = (s.0, count_alike w x y _ s.0 r s.1, s.2)
-  bits_alike x y Refuse o r s = s
-  bits_alike x y (Stop why) o r s = s
+  bits_consistent : (x y : I) (a o : Outcome T) → IsSame w x y → BitsBecome w x a o → BitsBecome w y a o
+  bits_consistent x y (Accept n t) o r s = (s.0, count_consistent w x y _ s.0 r s.1, s.2)
+  bits_consistent x y Refuse o r s = s
+  bits_consistent x y (Stop why) o r s = s
 
   bits_place_of : (i : I) (a : Outcome T) (n : ℕ) (t : T) → BitsBecome w i a (Accept n t) → IsBoundary w i n
   bits_place_of i (Accept m u) n t s = let same : s.0 ≡ n = cc (s.2) in subst (λ k. IsBoundary w i k) same s.1.place
@@ -70,10 +71,10 @@ module _ {I : Type 0} (w : Model I ℕ) (l : InputLaws w) {T : Type 0} where
       at_known = λ i j h a. subst (λ z. w.IsKnown z.0) (sym a.0) h;
       at_related = λ longer stays x y j k r a b. subst (λ z. Related (bits_model w) longer j z) (sym b.0)
           (subst (λ z. Related (bits_model w) longer z (y, 0)) (sym a.0) (as_bits w l longer x y b.1 r));
-      at_alike = λ x y j r a. ((y, 0), (refl, subst AreBytes r.elements_are a.1));
+      at_consistent = λ x y j r a. ((y, 0), (refl, subst AreBytes r.elements_are a.1));
       keeps = λ only. bits_keeps;
       same = λ longer stays x y a o p kx ky r s k u. bits_same longer x y a o p r s u;
-      consistent = λ x y a o kx ky r s. bits_alike x y a o r s;
+      consistent = λ x y a o kx ky r s. bits_consistent x y a o r s;
       place = λ i j a n t h e place s. bits_place_of i a n t s;
       never_fails = λ Part cause i a g s. (g, bits_fails cause i a s);
       blames = λ i a X Y f h b. (b.0, b.1, h b.0 b.2, b.3);
@@ -107,21 +108,21 @@ module _ {I : Type 0} (w : Model I ℕ) (l : InputLaws w) {T : Type 0} where
     bytes_same longer x y (Stop (Needs k)) o p r (inr s) (inl u) = absurd (too_many k s.0 u.0 s.1)
     bytes_same longer x y (Stop (Needs k)) o p r (inr s) (inr u) = s.2 ∙ (ap (λ j. Stop (Needs j)) (one_need k s.0 u.0 s.1 u.1) ∙ sym u.2)
 
-    accept_alike : (x y : I × ℕ) (n : ℕ) (t : T) (o : Outcome T) → IsSame (bits_model w) x y → BytesAccept w x n t o → BytesAccept w y n t o
-    accept_alike x y n t o r s =
+    accept_consistent : (x y : I × ℕ) (n : ℕ) (t : T) (o : Outcome T) → IsSame (bits_model w) x y → BytesAccept w x n t o → BytesAccept w y n t o
+    accept_consistent x y n t o r s =
         let ahead : bits_ahead w x ≡ bits_ahead w y = same_ahead w l false x y r in
         record {
           at = s.at;
-          at_is = subst (λ m. IsSuffixOf (bits_model w) y m (s.at, 0)) ahead (rest_alike (bits_model w) x y (bits_ahead w x) (s.at, 0) r s.at_is);
+          at_is = subst (λ m. IsSuffixOf (bits_model w) y m (s.at, 0)) ahead (rest_consistent (bits_model w) x y (bits_ahead w x) (s.at, 0) r s.at_is);
           count = s.count;
           counted = s.counted;
           outcome_is = s.outcome_is ∙ ap (λ m. Accept (m + 8 * s.count) t) ahead;
         }
 
-    bytes_alike : (x y : I × ℕ) (a o : Outcome T) → IsSame (bits_model w) x y → BytesBecome w x a o → BytesBecome w y a o
-    bytes_alike x y (Accept n t) o r s = accept_alike x y n t o r s
-    bytes_alike x y Refuse o r s = s
-    bytes_alike x y (Stop why) o r s = s
+    bytes_consistent : (x y : I × ℕ) (a o : Outcome T) → IsSame (bits_model w) x y → BytesBecome w x a o → BytesBecome w y a o
+    bytes_consistent x y (Accept n t) o r s = accept_consistent x y n t o r s
+    bytes_consistent x y Refuse o r s = s
+    bytes_consistent x y (Stop why) o r s = s
 
     accept_place : (i : I × ℕ) (m n : ℕ) (u t : T) → BytesAccept w i m u (Accept n t) → IsBoundary (bits_model w) i n
     accept_place i m n u t s =
@@ -174,14 +175,14 @@ module _ {I : Type 0} (w : Model I ℕ) (l : InputLaws w) {T : Type 0} where
       bytes_laws = record {
         at_known = λ i j h a. a.known;
         at_related = λ longer stays x y j k r a b. ahead_related w l values longer x y j k r a b;
-        at_alike = λ x y j r a. (
+        at_consistent = λ x y j r a. (
           j,
           subst (λ m. IsSuffixOf (bits_model w) y m (j, 0)) (same_ahead w l false x y r)
-              (rest_alike (bits_model w) x y (bits_ahead w x) (j, 0) r a),
+              (rest_consistent (bits_model w) x y (bits_ahead w x) (j, 0) r a),
         );
         keeps = λ only. bytes_keeps;
         same = λ longer stays x y a o p kx ky r s k u. bytes_same longer x y a o p r s u;
-        consistent = λ x y a o kx ky r s. bytes_alike x y a o r s;
+        consistent = λ x y a o kx ky r s. bytes_consistent x y a o r s;
         place = λ i j a n t h e place s. bytes_place i a n t s;
         never_fails = only_fails;
         blames = blames_more;

@@ -29,11 +29,11 @@ module _ {I : Type 0} (w : Model I ℕ) where
       record { field = f.field; rest = there.rest; whole = there.whole; count_is = f.count_is; number_is = f.number_is }
 
   -- bits that lack in the complete mode lack on inputs that are equal as models
-  short_alike : (longer s : Bool) → (longer ≡ true → s ≡ true) → (x y : I × ℕ) (count : ℕ) → Related (bits_model w) longer x y → s ≡ false →
+  short_consistent : (longer s : Bool) → (longer ≡ true → s ≡ true) → (x y : I × ℕ) (count : ℕ) → Related (bits_model w) longer x y → s ≡ false →
       IsShort w x count → IsShort w y count
-  short_alike true true only x y count r e h = absurd (cc (e))
-  short_alike true false only x y count r e h = let no : false ≡ true = only cc in absurd (cc (no))
-  short_alike false s only x y count r e h = subst (λ bs. length bs < count) r.elements_are h
+  short_consistent true true only x y count r e h = absurd (cc (e))
+  short_consistent true false only x y count r e h = let no : false ≡ true = only cc in absurd (cc (no))
+  short_consistent false s only x y count r e h = subst (λ bs. length bs < count) r.elements_are h
 
   module _ (count : ℕ) where
     pub field_laws : LeafLaws (bits_model w) (fields w count)
@@ -45,8 +45,8 @@ module _ {I : Type 0} (w : Model I ℕ) where
       accepted_lacks = λ i n v k h a b. field_fits i count v a.1 b.0;
       refused_lacks = λ i k h a b. absurd (cc (a.0));
       accepted_stays = λ longer s only x y n v kx ky r a. (a.0, field_stays longer x y count v r a.1);
-      refused_stays = λ longer s only x y kx ky r a. (a.0, short_alike longer s only x y count r a.0 a.1);
-      lack_alike = λ x y k kx ky r a. (subst (λ bs. length bs < count) r.elements_are a.0, a.1);
+      refused_stays = λ longer s only x y kx ky r a. (a.0, short_consistent longer s only x y count r a.0 a.1);
+      lack_consistent = λ x y k kx ky r a. (subst (λ bs. length bs < count) r.elements_are a.0, a.1);
       accepted_settles = λ i n v h a. a;
       refused_settles = λ i h a. absurd (cc (a.0));
     }
@@ -62,7 +62,7 @@ module _ {I : Type 0} (w : Model I ℕ) where
 
     tag_stays : (longer s : Bool) → (longer ≡ true → s ≡ true) → (x y : I × ℕ) → Related (bits_model w) longer x y →
         (tagged_fields w wanted count).Refuses s x → (tagged_fields w wanted count).Refuses s y
-    tag_stays longer s only x y r (inl a) = inl (a.0, short_alike longer s only x y count r a.0 a.1)
+    tag_stays longer s only x y r (inl a) = inl (a.0, short_consistent longer s only x y count r a.0 a.1)
     tag_stays longer s only x y r (inr a) = inr (a.0, field_stays longer x y count a.0 r a.1, a.2)
 
     tag_settles : (i : I × ℕ) → (tagged_fields w wanted count).Refuses true i → (tagged_fields w wanted count).Refuses false i
@@ -79,7 +79,7 @@ module _ {I : Type 0} (w : Model I ℕ) where
       refused_lacks = λ i k h a b. tag_short i a b.0;
       accepted_stays = λ longer s only x y n v kx ky r a. (a.0, field_stays longer x y count v r a.1, a.2);
       refused_stays = λ longer s only x y kx ky r a. tag_stays longer s only x y r a;
-      lack_alike = λ x y k kx ky r a. (subst (λ bs. length bs < count) r.elements_are a.0, a.1);
+      lack_consistent = λ x y k kx ky r a. (subst (λ bs. length bs < count) r.elements_are a.0, a.1);
       accepted_settles = λ i n v h a. a;
       refused_settles = λ i h a. tag_settles i a;
     }

@@ -17,43 +17,32 @@ no_branch_laws w = record {
   refused_lacks = λ i k h a b. b;
   accepted_stays = λ longer s only x y n v kx ky r a. a;
   refused_stays = λ longer s only x y kx ky r a. a;
-  lack_alike = λ x y k kx ky r a. a;
+  lack_consistent = λ x y k kx ky r a. a;
   accepted_settles = λ i n v h a. a;
   refused_settles = λ i h a. a;
 }
 
-module _ {S I A V E : Type 0} (w : Model I A) (e : Errors I E) (part : S → Meaning I V E) where
-  others_lawful : ((s : S) → (part s).IsSound → IsLawful w (part s)) → (m : Meaning I (ℕ × V) E) (k : ℕ) (ss : List S) →
-      (others_meaning e part m k ss).IsSound → IsLawful w m → IsLawful w (others_meaning e part m k ss)
-  others_lawful p m k [] h l = l
-  others_lawful p m k (s ∷ ss) h l =
-      let b = branch_meaning k (part s) in
-      let n = or_meaning e.joined e.grows m b in
-      let sound = (sound_before e part n (k + 1) ss h).1 in
-      others_lawful p n (k + 1) ss h (or_lawful l (labelled_lawful (p s sound)))
+-- a fact of each branch that a choice of two keeps, of all after the first
+module _ {S I V E : Type 0} (e : Errors I E) (part : S → Meaning I V E) (Law : Meaning I (ℕ × V) E → Type 0)
+    (or : (m n : Meaning I (ℕ × V) E) → Law m → Law n → Law (or_meaning e.joined e.grows m n))
+    (branch : (k : ℕ) (s : S) → (part s).IsSound → Law (branch_meaning k (part s))) where
+  others_law : (m : Meaning I (ℕ × V) E) (k : ℕ) (ss : List S) → (others_meaning e part m k ss).IsSound → Law m → Law (others_meaning e part m k ss)
+  others_law m k [] h l = l
+  others_law m k (s ∷ ss) h l =
+      let n = or_meaning e.joined e.grows m (branch_meaning k (part s)) in
+      others_law n (k + 1) ss h (or m (branch_meaning k (part s)) l (branch k s (sound_before e part n (k + 1) ss h).1))
 
+  list_law : (s : S) (ss : List S) → (list_meaning e part (s ∷ ss)).IsSound → Law (others_meaning e part (branch_meaning 0 (part s)) 1 ss)
+  list_law s ss h = others_law (branch_meaning 0 (part s)) 1 ss h (branch 0 s (sound_before e part (branch_meaning 0 (part s)) 1 ss h))
+
+module _ {S I A V E : Type 0} (w : Model I A) (e : Errors I E) (part : S → Meaning I V E) where
   pub list_lawful : ((s : S) → (part s).IsSound → IsLawful w (part s)) → (ss : List S) → (list_meaning e part ss).IsSound → IsLawful w (list_meaning e part ss)
   list_lawful p [] h = leaf_lawful (no_branch_laws w)
-  list_lawful p (s ∷ ss) h =
-      let a = branch_meaning 0 (part s) in
-      let sound = sound_before e part a 1 ss h in
-      closed_lawful (others_lawful p a 1 ss h (labelled_lawful (p s sound)))
-
-  others_steady : ((s : S) → (part s).IsSound → IsSteady w (part s)) → (m : Meaning I (ℕ × V) E) (k : ℕ) (ss : List S) →
-      (others_meaning e part m k ss).IsSound → IsSteady w m → IsSteady w (others_meaning e part m k ss)
-  others_steady p m k [] h l = l
-  others_steady p m k (s ∷ ss) h l =
-      let b = branch_meaning k (part s) in
-      let n = or_meaning e.joined e.grows m b in
-      let sound = (sound_before e part n (k + 1) ss h).1 in
-      others_steady p n (k + 1) ss h (or_steady l (labelled_steady (p s sound)))
+  list_lawful p (s ∷ ss) h = closed_lawful (list_law e part (IsLawful w) (λ m n a b. or_lawful a b) (λ k s h. labelled_lawful (p s h)) s ss h)
 
   pub list_steady : ((s : S) → (part s).IsSound → IsSteady w (part s)) → (ss : List S) → (list_meaning e part ss).IsSound → IsSteady w (list_meaning e part ss)
   list_steady p [] h = leaf_steady (no_branch_laws w)
-  list_steady p (s ∷ ss) h =
-      let a = branch_meaning 0 (part s) in
-      let sound = sound_before e part a 1 ss h in
-      closed_steady (others_steady p a 1 ss h (labelled_steady (p s sound)))
+  list_steady p (s ∷ ss) h = closed_steady (list_law e part (IsSteady w) (λ m n a b. or_steady a b) (λ k s h. labelled_steady (p s h)) s ss h)
 
 -- one element stands at a place, and the fact of each is its own
 stands_once : {S : Type 0} (ss : List S) (k : ℕ) (x y : S) → IsElementAt ss k x → IsElementAt ss k y → x ≡ y

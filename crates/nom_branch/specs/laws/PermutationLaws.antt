@@ -37,7 +37,7 @@ module _ {I A T W E : Type 0} (w : Model I A) (Grows : Type 0) (all : List (Memb
     consistent = h.lawful.consistent;
     frugal = λ mode i k f. h.lawful.frugal mode i k (h.promises.frugal mode f);
     settles = λ t. h.lawful.settles (h.promises.settles t);
-    blames_alike = λ t. h.lawful.blames_alike (h.promises.settles t);
+    blames_consistent = λ t. h.lawful.blames_consistent (h.promises.settles t);
     never_fails = λ cause f. h.lawful.never_fails cause (h.promises.never_fails cause f);
   }
 
@@ -52,7 +52,7 @@ module _ {I A V : Type 0} (w : Model I A) (t : V) where
     consistent = λ s x y o kx ky r a k. a;
     frugal = λ mode i h f r. r;
     settles = λ k x y o kx ky r a d. a;
-    blames_alike = λ k s i o e h a b d r. r;
+    blames_consistent = λ k s i o e h a b d r. r;
     never_fails = never;
   }
     where

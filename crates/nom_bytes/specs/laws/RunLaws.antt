@@ -6,9 +6,9 @@ use Rattle.std.proofs.lemmas.List.Elements.{All-head, All-tail}
 use Rattle.nom_internal.specs.Prelude.{Model, Related, AreValues, items_len, Stops, Slice, first_place, same_count, IsLawful, IsSteady, LeafLaws, leaf_meaning}
 use Rattle.nom_internal.specs.Prelude.{leaf_lawful, leaf_steady}
 use Rattle.nom_bytes.specs.Predicates.{IsFixed}
-use Rattle.nom_bytes.specs.ParsedRuns.{IsWithin, IsAtBound, IsEnough, IsRunSlice, runs}
+use Rattle.nom_bytes.specs.ParsedRuns.{IsWithinBound, IsAtBound, IsEnough, IsRunSlice, runs}
 
-full_most : (bound : Option ℕ) (a b : ℕ) → IsAtBound bound a → IsWithin bound b → b ≤ a
+full_most : (bound : Option ℕ) (a b : ℕ) → IsAtBound bound a → IsWithinBound bound b → b ≤ a
 full_most (Some most) a b f h = omega (arith, f, h)
 full_most None a b f h = absurd f
 
@@ -41,7 +41,7 @@ module _ {A : Type 0} (IsValue : A → Type 0) (Test : A → Bool → Type 0) (f
   module _ (bound : Option ℕ) where
     -- no front within the bound whose items all meet the test is longer than the run
     no_longer : (xs front others run rest : List A) → AreValues IsValue xs → xs ≡ front ++ others → All (λ x. Test x true) front →
-        IsWithin bound (length front) → xs ≡ run ++ rest → Stops (λ x. IsAtBound bound (length run) ⊎ Test x false) rest → length front ≤ length run
+        IsWithinBound bound (length front) → xs ≡ run ++ rest → Stops (λ x. IsAtBound bound (length run) ⊎ Test x false) rest → length front ≤ length run
     no_longer xs front others run [] a e h b f s = omega (arith, ap length e, ap length f, length-append front others, length-append run [])
     no_longer xs front others run (x ∷ rest) a e h b f (inl s) = full_most bound (length run) (length front) s b
     no_longer xs front others run (x ∷ rest) a e h b f (inr s) =
@@ -108,7 +108,7 @@ module _ {I A : Type 0} (w : Model I A) (IsValue : A → Type 0) (values : (i : 
 
   -- no item follows the run where all items are the run
   none_follows : (i : I) (n : ℕ) (t : Slice w) → w.IsKnown i → IsRunSlice w Test bound true i n t → All (λ x. Test x true) (w.elements i) →
-      IsWithin bound (length (w.elements i)) → ⊥
+      IsWithinBound bound (length (w.elements i)) → ⊥
   none_follows i n t h r all b =
       let up = no_longer IsValue Test fixed bound (w.elements i) (w.elements i) [] t.items r.first.rest (values i h)
       (sym (append-nil (w.elements i))) all b r.first.whole r.stops in
@@ -152,7 +152,7 @@ module _ {I A : Type 0} (w : Model I A) (IsValue : A → Type 0) (values : (i : 
       refused_lacks = λ i k h a b. none_follows i a.0 a.1 h a.2 b.0 b.1;
       accepted_stays = λ longer s only x y n t kx ky e a. accepted_stays longer s only x y n t e a;
       refused_stays = λ longer s only x y kx ky e a. refused_stays longer s only x y e a;
-      lack_alike = λ x y k kx ky e a. subst (λ xs. All (λ z. Test z true) xs × IsWithin bound (length xs) ×
+      lack_consistent = λ x y k kx ky e a. subst (λ xs. All (λ z. Test z true) xs × IsWithinBound bound (length xs) ×
           (k ≡ Some (max 1 (least - items_len w.item_len xs)))) e.elements_are a;
       accepted_settles = λ i n t h a. (run_closed w Test bound false i n t a.0, a.1);
       refused_settles = λ i h a. (a.0, a.1, run_closed w Test bound false i a.0 a.1 a.2, a.3);

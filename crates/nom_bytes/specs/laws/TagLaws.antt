@@ -53,7 +53,7 @@ module _ {I A T : Type 0} (w : Model I A) (size : T → ℕ) (Compares : T → L
       open_stays w (λ xs. Compares tag xs Compared.Ok) (c.ok_stays tag) longer x y kx ky r a.2,
     );
     refused_stays = refused_stays;
-    lack_alike = λ x y k kx ky r a. subst (λ xs. Compares tag xs Compared.Incomplete × (k ≡ Some (size tag - items_len w.item_len xs))) r.elements_are a;
+    lack_consistent = λ x y k kx ky r a. subst (λ xs. Compares tag xs Compared.Incomplete × (k ≡ Some (size tag - items_len w.item_len xs))) r.elements_are a;
     accepted_settles = λ i n t h a. a;
     refused_settles = λ i h a. refused_settles i a;
   }

@@ -17,7 +17,7 @@ module _ {I A : Type 0} (w : Model I A) (lack : ℕ → List A → Option ℕ) (
     refused_lacks = λ i k h a b. absurd (cc (a.0));
     accepted_stays = λ longer s only x y n t kx ky r a. (first_related w longer x y n t r a.0, a.1);
     refused_stays = λ longer s only x y kx ky r a. (a.0, closed_stays w (λ xs. length xs < count) longer s only x y r a.0 a.1);
-    lack_alike = λ x y k kx ky r a. subst (λ xs. (length xs < count) × (k ≡ lack count xs)) r.elements_are a;
+    lack_consistent = λ x y k kx ky r a. subst (λ xs. (length xs < count) × (k ≡ lack count xs)) r.elements_are a;
     accepted_settles = λ i n t h a. a;
     refused_settles = λ i h a. absurd (cc (a.0));
   }

@@ -57,7 +57,7 @@ module _ {I A T : Type 0} (w : Model I A) (Finds : T → List A → Option ℕ �
       refused_lacks = λ i k h a b. refused_lacks i h a b.0;
       accepted_stays = λ longer s only x y n t kx ky r a. (first_related w longer x y n t r a.0, found_stays longer x y n kx ky r a.1, a.2);
       refused_stays = refused_stays;
-      lack_alike = λ x y k kx ky r a. (subst (λ xs. Finds needle xs None) r.elements_are a.0, a.1);
+      lack_consistent = λ x y k kx ky r a. (subst (λ xs. Finds needle xs None) r.elements_are a.0, a.1);
       accepted_settles = λ i n t h a. a;
       refused_settles = λ i h a. refused_settles i a;
     }

@@ -53,7 +53,7 @@ module _ {I A : Type 0} (w : Model I A) where
     refused_lacks = λ i k h a b. a;
     accepted_stays = λ longer s only x y n v kx ky r a. (a.0, left_stays longer s only x y v r a.1);
     refused_stays = λ longer s only x y kx ky r a. a;
-    lack_alike = λ x y k kx ky r a. (ap length (sym r.elements_are) ∙ a.0, a.1);
+    lack_consistent = λ x y k kx ky r a. (ap length (sym r.elements_are) ∙ a.0, a.1);
     accepted_settles = λ i n v h a. (a.0, left_settles (w.elements i) v a.1);
     refused_settles = λ i h a. a;
   }
@@ -130,7 +130,10 @@ module _ {I A : Type 0} (w : Model I A) (IsControl : A → Type 0) (lack : Optio
     refused_lacks = λ i k h a b. a;
     accepted_stays = λ longer s only x y n v kx ky r a. told_stays longer s only x y n v r a;
     refused_stays = λ longer s only x y kx ky r a. a;
-    lack_alike = λ x y k kx ky r a. (record { item = (a.0).item; elements_are = sym r.elements_are ∙ (a.0).elements_are; is_control = (a.0).is_control }, a.1);
+    lack_consistent = λ x y k kx ky r a. (
+      record { item = (a.0).item; elements_are = sym r.elements_are ∙ (a.0).elements_are; is_control = (a.0).is_control },
+      a.1,
+    );
     accepted_settles = λ i n v h a. told_settles i n v a;
     refused_settles = λ i h a. a;
   }

@@ -8,17 +8,17 @@ use Rattle.nom_calls.specs.Func.{TakesAll, func_meaning}
 
 module _ {I A : Type 0} (w : Model I A) where
   -- inputs whose models are those of related ones are related alike
-  related_alike : (longer : Bool) (x y u v : I) → IsSame w u x → IsSame w v y → Related w longer x y → Related w longer u v
-  related_alike true x y u v p q r = record {
+  related_consistent : (longer : Bool) (x y u v : I) → IsSame w u x → IsSame w v y → Related w longer x y → Related w longer u v
+  related_consistent true x y u v p q r = record {
     more = r.more;
     added = r.added;
     whole = q.elements_are ∙ (r.whole ∙ ap (λ xs. xs ++ r.more) (sym p.elements_are));
     mark_is = q.mark_is ∙ (r.mark_is ∙ sym p.mark_is);
   }
-  related_alike false x y u v p q r = same_then w u x v p (same_then w x y v r (same_sym w v y q))
+  related_consistent false x y u v p q r = same_then w u x v p (same_then w x y v r (same_sym w v y q))
 
-  place_alike : (x y : I) (n : ℕ) → IsSame w x y → IsBoundary w x n → IsBoundary w y n
-  place_alike x y n r p = record { front = p.front; rest = p.rest; whole = sym r.elements_are ∙ p.whole; length_is = p.length_is }
+  place_consistent : (x y : I) (n : ℕ) → IsSame w x y → IsBoundary w x n → IsBoundary w y n
+  place_consistent x y n r p = record { front = p.front; rest = p.rest; whole = sym r.elements_are ∙ p.whole; length_is = p.length_is }
 
   module _ {O E : Type 0} (view : View O) where
     accepts_within : (i : I) (r : IResult I O E) (n : ℕ) (t : view.Value) → TakenAs w view i r (Accept n t) → IsBoundary w i n
@@ -58,9 +58,9 @@ module _ {I A : Type 0} (w : Model I A) where
       never_fails Outright h i a = fails_by_answer a.at a.outcome.answer a.known h a.outcome.given a.outcome.told
 
       -- what the function's outcomes at an input keep, those at inputs of its model keep
-      agrees_alike : (longer : Bool) → Agree w longer (FuncOutcome w view Gives) (FuncOutcome w view Gives) →
+      agrees_consistent : (longer : Bool) → Agree w longer (FuncOutcome w view Gives) (FuncOutcome w view Gives) →
           Agree w longer (FuncAnswers w view Gives) (FuncAnswers w view Gives)
-      agrees_alike longer f x y o p kx ky r a k b = f a.at b.at o p a.known b.known (related_alike longer x y a.at b.at a.consistent b.consistent r)
+      agrees_consistent longer f x y o p kx ky r a k b = f a.at b.at o p a.known b.known (related_consistent longer x y a.at b.at a.consistent b.consistent r)
           a.outcome k b.outcome
 
       consistent : (x y : I) (o : Outcome view.Value) → IsSame w x y → FuncAnswers w view Gives x o → FuncAnswers w view Gives y o
@@ -69,12 +69,12 @@ module _ {I A : Type 0} (w : Model I A) where
       lawful_under : (errs : Errors I E) (Runs IsSound : Type 0) → Agree w false (FuncOutcome w view Gives) (FuncOutcome w view Gives) →
           IsLawful w (func_meaning w view Gives errs Runs IsSound)
       lawful_under errs Runs IsSound one = record {
-        within = λ s i n t h a. place_alike a.at i n a.consistent (accepts_within a.at a.outcome.answer n t a.outcome.told);
-        one_outcome = λ s. agrees_alike false one;
+        within = λ s i n t h a. place_consistent a.at i n a.consistent (accepts_within a.at a.outcome.answer n t a.outcome.told);
+        one_outcome = λ s. agrees_consistent false one;
         consistent = λ s x y o kx ky r a k. consistent x y o r a;
         frugal = λ mode i h f g. f i h g;
         settles = λ t x y o kx ky r a k. consistent x y o r a;
-        blames_alike = λ t s i o e h a b d z. z;
+        blames_consistent = λ t s i o e h a b d z. z;
         never_fails = λ cause h s i k a. never_fails cause h i a;
       }
 
@@ -96,4 +96,4 @@ module _ {I A : Type 0} (w : Model I A) where
 
         pub stream_func_steady : (let IsSound : Type 0 = IsStreamParser w view Gives in IsSound →
             IsSteady w (func_meaning w view Gives errs (TakesAll w Takes) IsSound))
-        stream_func_steady p = record { stays = agrees_alike true (agrees true p.stays) }
+        stream_func_steady p = record { stays = agrees_consistent true (agrees true p.stays) }

@@ -3,7 +3,7 @@ use Rattle.std.specs.Prelude.{◌≡◌, ℕ, ◌==◌, Bool, true, false, cond,
 use Rattle.std.proofs.Common.{sym, ◌∙◌, ap, subst, append-nil}
 use Rattle.nom_internal.specs.Prelude.{ErrorKind, Errors, Model, Related, first_place, first_related, same_count, IsLawful, IsSteady, LeafLaws, leaf_lawful}
 use Rattle.nom_internal.specs.Prelude.{leaf_steady}
-use Rattle.nom_character.specs.LineMatches.{Match, one_more, after_return, crlf_in, line_ending_in, line_in, match_leaf, match_meaning}
+use Rattle.nom_character.specs.LineMatches.{Match, one_item_more, after_return, crlf_in, line_ending_in, line_in, match_leaf, match_meaning}
 use Rattle.nom_character.specs.LineMatches.Match.{Full, Absent, Partial}
 
 -- nothing is open
@@ -44,7 +44,7 @@ module _ {I A : Type 0} (w : Model I A) (pattern : Bool → List A → Match) (l
       answer_stays longer s only x y (Full (length t.items)) tt r a.1,
     );
     refused_stays = λ longer s only x y kx ky r a. answer_stays longer s only x y Absent tt r a;
-    lack_alike = λ x y k kx ky r a. ap (pattern true) (sym r.elements_are) ∙ a;
+    lack_consistent = λ x y k kx ky r a. ap (pattern true) (sym r.elements_are) ∙ a;
     accepted_settles = λ i n t h a. (a.0, settles i (Full (length t.items)) tt a.1);
     refused_settles = λ i h a. settles i Absent tt a;
   }
@@ -82,7 +82,7 @@ module _ {A : Type 0} (code : A → ℕ) where
       stays s (x ∷ xs) more h = by_test (code x == 10) _ _ _ _ (λ k. refl)
           (by_test (code x == 13) _ _ _ _ (return_stays s (Full 2) (Some 2) xs more) (λ k. refl)) h
 
-  settled_less : (a : Match) → IsSettled (one_more a) → IsSettled a
+  settled_less : (a : Match) → IsSettled (one_item_more a) → IsSettled a
   settled_less (Full n) h = tt
   settled_less Absent h = tt
   settled_less (Partial lack) h = h
@@ -92,7 +92,7 @@ module _ {A : Type 0} (code : A → ℕ) where
   line_stays s (x ∷ xs) more h =
       by_test (code x == 10) _ _ _ _ (λ k. refl)
       (by_test (code x == 13) _ _ _ _ (return_stays s (Full 0) None xs more)
-      (λ k. ap one_more (line_stays s xs more (settled_less (line_in code true xs) k)))) h
+      (λ k. ap one_item_more (line_stays s xs more (settled_less (line_in code true xs) k)))) h
 
   pub line_laws : LineMatchLaws (line_in code)
   line_laws = record { stays = line_stays }

@@ -62,7 +62,7 @@ module _ {I A : Type 0} (w : Model I A) (IsValue : A → Type 0) (values : (i : 
     refused_lacks = λ i k h a b. refused_lacks i a b.0;
     accepted_stays = λ longer s only x y n c kx ky r a. (a.0, head_related w longer x y a.0 r a.1, a.2, a.3, a.4);
     refused_stays = λ longer s only x y kx ky r a. refused_stays longer s only x y r a;
-    lack_alike = λ x y k kx ky r a. (sym r.elements_are ∙ a.0, a.1);
+    lack_consistent = λ x y k kx ky r a. (sym r.elements_are ∙ a.0, a.1);
     accepted_settles = λ i n c h a. a;
     refused_settles = λ i h a. refused_settles i a;
   }

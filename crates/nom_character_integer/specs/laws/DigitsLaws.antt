@@ -153,7 +153,7 @@ module _ {I A : Type 0} (w : Model I A) (code : A → ℕ) (base m n greatest : 
     refused_lacks = λ i k h a b. never_open (w.elements i) k b a;
     accepted_stays = λ longer s only x y k v kx ky r a. accepted_stays longer s only x y k v r a;
     refused_stays = λ longer s only x y kx ky r a. refused_stays longer s only x y r a;
-    lack_alike = λ x y k kx ky r a. subst (λ xs. Lacking xs k) r.elements_are a;
+    lack_consistent = λ x y k kx ky r a. subst (λ xs. Lacking xs k) r.elements_are a;
     accepted_settles = λ i k v h a. (a.0, λ e. absurd (cc (e)), a.2, a.3, a.4);
     refused_settles = λ i h a. settled (w.elements i) a;
   }

@@ -214,7 +214,7 @@ module _ {I A : Type 0} (w : Model I A) (code : A → ℕ) (signed : Bool) (fits
     refused_lacks = λ i k h a b. never_open (w.elements i) b.0 b.1 a;
     accepted_stays = λ longer s only x y n z kx ky r a. accepted_stays longer s only x y n z r a;
     refused_stays = λ longer s only x y kx ky r a. refused_stays longer s only x y r a;
-    lack_alike = λ x y k kx ky r a. subst (λ xs. fits (integer_of code signed xs) × (length (after_integer code signed xs) ≡ 0) × (k ≡ Some 1))
+    lack_consistent = λ x y k kx ky r a. subst (λ xs. fits (integer_of code signed xs) × (length (after_integer code signed xs) ≡ 0) × (k ≡ Some 1))
         r.elements_are a;
     accepted_settles = λ i n z h a. (a.0, a.1, a.2, a.3, λ e. absurd (cc (e)));
     refused_settles = λ i h a. settled (w.elements i) a;

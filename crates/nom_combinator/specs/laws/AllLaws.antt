@@ -11,17 +11,17 @@ pub record PlainLaws {I A V : Type 0} (w : Model I A) (Accepts : I → ℕ → V
   pub place : (i : I) (n : ℕ) (v : V) → Accepts i n v → IsBoundary w i n
   pub one_accepted : (i : I) (n m : ℕ) (u v : V) → Accepts i n u → Accepts i m v → (n ≡ m) × (u ≡ v)
   pub never_both : (i : I) (n : ℕ) (v : V) → Accepts i n v → Refuses i → ⊥
-  pub accepted_alike : (x y : I) (n : ℕ) (v : V) → IsSame w x y → Accepts x n v → Accepts y n v
-  pub refused_alike : (x y : I) → IsSame w x y → Refuses x → Refuses y
+  pub accepted_consistent : (x y : I) (n : ℕ) (v : V) → IsSame w x y → Accepts x n v → Accepts y n v
+  pub refused_consistent : (x y : I) → IsSame w x y → Refuses x → Refuses y
 
 module _ {I A V : Type 0} (w : Model I A) (Accepts : I → ℕ → V → Type 0) (Refuses : I → Type 0) (l : PlainLaws w Accepts Refuses) where
   -- in either mode, at inputs that are equal as models
-  answers_alike : (s t : Bool) (x y : I) (o : Outcome V) → IsSame w x y → LeafAnswers (plain_leaf Accepts Refuses) s x o →
+  answers_consistent : (s t : Bool) (x y : I) (o : Outcome V) → IsSame w x y → LeafAnswers (plain_leaf Accepts Refuses) s x o →
       LeafAnswers (plain_leaf Accepts Refuses) t y o
-  answers_alike s t x y (Accept n v) r a = l.accepted_alike x y n v r a
-  answers_alike s t x y Refuse r a = l.refused_alike x y r a
-  answers_alike s t x y (Stop (Fails cause)) r a = a
-  answers_alike s t x y (Stop (Needs k)) r a = absurd a.1
+  answers_consistent s t x y (Accept n v) r a = l.accepted_consistent x y n v r a
+  answers_consistent s t x y Refuse r a = l.refused_consistent x y r a
+  answers_consistent s t x y (Stop (Fails cause)) r a = a
+  answers_consistent s t x y (Stop (Needs k)) r a = absurd a.1
 
   one_answer : (s : Bool) (i : I) (o p : Outcome V) → LeafAnswers (plain_leaf Accepts Refuses) s i o → LeafAnswers (plain_leaf Accepts Refuses) s i p → o ≡ p
   one_answer s i (Accept n u) (Accept m v) a b = let e = l.one_accepted i n m u v a b in cc (e.0, e.1)
@@ -39,22 +39,22 @@ module _ {I A V : Type 0} (w : Model I A) (Accepts : I → ℕ → V → Type 0)
     pub plain_lawful : IsLawful w (leaf_meaning Blames Grows (plain_leaf Accepts Refuses))
     plain_lawful = record {
       within = λ s i n v h a. l.place i n v a;
-      one_outcome = λ s x y o p kx ky r a d b. one_answer s y o p (answers_alike s s x y o r a) b;
-      consistent = λ s x y o kx ky r a d. answers_alike s s x y o r a;
+      one_outcome = λ s x y o p kx ky r a d b. one_answer s y o p (answers_consistent s s x y o r a) b;
+      consistent = λ s x y o kx ky r a d. answers_consistent s s x y o r a;
       frugal = λ mode i h f r. f r.1 r.2;
-      settles = λ t x y o kx ky r a d. answers_alike true false x y o r a;
-      blames_alike = λ t s i o e h a b d z. z;
+      settles = λ t x y o kx ky r a d. answers_consistent true false x y o r a;
+      blames_consistent = λ t s i o e h a b d z. z;
       never_fails = λ cause g s i h a. a;
     }
 
 module _ {I A : Type 0} (w : Model I A) where
-  all_alike : (x y : I) → IsSame w x y → all_of w x ≡ all_of w y
-  all_alike x y r =
+  all_consistent : (x y : I) → IsSame w x y → all_of w x ≡ all_of w y
+  all_consistent x y r =
       let slice : List A → w.Mark → Slice w = λ xs m. record { items = xs; mark = m } in
       ap (λ xs. slice xs (w.mark x)) r.elements_are ∙ ap (λ m. slice (w.elements y) m) r.mark_is
 
-  len_alike : (x y : I) → IsSame w x y → input_len w x ≡ input_len w y
-  len_alike x y r = cc (r.elements_are)
+  len_consistent : (x y : I) → IsSame w x y → input_len w x ≡ input_len w y
+  len_consistent x y r = cc (r.elements_are)
 
   place_none : (i : I) (n : ℕ) → n ≡ 0 → IsBoundary w i n
   place_none i n e = record { front = []; rest = w.elements i; whole = refl; length_is = sym e }
@@ -68,8 +68,8 @@ module _ {I A : Type 0} (w : Model I A) where
     place = λ i n v a. place_none i n a.1;
     one_accepted = λ i n m u v a b. (a.1 ∙ sym b.1, a.2 ∙ sym b.2);
     never_both = λ i n v a b. b a.0;
-    accepted_alike = λ x y n v r a. (sym r.elements_are ∙ a.0, a.1, a.2 ∙ all_alike x y r);
-    refused_alike = λ x y r a e. a (r.elements_are ∙ e);
+    accepted_consistent = λ x y n v r a. (sym r.elements_are ∙ a.0, a.1, a.2 ∙ all_consistent x y r);
+    refused_consistent = λ x y r a e. a (r.elements_are ∙ e);
   }
 
   all_laws : PlainLaws w (IsAll w) (λ i. ⊥)
@@ -77,8 +77,8 @@ module _ {I A : Type 0} (w : Model I A) where
     place = λ i n v a. place_all i n a.0;
     one_accepted = λ i n m u v a b. (a.0 ∙ sym b.0, a.1 ∙ sym b.1);
     never_both = λ i n v a b. b;
-    accepted_alike = λ x y n v r a. (a.0 ∙ len_alike x y r, a.1 ∙ all_alike x y r);
-    refused_alike = λ x y r a. a;
+    accepted_consistent = λ x y n v r a. (a.0 ∙ len_consistent x y r, a.1 ∙ all_consistent x y r);
+    refused_consistent = λ x y r a. a;
   }
 
   length_laws : PlainLaws w (IsLength w) (λ i. ⊥)
@@ -86,8 +86,8 @@ module _ {I A : Type 0} (w : Model I A) where
     place = λ i n v a. place_none i n a.0;
     one_accepted = λ i n m u v a b. (a.0 ∙ sym b.0, a.1 ∙ sym b.1);
     never_both = λ i n v a b. b;
-    accepted_alike = λ x y n v r a. (a.0, a.1 ∙ len_alike x y r);
-    refused_alike = λ x y r a. a;
+    accepted_consistent = λ x y n v r a. (a.0, a.1 ∙ len_consistent x y r);
+    refused_consistent = λ x y r a. a;
   }
 
   pub eof_lawful : {E : Type 0} (errs : Errors I E) → IsLawful w (eof_meaning w errs)

@@ -12,7 +12,7 @@ clone_lawful E w v IsSure =
       consistent = l.consistent;
       frugal = λ mode i h g r. r.1 (g r.0);
       settles = l.settles;
-      blames_alike = l.blames_alike;
+      blames_consistent = l.blames_consistent;
       never_fails = l.never_fails;
     }
 
@@ -31,7 +31,7 @@ fail_laws w = record {
   refused_lacks = λ i k h a b. b;
   accepted_stays = λ longer s only x y n u kx ky r a. a;
   refused_stays = λ longer s only x y kx ky r a. a;
-  lack_alike = λ x y k kx ky r a. a;
+  lack_consistent = λ x y k kx ky r a. a;
   accepted_settles = λ i n u h a. a;
   refused_settles = λ i h a. a;
 }

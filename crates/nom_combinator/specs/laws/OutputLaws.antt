@@ -29,7 +29,7 @@ module _ {I A P T E : Type 0} {w : Model I A} {v : T} {IsSure : Type 0} where
       record {
         at_known = l.at_known;
         at_related = l.at_related;
-        at_alike = l.at_alike;
+        at_consistent = l.at_consistent;
         keeps = l.keeps;
         same = l.same;
         consistent = l.consistent;

@@ -4,24 +4,24 @@ use Rattle.std.proofs.Common.{sym, ◌∙◌, ap, subst, inl, inr}
 use Rattle.nom_internal.specs.Prelude.{Slice, first_place, first_related, same_length, InputLaws, Related, Model, IsBoundary, View, option_view, view_some}
 use Rattle.nom_internal.specs.Prelude.{Outcome, Cause, Accept, Refuse, Stop, Fails, Outright, TooLarge, IsDecided, IsFault, IsFailure, Meaning, IsLawful}
 use Rattle.nom_internal.specs.Prelude.{IsSteady, IsPinned, Needs}
-use Rattle.nom_internal.specs.laws.CaseLaws.{CaseLaws, here_known, here_related, here_alike, here_place, no_place, case_lawful, case_steady}
+use Rattle.nom_internal.specs.laws.CaseLaws.{CaseLaws, here_known, here_related, here_consistent, here_place, no_place, case_lawful, case_steady}
 use Rattle.nom_internal.specs.laws.RecognizedLaws.{AcceptLaws, plain_laws}
 use Rattle.nom_combinator.specs.Verdicts.{complete_outcome, IsWant, complete_case, complete_meaning, WithSlice, consumed_meaning, verdict_case}
 use Rattle.nom_combinator.specs.Verdicts.{cut_outcome, NeverCut, cut_meaning, opt_outcome, opt_meaning, OptOutput, Looks, peek_meaning, not_outcome}
 use Rattle.nom_combinator.specs.Verdicts.{IsAcceptance, EitherBlames, not_case, not_meaning}
 
 -- an acceptance of nothing, or of what the part accepts
-abbrev IsAccepted : {P : Type 0} → ℕ → Outcome P → Type 0
-IsAccepted {P} n a = (n ≡ 0) ⊎ ((u : P) × (a ≡ Accept n u))
+abbrev AcceptsOrNone : {P : Type 0} → ℕ → Outcome P → Type 0
+AcceptsOrNone {P} n a = (n ≡ 0) ⊎ ((u : P) × (a ≡ Accept n u))
 
 -- what becomes of an outcome: it is decided as the part is, accepts no more, and fails as the part fails, where that is said
 record IsVerdict {P T : Type 0} (becomes : Outcome P → Outcome T) (Never : (Cause → Type 0) → Cause → Type 0) : Type 1 where
   keeps : (a : Outcome P) → IsDecided (becomes a) → IsDecided a
-  accepts : (a : Outcome P) (n : ℕ) (t : T) → Accept n t ≡ becomes a → IsAccepted n a
+  accepts : (a : Outcome P) (n : ℕ) (t : T) → Accept n t ≡ becomes a → AcceptsOrNone n a
   never : (Part : Cause → Type 0) (cause : Cause) (a : Outcome P) → Never Part cause → Stop (Fails cause) ≡ becomes a → Part cause × (a ≡ Stop (Fails cause))
 
 module _ {I A P : Type 0} (w : Model I A) where
-  accepted_place : (i j : I) (a : Outcome P) (n : ℕ) → i ≡ j → ((m : ℕ) (u : P) → a ≡ Accept m u → IsBoundary w j m) → IsAccepted n a → IsBoundary w i n
+  accepted_place : (i j : I) (a : Outcome P) (n : ℕ) → i ≡ j → ((m : ℕ) (u : P) → a ≡ Accept m u → IsBoundary w j m) → AcceptsOrNone n a → IsBoundary w i n
   accepted_place i j a n e place (inl z) = subst (λ k. IsBoundary w i k) (sym z) (no_place w i)
   accepted_place i j a n e place (inr k) = here_place w i j n e (place n k.0 k.1)
 
@@ -33,7 +33,7 @@ module _ {I A P T : Type 0} (w : Model I A) (becomes : Outcome P → Outcome T) 
   verdict_laws errors = record {
     at_known = here_known w;
     at_related = λ longer stays. here_related w longer;
-    at_alike = here_alike w;
+    at_consistent = here_consistent w;
     keeps = λ only i a o. verdict_keeps a o;
     same = λ longer stays x y a o p kx ky r s k t. s ∙ sym t;
     consistent = λ x y a o kx ky r b. b;
@@ -53,7 +53,7 @@ module _ {P : Type 0} where
       keeps Refuse d = tt
       keeps (Stop why) d = d
 
-      accepts : (a : Outcome P) (n : ℕ) (t : P) → Accept n t ≡ cut_outcome a → IsAccepted n a
+      accepts : (a : Outcome P) (n : ℕ) (t : P) → Accept n t ≡ cut_outcome a → AcceptsOrNone n a
       accepts (Accept m u) n t e = inr (t, sym e)
       accepts Refuse n t e = cc
       accepts (Stop why) n t e = cc
@@ -77,7 +77,7 @@ module _ {P : Type 0} where
       keeps Refuse d = tt
       keeps (Stop why) d = d
 
-      accepts : (a : Outcome P) (n : ℕ) (t : Option P) → Accept n t ≡ opt_outcome a → IsAccepted n a
+      accepts : (a : Outcome P) (n : ℕ) (t : Option P) → Accept n t ≡ opt_outcome a → AcceptsOrNone n a
       accepts (Accept m u) n t e = let same : n ≡ m = cc in inr (u, ap (λ z. Accept z u) (sym same))
       accepts Refuse n t e = inl (cc)
       accepts (Stop why) n t e = cc
@@ -95,7 +95,7 @@ module _ {P : Type 0} where
       keeps Refuse d = tt
       keeps (Stop why) d = d
 
-      accepts : (a : Outcome P) (n : ℕ) (t : Unit {0}) → Accept n t ≡ not_outcome a → IsAccepted n a
+      accepts : (a : Outcome P) (n : ℕ) (t : Unit {0}) → Accept n t ≡ not_outcome a → AcceptsOrNone n a
       accepts (Accept m u) n t e = cc
       accepts Refuse n t e = inl (cc)
       accepts (Stop why) n t e = cc
@@ -128,7 +128,7 @@ module _ {I A P : Type 0} (w : Model I A) where
     not_laws Own Grows = record {
       at_known = here_known w;
       at_related = λ longer stays. here_related w longer;
-      at_alike = here_alike w;
+      at_consistent = here_consistent w;
       keeps = λ only i a o. verdict_keeps w not_outcome (λ Part. Part) not_is a o;
       same = λ longer stays x y a o p kx ky r s k t. s ∙ sym t;
       consistent = λ x y a o kx ky r b. b;
@@ -140,7 +140,7 @@ module _ {I A P : Type 0} (w : Model I A) where
     }
 
 module _ {I A P : Type 0} (w : Model I A) where
-  complete_accepts : (a : Outcome P) (n : ℕ) (t : P) → Accept n t ≡ complete_outcome a → IsAccepted n a
+  complete_accepts : (a : Outcome P) (n : ℕ) (t : P) → Accept n t ≡ complete_outcome a → AcceptsOrNone n a
   complete_accepts (Accept m u) n t e = inr (t, sym e)
   complete_accepts Refuse n t e = cc
   complete_accepts (Stop (Fails cause)) n t e = cc
@@ -157,7 +157,7 @@ module _ {I A P : Type 0} (w : Model I A) where
     complete_laws Own Grows = record {
       at_known = here_known w;
       at_related = λ longer stays. here_related w longer;
-      at_alike = here_alike w;
+      at_consistent = here_consistent w;
       keeps = λ only i a o b d. absurd (cc (only));
       same = λ longer stays x y a o p kx ky r s k t. s ∙ sym t;
       consistent = λ x y a o kx ky r b. b;

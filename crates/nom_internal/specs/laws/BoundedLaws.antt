@@ -6,25 +6,25 @@ use Rattle.nom_internal.specs.Prelude.{IsLawfulFamily, AnyKey}
 use Rattle.nom_internal.specs.laws.PartLaws.{keeps_mapped, failure_mapped}
 use Rattle.nom_internal.specs.laws.SequenceLaws.{then_lawful, then_steady}
 use Rattle.nom_internal.specs.laws.CaseLaws.{CaseLaws, no_place, case_lawful}
-use Rattle.nom_internal.specs.Bounded.{IsBound, AreAlike, held, bounded_case, bounded_family, and_then_meaning}
+use Rattle.nom_internal.specs.Bounded.{IsBound, AreConsistent, held, bounded_case, bounded_family, and_then_meaning}
 
 -- inputs that are equal as models are related, where no longer ones are asked for
-alike_related : {J B : Type 0} (v : Model J B) (longer : Bool) → (longer ≡ true → false ≡ true) → (j k : J) → IsSame v j k → Related v longer j k
-alike_related v true stays j k r = absurd (cc (stays refl))
-alike_related v false stays j k r = r
+consistent_related : {J B : Type 0} (v : Model J B) (longer : Bool) → (longer ≡ true → false ≡ true) → (j k : J) → IsSame v j k → Related v longer j k
+consistent_related v true stays j k r = absurd (cc (stays refl))
+consistent_related v false stays j k r = r
 
 held_place : {I A V : Type 0} (w : Model I A) (i : I) (a : Outcome V) (n : ℕ) (t : V) → Accept n t ≡ held a → IsBoundary w i n
 held_place w i (Accept m u) n t e = let none : n ≡ 0 = cc in subst (λ k. IsBoundary w i k) (sym none) (no_place w i)
 held_place w i Refuse n t e = cc
 held_place w i (Stop why) n t e = cc
 
-module _ {I A J B P Q E : Type 0} (w : Model I A) (v : Model J B) (IsOutput : P → J → Type 0) (same : AreAlike v IsOutput) (m : Meaning J Q E)
+module _ {I A J B P Q E : Type 0} (w : Model I A) (v : Model J B) (IsOutput : P → J → Type 0) (same : AreConsistent v IsOutput) (m : Meaning J Q E)
     (l : IsLawful v m) where
   bounded_laws : (u : P) → CaseLaws {I = I} {P = Q} {E = E} false w v (bounded_case (IsBound v IsOutput u))
   bounded_laws u = record {
     at_known = λ i j h b. b.known;
-    at_related = λ longer stays x y j k r b c. alike_related v longer stays j k (same u j k b.is_output c.is_output);
-    at_alike = λ x y j r b. (j, b);
+    at_related = λ longer stays x y j k r b c. consistent_related v longer stays j k (same u j k b.is_output c.is_output);
+    at_consistent = λ x y j r b. (j, b);
     keeps = λ only i a o b d. keeps_mapped true (λ _. 0) (λ t. t) a (subst (λ z. IsDecided z) b d);
     same = λ longer stays x y a o p kx ky r s k t. s ∙ sym t;
     consistent = λ x y a o kx ky r b. b;
@@ -52,7 +52,7 @@ module _ {I A J B P Q E : Type 0} (w : Model I A) (v : Model J B) (IsOutput : P 
         a.fact ∙ (ap (λ z. held z) e ∙ sym b.fact);
   }
 
-module _ {I A J B P Q E : Type 0} {w : Model I A} {v : Model J B} {IsOutput : P → J → Type 0} (same : AreAlike v IsOutput) {m : Meaning J Q E}
+module _ {I A J B P Q E : Type 0} {w : Model I A} {v : Model J B} {IsOutput : P → J → Type 0} (same : AreConsistent v IsOutput) {m : Meaning J Q E}
     (l : IsLawful v m) (i : InputLaws w) {a : Meaning I P E} where
   pub and_then_lawful : IsLawful w a → IsLawful w (and_then_meaning w v IsOutput a m)
   and_then_lawful k = then_lawful i (bounded_family v IsOutput m) k (family_lawful w v IsOutput same m l)

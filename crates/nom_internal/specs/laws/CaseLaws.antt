@@ -17,7 +17,7 @@ pub record CaseLaws {I A J B P T E F : Type 0} (stays : Bool) (w : Model I A) (v
   -- related inputs have related inputs of the part
   pub at_known : (i : I) (j : J) → w.IsKnown i → c.At i j → v.IsKnown j
   pub at_related : (longer : Bool) → (longer ≡ true → stays ≡ true) → (x y : I) (j k : J) → Related w longer x y → c.At x j → c.At y k → Related v longer j k
-  pub at_alike : (x y : I) (j : J) → IsSame w x y → c.At x j → (k : J) × c.At y k
+  pub at_consistent : (x y : I) (j : J) → IsSame w x y → c.At x j → (k : J) × c.At y k
   -- where the whole is decided, so is a part that streams as the whole does
   pub keeps : Streams c.mode → (i : I) (a : Outcome P) (o : Outcome T) → c.Becomes i a o → IsDecided o → IsDecided a
   -- an outcome of the part becomes one outcome, on related inputs too
@@ -49,7 +49,7 @@ module _ {I A J B P T E F : Type 0} {stays : Bool} (w : Model I A) (v : Model J 
   pub case_carries : (decided : Bool) → (decided ≡ true → Streams c.mode) → (R S : J → Outcome P → Type 0) → Carries v decided R S →
       Carries w decided (λ i o. OnPart c.At R (λ _ a. c.Becomes i a o) i) (λ i o. OnPart c.At S (λ _ a. c.Becomes i a o) i)
   case_carries decided only R S f x y o kx ky r s k =
-      let there = l.at_alike x y s.at r s.at_is in
+      let there = l.at_consistent x y s.at r s.at_is in
       record {
         at = there.0;
         at_is = there.1;
@@ -101,18 +101,18 @@ module _ {I A J B P T E F : Type 0} {stays : Bool} {w : Model I A} {v : Model J 
   abbrev Errors : Bool → I → F → Type 0
   Errors s i e = OnPart c.At (m.answers s) (λ j a. c.Blames i a (m.blames s j) e) i
 
-  decided_alike : (s : Bool) → Carries w true (Answers s) (Answers s)
-  decided_alike s x y o kx ky r a d = case_carries w v c l false (λ e. cc) (m.answers s) (m.answers s) (p.consistent s) x y o kx ky r a tt
+  decided_consistent : (s : Bool) → Carries w true (Answers s) (Answers s)
+  decided_consistent s x y o kx ky r a d = case_carries w v c l false (λ e. cc) (m.answers s) (m.answers s) (p.consistent s) x y o kx ky r a tt
 
   case_settles : (mode : PartMode) → c.mode ≡ mode → SettlesIn mode m.Settles → Carries w true (Answers (mode_of mode true)) (Answers (mode_of mode false))
   case_settles AsAsked e t = case_carries w v c l true (λ _. ap (λ z. mode_of z true) e) (m.answers true) (m.answers false) (p.settles t)
-  case_settles (Always b) e t = decided_alike b
+  case_settles (Always b) e t = decided_consistent b
 
-  case_blames_alike : (mode : PartMode) → c.mode ≡ mode → SettlesIn mode m.Settles → (s : Bool) →
+  case_blames_consistent : (mode : PartMode) → c.mode ≡ mode → SettlesIn mode m.Settles → (s : Bool) →
       SameBlame w (Answers (mode_of mode s)) (Answers (mode_of mode (not s))) (Errors (mode_of mode s)) (Errors (mode_of mode (not s)))
-  case_blames_alike AsAsked e t s =
+  case_blames_consistent AsAsked e t s =
       case_blames w v c l (ap (λ z. mode_of z true) e) (m.answers s) (m.answers (not s)) (m.blames s) (m.blames (not s)) (transfers v m p t s)
-  case_blames_alike (Always b) e t s = λ i o f h a z d x. x
+  case_blames_consistent (Always b) e t s = λ i o f h a z d x. x
 
   pub case_lawful : IsLawful w (case_meaning c m)
   case_lawful = record {
@@ -122,7 +122,7 @@ module _ {I A J B P T E F : Type 0} {stays : Bool} {w : Model I A} {v : Model J 
     consistent = λ s. case_carries w v c l false (λ e. cc) (m.answers (mode_of c.mode s)) (m.answers (mode_of c.mode s)) (p.consistent (mode_of c.mode s));
     frugal = case_frugal w v c l m p;
     settles = case_settles c.mode refl;
-    blames_alike = case_blames_alike c.mode refl;
+    blames_consistent = case_blames_consistent c.mode refl;
     never_fails = case_never w v c l m p;
   }
 
@@ -145,8 +145,8 @@ module _ {I A : Type 0} (w : Model I A) where
   pub here_related : (longer : Bool) (x y j k : I) → Related w longer x y → x ≡ j → y ≡ k → Related w longer j k
   here_related longer x y j k r e f = subst (λ z. Related w longer j z) f (subst (λ z. Related w longer z y) e r)
 
-  pub here_alike : (x y j : I) → IsSame w x y → x ≡ j → (k : I) × (y ≡ k)
-  here_alike x y j r e = (y, refl)
+  pub here_consistent : (x y j : I) → IsSame w x y → x ≡ j → (k : I) × (y ≡ k)
+  here_consistent x y j r e = (y, refl)
 
   pub here_place : (i j : I) (n : ℕ) → i ≡ j → IsBoundary w j n → IsBoundary w i n
   here_place i j n e = subst (λ z. IsBoundary w z n) (sym e)
@@ -185,7 +185,7 @@ module _ {I A P : Type 0} (w : Model I A) where
   labelled_laws label = record {
     at_known = here_known w;
     at_related = λ longer stays. here_related w longer;
-    at_alike = here_alike w;
+    at_consistent = here_consistent w;
     keeps = λ only i a o. map_keeps w (labelled label) (labels label) a o;
     same = λ longer stays x y a o p kx ky r s k t. s ∙ sym t;
     consistent = λ x y a o kx ky r b. b;
@@ -200,7 +200,7 @@ module _ {I A P : Type 0} (w : Model I A) where
   fixed_laws mode = record {
     at_known = here_known w;
     at_related = λ longer stays. here_related w longer;
-    at_alike = here_alike w;
+    at_consistent = here_consistent w;
     keeps = λ only i a o. map_keeps w (λ a. a) passes_all a o;
     same = λ longer stays x y a o p kx ky r s k t. s ∙ sym t;
     consistent = λ x y a o kx ky r b. b;
@@ -227,7 +227,7 @@ module _ {I A P : Type 0} (w : Model I A) where
   closed_laws Closes Grows = record {
     at_known = here_known w;
     at_related = λ longer stays. here_related w longer;
-    at_alike = here_alike w;
+    at_consistent = here_consistent w;
     keeps = λ only i a o. map_keeps w (λ a. a) passes_all a o;
     same = λ longer stays x y a o p kx ky r s k t. s ∙ sym t;
     consistent = λ x y a o kx ky r b. b;

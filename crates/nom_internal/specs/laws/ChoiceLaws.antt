@@ -97,8 +97,8 @@ module _ {I A V E : Type 0} {w : Model I A} {a b : Meaning I V E} (p : IsLawful 
     next_blames_too Joins e r (NextRefuses f j) = NextRefuses (next_refused_too r f) (record {
       first = j.first;
       second = j.second;
-      first_is = p.blames_alike t.0 s i Refuse j.first h r (refused_too r) tt j.first_is;
-      second_is = q.blames_alike t.1 s i Refuse j.second h f (next_refused_too r f) tt j.second_is;
+      first_is = p.blames_consistent t.0 s i Refuse j.first h r (refused_too r) tt j.first_is;
+      second_is = q.blames_consistent t.1 s i Refuse j.second h f (next_refused_too r f) tt j.second_is;
       joined = j.joined;
     })
 
@@ -131,7 +131,7 @@ module _ {I A V E : Type 0} {w : Model I A} {a b : Meaning I V E} (p : IsLawful 
     consistent = λ s. or_carries w (a.answers s) (a.answers s) (b.answers s) (b.answers s) false (p.consistent s) (q.consistent s);
     frugal = or_frugal Joins Grows;
     settles = λ t. or_carries w (a.answers true) (a.answers false) (b.answers true) (b.answers false) true (p.settles t.0) (q.settles t.1);
-    blames_alike = λ t s i o e h c c' d. or_blames_too t s i o h c c' d Joins e;
+    blames_consistent = λ t s i o e h c c' d. or_blames_too t s i o h c c' d Joins e;
     never_fails = λ cause g s. or_never w (a.answers s) (b.answers s) cause (p.never_fails cause g.0 s) (q.never_fails cause g.1 s);
   }
 
@@ -142,7 +142,7 @@ module _ {I A V E : Type 0} {w : Model I A} {a b : Meaning I V E} (p : IsLawful 
     consistent = λ s. or_carries w (a.answers s) (a.answers s) (b.answers s) (b.answers s) false (p.consistent s) (q.consistent s);
     frugal = otherwise_frugal;
     settles = λ t. or_carries w (a.answers true) (a.answers false) (b.answers true) (b.answers false) true (p.settles t.0) (q.settles t.1);
-    blames_alike = λ t s i o e h c c' d. otherwise_blames_too t s i o h c c' d e;
+    blames_consistent = λ t s i o e h c c' d. otherwise_blames_too t s i o h c c' d e;
     never_fails = λ cause g s. or_never w (a.answers s) (b.answers s) cause (p.never_fails cause g.0 s) (q.never_fails cause g.1 s);
   }
 

@@ -46,7 +46,7 @@ module _ {I A V P R E : Type 0} {w : Model I A} {IsOutput : V → P → Type 0} 
       record {
         at_known = l.at_known;
         at_related = l.at_related;
-        at_alike = l.at_alike;
+        at_consistent = l.at_consistent;
         keeps = l.keeps;
         same = l.same;
         consistent = l.consistent;

@@ -1,12 +1,13 @@
 -- The laws of parts whose outputs or errors become others.
 use Rattle.std.specs.Prelude.{true, refl}
-use Rattle.nom_internal.specs.Prelude.{Model, View, Meaning, IsLawful, IsSteady, GivesFor, SeesAlike, map_case, map_meaning, renamed_case, renamed_meaning}
+use Rattle.nom_internal.specs.Prelude.{Model, View, Meaning, IsLawful, IsSteady, GivesFor}
+use Rattle.nom_internal.specs.Prelude.{SeesConsistently, map_case, map_meaning, renamed_case, renamed_meaning}
 use Rattle.nom_internal.specs.Prelude.{IsPinned}
 use Rattle.nom_internal.specs.laws.CaseLaws.{CaseLaws, fixed_laws, case_lawful, case_steady}
 
 -- what a closure gives for the outputs of one tree is equal as viewed, where they are
 pub given_pinned : {V P R : Type 0} {argument : View P} {result : View R} {IsOutput : V → P → Type 0} {Gives : P → R → Type 0} →
-    IsPinned argument IsOutput → SeesAlike argument result Gives → IsPinned result (GivesFor IsOutput Gives)
+    IsPinned argument IsOutput → SeesConsistently argument result Gives → IsPinned result (GivesFor IsOutput Gives)
 given_pinned f s = record {
   one_view = λ t a b g h. s.consistent g.output h.output a b (f.one_view t g.output h.output g.is_output h.is_output) g.given h.given;
 }
@@ -18,7 +19,7 @@ module _ {I A V P : Type 0} {w : Model I A} {IsOutput : V → P → Type 0} {Tak
       record {
         at_known = l.at_known;
         at_related = l.at_related;
-        at_alike = l.at_alike;
+        at_consistent = l.at_consistent;
         keeps = l.keeps;
         same = l.same;
         consistent = l.consistent;
@@ -43,7 +44,7 @@ module _ {I A V E F : Type 0} {w : Model I A} {Makes : I → E → F → Type 0}
       record {
         at_known = l.at_known;
         at_related = l.at_related;
-        at_alike = l.at_alike;
+        at_consistent = l.at_consistent;
         keeps = l.keeps;
         same = l.same;
         consistent = l.consistent;

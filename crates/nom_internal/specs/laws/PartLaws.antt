@@ -39,7 +39,7 @@ module _ {I A V E : Type 0} (w : Model I A) (m : Meaning I V E) (l : IsLawful w 
     one = l.one_outcome s;
     consistent = l.consistent (not s);
     meets = modes_meet t s;
-    blames = l.blames_alike t s;
+    blames = l.blames_consistent t s;
   }
 
 module _ {I A V E : Type 0} (w : Model I A) (P Q : I → Outcome V → Type 0) (B C : I → E → Type 0) (t : Transfers w P Q B C) where

@@ -4,7 +4,7 @@ use Rattle.std.proofs.Common.{sym, ◌∙◌, ap, subst}
 use Rattle.nom_internal.specs.Prelude.{Model, InputLaws, IsBoundary, IsSame, Related, Slice, IsFirst, first_place, first_related, same_length, Outcome, Cause}
 use Rattle.nom_internal.specs.Prelude.{Accept, Refuse, Stop, Fails, IsDecided, Meaning, IsLawful, IsSteady, Keeps, Passes}
 use Rattle.nom_internal.specs.Prelude.{plain_case, IsSliced, recognized_meaning}
-use Rattle.nom_internal.specs.laws.CaseLaws.{CaseLaws, here_known, here_related, here_alike, here_place, case_lawful, case_steady}
+use Rattle.nom_internal.specs.laws.CaseLaws.{CaseLaws, here_known, here_related, here_consistent, here_place, case_lawful, case_steady}
 
 -- what cases on an acceptance alone must keep
 pub record AcceptLaws {I A P T : Type 0} (w : Model I A) (OnAccept : I → ℕ → P → Outcome T → Type 0) : Type 0 where
@@ -26,10 +26,10 @@ module _ {I A P T : Type 0} (w : Model I A) (OnAccept : I → ℕ → P → Outc
   passes_same longer x y Refuse o p kx ky r s k t = s ∙ sym t
   passes_same longer x y (Stop why) o p kx ky r s k t = s ∙ sym t
 
-  passes_alike : (x y : I) (a : Outcome P) (o : Outcome T) → w.IsKnown x → w.IsKnown y → IsSame w x y → Passes (OnAccept x) a o → Passes (OnAccept y) a o
-  passes_alike x y (Accept n u) o kx ky r s = l.consistent x y n u o kx ky r s
-  passes_alike x y Refuse o kx ky r s = s
-  passes_alike x y (Stop why) o kx ky r s = s
+  passes_consistent : (x y : I) (a : Outcome P) (o : Outcome T) → w.IsKnown x → w.IsKnown y → IsSame w x y → Passes (OnAccept x) a o → Passes (OnAccept y) a o
+  passes_consistent x y (Accept n u) o kx ky r s = l.consistent x y n u o kx ky r s
+  passes_consistent x y Refuse o kx ky r s = s
+  passes_consistent x y (Stop why) o kx ky r s = s
 
   passes_place : (i j : I) (a : Outcome P) (n : ℕ) (t : T) → w.IsKnown i → i ≡ j → ((m : ℕ) (u : P) → a ≡ Accept m u → IsBoundary w j m) →
       Passes (OnAccept i) a (Accept n t) → IsBoundary w i n
@@ -46,10 +46,10 @@ module _ {I A P T : Type 0} (w : Model I A) (OnAccept : I → ℕ → P → Outc
   plain_laws outputs = record {
     at_known = here_known w;
     at_related = λ longer stays. here_related w longer;
-    at_alike = here_alike w;
+    at_consistent = here_consistent w;
     keeps = λ only. passes_keeps;
     same = λ longer stays. passes_same longer;
-    consistent = passes_alike;
+    consistent = passes_consistent;
     place = passes_place;
     never_fails = λ Part cause i a g e. (g, passes_fails cause i a e);
     blames = λ i a X Y e f. f e;

@@ -1,7 +1,7 @@
 -- The laws of a part that is followed by another.
 use Rattle.std.specs.Prelude.{◌≡◌, ℕ, ◌+◌, Bool, true, false, not}
 use Rattle.std.proofs.Common.{sym, ◌∙◌, ap, subst}
-use Rattle.nom_internal.specs.Prelude.{Modes, Model, InputLaws, IsSuffixOf, IsBoundary, IsSame, Related, same_self, rest_related, rest_alike, place_more}
+use Rattle.nom_internal.specs.Prelude.{Modes, Model, InputLaws, IsSuffixOf, IsBoundary, IsSame, Related, same_self, rest_related, rest_consistent, place_more}
 use Rattle.nom_internal.specs.Prelude.{Outcome, Cause, Accept, Refuse, Stop, Fails, IsDecided, IsFault, OnOutcome, Meaning, IsLawful}
 use Rattle.nom_internal.specs.Prelude.{IsSteady, Keeps, Agree, Carries, Within, SameBlame, Family, IsLawfulFamily, AnyKey, always, always_lawful, after, GoesOn}
 use Rattle.nom_internal.specs.Prelude.{Then, ThenBlames, then_meaning, sequence_meaning, RunsOutFirst, RunsOutNext}
@@ -39,7 +39,7 @@ module _ {I A P Q T : Type 0} (w : Model I A) (tree : P → Q → T) (decided : 
   goes_carries g x y (Accept n u) o r k t = (
     t.0,
     t.1,
-    rest_alike w x y n t.0 r t.2,
+    rest_consistent w x y n t.0 r t.2,
     g u t.0 t.0 t.1 t.2.known t.2.known (same_self w t.0) t.3 (keeps_mapped decided (λ m. n + m) (tree u) t.1 (subst (λ z. Keeps decided z) t.4 k)),
     t.4,
   )
@@ -124,7 +124,7 @@ module _ {I A P Q T E : Type 0} {w : Model I A} (l : InputLaws w) {tree : P → 
     frugal = then_frugal w tree first_mode next_mode a f p q;
     settles = λ t. then_carries w tree true (a.answers true) (a.answers false) (λ u. (f.at u).answers true) (λ u. (f.at u).answers false)
         (p.settles t.0) (λ u. (q.lawful u tt).settles (q.settles t.1 u tt));
-    blames_alike = λ t s. then_blames w l tree (a.answers s) (a.answers (not s)) (a.blames s) (a.blames (not s)) (λ u. (f.at u).answers s)
+    blames_consistent = λ t s. then_blames w l tree (a.answers s) (a.answers (not s)) (a.blames s) (a.blames (not s)) (λ u. (f.at u).answers s)
         (λ u. (f.at u).answers (not s)) (λ u. (f.at u).blames s) (λ u. (f.at u).blames (not s)) (transfers w a p t.0 s)
         (λ u. transfers w (f.at u) (q.lawful u tt) (q.settles t.1 u tt) s);
     never_fails = λ cause g s i h t. never_goes w tree (a.answers s) (λ u. (f.at u).answers s) cause (p.never_fails cause g.0 s)

@@ -14,7 +14,7 @@ module _ {I A V E : Type 0} {w : Model I A} {m : Meaning I V E} where
     consistent = l.consistent;
     frugal = λ mode. l.frugal (with_outputs true mode);
     settles = l.settles;
-    blames_alike = l.blames_alike;
+    blames_consistent = l.blames_consistent;
     never_fails = l.never_fails;
   }
 

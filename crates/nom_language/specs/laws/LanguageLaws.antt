@@ -29,7 +29,7 @@ module _ {I A V W E : Type 0} {w : Model I A} {Lacks : V → Type 0} {part : Mea
     consistent = l.consistent;
     frugal = lacking_frugal l;
     settles = l.settles;
-    blames_alike = l.blames_alike;
+    blames_consistent = l.blames_consistent;
     never_fails = l.never_fails;
   }
 
@@ -54,15 +54,15 @@ module _ {I A V O Y E : Type 0} {w : Model I A} (Evaluates : V → Result O Y �
   lacking_if_steady (Some e) l = lacking_steady l
 
 module _ {I A T C O Y X E : Type 0} {w : Model I A} (l : InputLaws w) (errs : Errors I E) (externals : Externals I X E) {CanFold : Type 0}
-    {Tells : Result O Y → Result O X → Type 0} (no_memory : Option Y) (Waits : T → Type 0) {Evaluates : T × List (C × T) → Result O Y → Type 0}
-    {term : Meaning I T E} {binary : Meaning I C E} (j : IsJudge Evaluates Tells is_ok) where
+    {Returns : Result O Y → Result O X → Type 0} (no_memory : Option Y) (Waits : T → Type 0) {Evaluates : T × List (C × T) → Result O Y → Type 0}
+    {term : Meaning I T E} {binary : Meaning I C E} (j : IsJudge Evaluates Returns is_ok) where
   pub evaluated_lawful : IsLawful w term → IsLawful w binary →
-      IsLawful w (evaluated_meaning w errs externals CanFold Tells no_memory Waits Evaluates term binary)
+      IsLawful w (evaluated_meaning w errs externals CanFold Returns no_memory Waits Evaluates term binary)
   evaluated_lawful p q = premised_lawful (lacking_if_lawful Evaluates (terms_meaning w errs Waits term binary) no_memory
       (judged_lawful {Takes = λ _. Unit {0}} j (terms_lawful l errs p q)))
 
   pub evaluated_steady : IsSteady w term → IsSteady w binary →
-      IsSteady w (evaluated_meaning w errs externals CanFold Tells no_memory Waits Evaluates term binary)
+      IsSteady w (evaluated_meaning w errs externals CanFold Returns no_memory Waits Evaluates term binary)
   evaluated_steady p q = premised_steady (lacking_if_steady Evaluates (terms_meaning w errs Waits term binary) no_memory
       (judged_steady {Takes = λ _. Unit {0}} j (terms_steady l errs p q)))
 

@@ -14,7 +14,7 @@ use Rattle.nom_operators.specs.declared.operation.Operation.{Operation}
 use Rattle.nom_operators.specs.declared.precedences.Unary.{Unary}
 use Rattle.nom_operators.specs.declared.precedences.Binary.{Binary}
 use Rattle.nom_operators.specs.declared.prefixes.Prefixes.{Prefixes}
-use Rattle.nom_operators.specs.laws.ViewLaws.{OperatesAlike, viewed_symbol, values_alike, terms_alike, binaries_alike}
+use Rattle.nom_operators.specs.laws.ViewLaws.{OperatesConsistently, viewed_symbol, values_consistent, terms_consistent, binaries_consistent}
 use Rattle.nom_language.specs.Evaluated.{TermOutput, symbols_of_term, symbols_of_pairs, IsEvaluated}
 use Rattle.nom_language.specs.LeftFolds.{IsFolded}
 
@@ -43,11 +43,11 @@ prefixes_pinned pinned = record { one_view = λ vs a b p q. zip_pinned pinned vs
 
 module _ {P Q B O : Type 0} (prefix : View P) (postfix : View Q) (binary : View B) (value : View O) where
   -- what stands in a term that is viewed alike
-  term_alike : {M : Type 0} (a b : TermOutput P O Q M) →
+  term_consistent : {M : Type 0} (a b : TermOutput P O Q M) →
       map (unary_view prefix).value (prefixes_in a.0) ≡ map (unary_view prefix).value (prefixes_in b.0) →
       value.value a.1 ≡ value.value b.1 → map (unary_view postfix).value a.2.items ≡ map (unary_view postfix).value b.2.items →
       map (viewed_symbol prefix postfix binary value) (symbols_of_term a) ≡ map (viewed_symbol prefix postfix binary value) (symbols_of_term b)
-  term_alike a b e f g = terms_alike prefix postfix binary value (prefixes_in a.0) (prefixes_in b.0) a.1 b.1 a.2.items b.2.items e f g
+  term_consistent a b e f g = terms_consistent prefix postfix binary value (prefixes_in a.0) (prefixes_in b.0) a.1 b.1 a.2.items b.2.items e f g
 
   module _ {T C M : Type 0} {IsTerm : T → TermOutput P O Q M → Type 0} {IsBinary : C → Binary B → Type 0}
       (terms : IsPinned (view_3 (prefixes_view {A = M} (unary_view prefix)) value (vec_view {A = M} (unary_view postfix))) IsTerm)
@@ -56,21 +56,21 @@ module _ {P Q B O : Type 0} (prefix : View P) (postfix : View Q) (binary : View 
         map (viewed_symbol prefix postfix binary value) (symbols_of_term a) ≡ map (viewed_symbol prefix postfix binary value) (symbols_of_term b)
     one_term t a b h k =
         let e = terms.one_view t a b h k in
-        term_alike a b (ap (λ z. z.0) e) (ap (λ z. z.1) e) (ap (λ z. z.2) e)
+        term_consistent a b (ap (λ z. z.0) e) (ap (λ z. z.1) e) (ap (λ z. z.2) e)
 
-    pairs_alike : (us : List (C × T)) (xs ys : List (Binary B × TermOutput P O Q M)) → AllZip (λ t o. IsBinary t.0 o.0 × IsTerm t.1 o.1) us xs →
+    pairs_consistent : (us : List (C × T)) (xs ys : List (Binary B × TermOutput P O Q M)) → AllZip (λ t o. IsBinary t.0 o.0 × IsTerm t.1 o.1) us xs →
         AllZip (λ t o. IsBinary t.0 o.0 × IsTerm t.1 o.1) us ys →
         map (viewed_symbol prefix postfix binary value) (symbols_of_pairs xs) ≡ map (viewed_symbol prefix postfix binary value) (symbols_of_pairs ys)
-    pairs_alike [] [] [] h k = refl
-    pairs_alike [] [] (y ∷ ys) h k = absurd k
-    pairs_alike [] (x ∷ xs) ys h k = absurd h
-    pairs_alike (u ∷ us) [] ys h k = absurd h
-    pairs_alike (u ∷ us) (x ∷ xs) [] h k = absurd k
-    pairs_alike (u ∷ us) (x ∷ xs) (y ∷ ys) h k =
+    pairs_consistent [] [] [] h k = refl
+    pairs_consistent [] [] (y ∷ ys) h k = absurd k
+    pairs_consistent [] (x ∷ xs) ys h k = absurd h
+    pairs_consistent (u ∷ us) [] ys h k = absurd h
+    pairs_consistent (u ∷ us) (x ∷ xs) [] h k = absurd k
+    pairs_consistent (u ∷ us) (x ∷ xs) (y ∷ ys) h k =
         let see = viewed_symbol prefix postfix binary value in
-        let heads = binaries_alike prefix postfix binary value x.0 y.0 (binaries.one_view u.0 x.0 y.0 h.0.0 k.0.0) in
+        let heads = binaries_consistent prefix postfix binary value x.0 y.0 (binaries.one_view u.0 x.0 y.0 h.0.0 k.0.0) in
         let terms = one_term u.1 x.1 y.1 h.0.1 k.0.1 in
-        let rest = pairs_alike us xs ys h.1 k.1 in
+        let rest = pairs_consistent us xs ys h.1 k.1 in
         map-append see (OfBinary x.0 ∷ symbols_of_term x.1) (symbols_of_pairs xs)
         ∙ (ap (λ z. (z ∷ map see (symbols_of_term x.1)) ++ map see (symbols_of_pairs xs)) heads
         ∙ (ap (λ z. (see (OfBinary y.0) ∷ z) ++ map see (symbols_of_pairs xs)) terms
@@ -78,40 +78,40 @@ module _ {P Q B O : Type 0} (prefix : View P) (postfix : View Q) (binary : View 
         ∙ sym (map-append see (OfBinary y.0 ∷ symbols_of_term y.1) (symbols_of_pairs ys)))))
 
     -- the values of one tree
-    pub expression_pinned : {X : Type 0} {Gives : Operation P Q B O → Result O X → Type 0} → OperatesAlike Gives prefix postfix binary value →
+    pub expression_pinned : {X : Type 0} {Gives : Operation P Q B O → Result O X → Type 0} → OperatesConsistently Gives prefix postfix binary value →
         IsPinned value (λ e y. IsEvaluated IsTerm IsBinary Gives e (Ok y))
     expression_pinned consistent = record {
       one_view = λ e a b g h.
           let see = viewed_symbol prefix postfix binary value in
-          values_alike prefix postfix binary value _ consistent _ _ a b
+          values_consistent prefix postfix binary value _ consistent _ _ a b
           (map-append see (symbols_of_term g.first) (symbols_of_pairs g.pairs)
           ∙ (ap (λ z. z ++ map see (symbols_of_pairs g.pairs)) (one_term e.0 g.first h.first g.is_first h.is_first)
-          ∙ (ap (λ z. map see (symbols_of_term h.first) ++ z) (pairs_alike e.1 g.pairs h.pairs g.are_pairs h.are_pairs)
+          ∙ (ap (λ z. map see (symbols_of_term h.first) ++ z) (pairs_consistent e.1 g.pairs h.pairs g.are_pairs h.are_pairs)
           ∙ sym (map-append see (symbols_of_term h.first) (symbols_of_pairs h.pairs))))) g.is_value h.is_value;
     }
 
 -- The builder gives values that are equal as viewed for operators and values that are. No verdict rests on it: it is asked only where
 -- outputs are compared.
-pub record BuildsAlike {H O : Type 0} (Gives : O → H → O → O → Type 0) (operator : View H) (value : View O) : Type 0 where
+pub record BuildsConsistently {H O : Type 0} (Gives : O → H → O → O → Type 0) (operator : View H) (value : View O) : Type 0 where
   pub on_pair : (a b : H) (x y z w u v : O) → operator.value a ≡ operator.value b → value.value x ≡ value.value y → value.value z ≡ value.value w →
       Gives x a z u → Gives y b w v → value.value u ≡ value.value v
 
 module _ {T C H O : Type 0} {IsItem : T → O → Type 0} {IsOperator : C → H → Type 0} {Gives : O → H → O → O → Type 0} {operator : View H} {value : View O}
-    (items : IsPinned value IsItem) (operators : IsPinned operator IsOperator) (consistent : BuildsAlike Gives operator value) where
-  folds_alike : (us : List (C × T)) (xs ys : List (H × O)) (a b u v : O) → value.value a ≡ value.value b →
+    (items : IsPinned value IsItem) (operators : IsPinned operator IsOperator) (consistent : BuildsConsistently Gives operator value) where
+  folds_consistent : (us : List (C × T)) (xs ys : List (H × O)) (a b u v : O) → value.value a ≡ value.value b →
       AllZip (λ t o. IsOperator t.0 o.0 × IsItem t.1 o.1) us xs → AllZip (λ t o. IsOperator t.0 o.0 × IsItem t.1 o.1) us ys →
       FoldsTo (λ x p z. Gives x p.0 p.1 z) a xs u → FoldsTo (λ x p z. Gives x p.0 p.1 z) b ys v → value.value u ≡ value.value v
-  folds_alike [] [] [] a b u v e h k f g = sym (ap value.value f) ∙ (e ∙ ap value.value g)
-  folds_alike [] [] (y ∷ ys) a b u v e h k f g = absurd k
-  folds_alike [] (x ∷ xs) ys a b u v e h k f g = absurd h
-  folds_alike (t ∷ us) [] ys a b u v e h k f g = absurd h
-  folds_alike (t ∷ us) (x ∷ xs) [] a b u v e h k f g = absurd k
-  folds_alike (t ∷ us) (x ∷ xs) (y ∷ ys) a b u v e h k f g = folds_alike us xs ys f.0 g.0 u v
+  folds_consistent [] [] [] a b u v e h k f g = sym (ap value.value f) ∙ (e ∙ ap value.value g)
+  folds_consistent [] [] (y ∷ ys) a b u v e h k f g = absurd k
+  folds_consistent [] (x ∷ xs) ys a b u v e h k f g = absurd h
+  folds_consistent (t ∷ us) [] ys a b u v e h k f g = absurd h
+  folds_consistent (t ∷ us) (x ∷ xs) [] a b u v e h k f g = absurd k
+  folds_consistent (t ∷ us) (x ∷ xs) (y ∷ ys) a b u v e h k f g = folds_consistent us xs ys f.0 g.0 u v
       (consistent.on_pair x.0 y.0 a b x.1 y.1 f.0 g.0 (operators.one_view t.0 x.0 y.0 h.0.0 k.0.0) e (items.one_view t.1 x.1 y.1 h.0.1 k.0.1) f.1 g.1)
       h.1 k.1 f.2 g.2
 
   pub left_assoc_pinned : IsPinned value (IsFolded IsItem IsOperator Gives)
   left_assoc_pinned = record {
-    one_view = λ e a b g h. folds_alike e.1 g.pairs h.pairs g.first h.first a b (items.one_view e.0 g.first h.first g.is_first h.is_first)
+    one_view = λ e a b g h. folds_consistent e.1 g.pairs h.pairs g.first h.first a b (items.one_view e.0 g.first h.first g.is_first h.is_first)
         g.are_pairs h.are_pairs g.folded h.folded;
   }

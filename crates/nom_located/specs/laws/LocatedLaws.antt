@@ -5,7 +5,7 @@ use Rattle.nom_traits.specs.Input.{Model, InputLaws, items_len, IsPrefixOf, IsSu
 use Rattle.nom_traits.specs.Rests.{same_cut}
 use Rattle.nom_search.specs.Reads.{read_all, ReadsBytes}
 use Rattle.nom_located.specs.Moving.{Fitting, moved}
-use Rattle.nom_located.specs.Located.{Place, place, step, past_bytes, Fits, located, located_model}
+use Rattle.nom_located.specs.Located.{Place, place, step, past_bytes, FitsPlace, located, located_model}
 
 pub past_append : (p : Place) (xs ys : List ℕ) → past_bytes p (xs ++ ys) ≡ past_bytes (past_bytes p xs) ys
 past_append p [] ys = refl
@@ -31,7 +31,7 @@ pub past_offset : (p : Place) (bs : List ℕ) → (past_bytes p bs).offset ≡ p
 past_offset p [] = omega arith
 past_offset p (b ∷ bs) = omega (arith, past_offset (step p (nat_eq b 10)) bs, step_offset p (nat_eq b 10))
 
-pub step_fits : (p : Place) (b : Bool) (len : ℕ) → Fits p (1 + len) → Fits (step p b) len
+pub step_fits : (p : Place) (b : Bool) (len : ℕ) → FitsPlace p (1 + len) → FitsPlace (step p b) len
 step_fits p true len h = record {
   fits = omega (arith, h.fits);
   line_from = omega arith;
@@ -49,12 +49,12 @@ step_fits p false len h = record {
   column_to = omega (arith, h.column_to);
 }
 
-pub past_fits : (p : Place) (bs : List ℕ) (len all : ℕ) → all ≡ length bs + len → Fits p all → Fits (past_bytes p bs) len
-past_fits p [] len all e h = subst (Fits p) (omega (arith, e)) h
+pub past_fits : (p : Place) (bs : List ℕ) (len all : ℕ) → all ≡ length bs + len → FitsPlace p all → FitsPlace (past_bytes p bs) len
+past_fits p [] len all e h = subst (FitsPlace p) (omega (arith, e)) h
 past_fits p (b ∷ bs) len all e h = past_fits (step p (nat_eq b 10)) bs len (length bs + len) refl (step_fits p (nat_eq b 10) (length bs + len)
-    (subst (Fits p) (omega (arith, e)) h))
+    (subst (FitsPlace p) (omega (arith, e)) h))
 
-pub fewer_fits : (p : Place) (n k : ℕ) → k ≤ n → Fits p n → Fits p k
+pub fewer_fits : (p : Place) (n k : ℕ) → k ≤ n → FitsPlace p n → FitsPlace p k
 fewer_fits p n k le h = record {
   fits = omega (arith, h.fits, le);
   line_from = h.line_from;
@@ -64,7 +64,7 @@ fewer_fits p n k le h = record {
 }
 
 module _ {I A : Type 0} (w : Model I A) (read : A → List ℕ) {bytes : I → List ℕ} (reads : ReadsBytes w bytes read) where
-  pub located_fitting : {X : Type 0} → Fitting {M = Place × X} w.item_len (λ p a. (past_bytes p.0 (read a), p.1)) (λ p n. Fits p.0 n)
+  pub located_fitting : {X : Type 0} → Fitting {M = Place × X} w.item_len (λ p a. (past_bytes p.0 (read a), p.1)) (λ p n. FitsPlace p.0 n)
   located_fitting = record {
     after_item = λ p a n h. past_fits p.0 (read a) n (w.item_len a + n) (ap (λ k. k + n) (sym (reads.size a))) h;
     before_less = λ p n k le h. fewer_fits p.0 n k le h;

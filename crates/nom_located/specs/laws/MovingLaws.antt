@@ -11,7 +11,7 @@ use Rattle.nom_traits.specs.Compares.{CompareLaws}
 use Rattle.nom_traits.specs.declared.compare.CompareResult.{CompareResult}
 use Rattle.nom_search.specs.Reads.{ReadsBytes}
 use Rattle.nom_search.specs.Substrings.{FindLaws}
-use Rattle.nom_located.specs.Moving.{Moving, Fitting, moved, moving_model, moving_view, always}
+use Rattle.nom_located.specs.Moving.{Moving, Fitting, moved, moving_model, moving_view, at_any_place}
 
 pub moved_append : {M A : Type 0} (step : M → A → M) (m : M) (xs ys : List A) → moved step m (xs ++ ys) ≡ moved step (moved step m xs) ys
 moved_append step m [] ys = refl
@@ -22,7 +22,7 @@ both_are {M} {L} {m = m} {n = n} {k = k} {l = l} e f =
     let pair : M → L → M × L = λ x y. (x, y) in
     ap (λ x. pair x k) e ∙ ap (λ y. pair n y) f
 
-pub always_fitting : {M A : Type 0} (item_len : A → ℕ) (step : M → A → M) → Fitting item_len step always
+pub always_fitting : {M A : Type 0} (item_len : A → ℕ) (step : M → A → M) → Fitting item_len step at_any_place
 always_fitting item_len step = record { after_item = λ _ _ _ _. tt; before_less = λ _ _ _ _ _. tt }
 
 module _ {M A : Type 0} (item_len : A → ℕ) (step : M → A → M) (Fits : M → ℕ → Type 0) (f : Fitting item_len step Fits) where

@@ -5,7 +5,7 @@ use Rattle.nom_internal.specs.Prelude.{Errors, Modes, Model, InputLaws, items_le
 use Rattle.nom_internal.specs.Prelude.{first_related, same_length, Outcome, Cause, Accept, Refuse, Stop, Fails, Needs, Meaning, IsLawful, IsSteady}
 use Rattle.nom_internal.specs.Prelude.{IsLawfulFamily, IsOne, LeafLaws, leaf_lawful, leaf_steady}
 use Rattle.nom_error.specs.declared.kind.ErrorKind.TheVariants as Kind
-use Rattle.nom_internal.specs.Bounded.{AreAlike}
+use Rattle.nom_internal.specs.Bounded.{AreConsistent}
 use Rattle.nom_internal.specs.laws.BoundedLaws.{and_then_lawful, and_then_steady}
 use Rattle.nom_internal.specs.laws.CaseLaws.{fixed_lawful, fixed_steady}
 use Rattle.nom_multi.specs.laws.LengthLaws.{after_lawful, after_steady}
@@ -52,7 +52,7 @@ module _ {I A : Type 0} (w : Model I A) (l : InputLaws w) (n : ℕ) where
     refused_lacks = λ i k h a b. omega (arith, a.0, b.0);
     accepted_stays = λ longer s only x y m t kx ky r a. (first_related w longer x y m t r a.0, a.1);
     refused_stays = λ longer s only x y kx ky r a. refused_related longer x y r a;
-    lack_alike = λ x y k kx ky r a. subst (λ xs. (items_len w.item_len xs < n) × (k ≡ Some (n - items_len w.item_len xs))) r.elements_are a;
+    lack_consistent = λ x y k kx ky r a. subst (λ xs. (items_len w.item_len xs < n) × (k ≡ Some (n - items_len w.item_len xs))) r.elements_are a;
     accepted_settles = λ i m t h a. a;
     refused_settles = λ i h a. a;
   }
@@ -88,20 +88,20 @@ module _ {I A V E : Type 0} (w : Model I A) (errs : Errors I E) (m : Meaning I V
     consistent = λ s x y o kx ky r a k. (a.0, l.consistent s x y a.0 kx ky r a.1 tt, a.2);
     frugal = settled_frugal;
     settles = λ t. absurd t;
-    blames_alike = λ t. absurd t;
+    blames_consistent = λ t. absurd t;
     never_fails = λ cause g s i h a. l.never_fails cause g s i h (subst (λ z. m.answers s i z) (settled_fails cause a.0 a.2) a.1);
   }
 
 -- what is modelled by one slice is equal as models
-slices_alike : {I A : Type 0} (w : Model I A) → AreAlike w (IsModelledBy w)
-slices_alike w u j k a b = record { elements_are = a.elements_are ∙ sym b.elements_are; mark_is = a.mark_is ∙ sym b.mark_is }
+slices_consistent : {I A : Type 0} (w : Model I A) → AreConsistent w (IsModelledBy w)
+slices_consistent w u j k a b = record { elements_are = a.elements_are ∙ sym b.elements_are; mark_is = a.mark_is ∙ sym b.mark_is }
 
 module _ {I A P V E : Type 0} {w : Model I A} (i : InputLaws w) (errs : Errors I E) {IsLength : P → ℕ → Type 0} {a : Meaning I P E} {m : Meaning I V E}
     (l : IsLawful w m) (one : IsOne IsLength) where
   pub length_value_lawful : IsLawful w a → IsLawful w (length_value_meaning w errs IsLength a m)
   length_value_lawful p =
       let values : IsLawfulFamily w (λ n. (u : P) × IsLength u n) (values_by_length w errs m) = record {
-        lawful = λ n _. and_then_lawful (slices_alike w) (settled_lawful w errs m l) i (window_lawful i errs n);
+        lawful = λ n _. and_then_lawful (slices_consistent w) (settled_lawful w errs m l) i (window_lawful i errs n);
         frugal = λ mode h n _. (h.1, h);
         settles = λ h n _. absurd h;
         never_fails = λ cause h n _. (tt, h);
@@ -110,4 +110,4 @@ module _ {I A P V E : Type 0} {w : Model I A} (i : InputLaws w) (errs : Errors I
 
   pub length_value_steady : IsSteady w a → IsSteady w (length_value_meaning w errs IsLength a m)
   length_value_steady p = after_steady i one (values_by_length w errs m) p
-      (λ n. and_then_steady (slices_alike w) (settled_lawful w errs m l) i (window_steady i errs n))
+      (λ n. and_then_steady (slices_consistent w) (settled_lawful w errs m l) i (window_steady i errs n))

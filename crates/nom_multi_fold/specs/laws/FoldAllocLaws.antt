@@ -23,7 +23,7 @@ module _ {I A V E : Type 0} {w : Model I A} {Lacks : Modes → I → Type 0} {Ne
     consistent = p.consistent;
     frugal = frugal;
     settles = p.settles;
-    blames_alike = p.blames_alike;
+    blames_consistent = p.blames_consistent;
     never_fails = p.never_fails;
   }
     where

@@ -8,26 +8,26 @@ use Rattle.nom_internal.specs.laws.SequenceLaws.{sequence_lawful, sequence_stead
 use Rattle.nom_repeat.specs.laws.ItemsLaws.{items_lawful, items_steady}
 use Rattle.nom_multi_fold.specs.Under.{under_lawful, under_steady}
 use Rattle.nom_multi_fold.specs.laws.UnfitLaws.{unfit_lawful, unfit_steady}
-use Rattle.nom_multi_fold.specs.Folds.{Folds, FoldsAlike, fold_many0_meaning, fold_many1_meaning, fold_many_m_n_meaning}
+use Rattle.nom_multi_fold.specs.Folds.{Folds, FoldsConsistently, fold_many0_meaning, fold_many1_meaning, fold_many_m_n_meaning}
 use Rattle.nom_repeat.specs.Bounds.{any_limits, one_limits, bounded_limits}
 use Rattle.nom_repeat.specs.declared.items.TooFew.TheVariants.{Fresh}
 
 -- folds of the outputs of one list of trees are equal as viewed
 module _ {V T R : Type 0} {item : View T} {value : View R} {IsOutput : V → T → Type 0} {Inits : R → Type 0} {Gives : R → T → R → Type 0}
-    (pinned : IsPinned item IsOutput) (consistent : FoldsAlike item value Inits Gives) where
-  folds_alike : (vs : List V) (xs ys : List T) (a b c d : R) → value.value a ≡ value.value b → AllZip IsOutput vs xs → AllZip IsOutput vs ys →
+    (pinned : IsPinned item IsOutput) (consistent : FoldsConsistently item value Inits Gives) where
+  folds_consistent : (vs : List V) (xs ys : List T) (a b c d : R) → value.value a ≡ value.value b → AllZip IsOutput vs xs → AllZip IsOutput vs ys →
       FoldsTo Gives a xs c → FoldsTo Gives b ys d → value.value c ≡ value.value d
-  folds_alike [] [] [] a b c d e p q f g = subst (λ z. value.value z ≡ value.value d) f (subst (λ z. value.value a ≡ value.value z) g e)
-  folds_alike [] [] (y ∷ ys) a b c d e p q f g = absurd q
-  folds_alike [] (x ∷ xs) ys a b c d e p q f g = absurd p
-  folds_alike (v ∷ vs) [] ys a b c d e p q f g = absurd p
-  folds_alike (v ∷ vs) (x ∷ xs) [] a b c d e p q f g = absurd q
-  folds_alike (v ∷ vs) (x ∷ xs) (y ∷ ys) a b c d e p q f g =
-      folds_alike vs xs ys f.0 g.0 c d (consistent.next a b x y f.0 g.0 e (pinned.one_view v x y p.0 q.0) f.1 g.1) p.1 q.1 f.2 g.2
+  folds_consistent [] [] [] a b c d e p q f g = subst (λ z. value.value z ≡ value.value d) f (subst (λ z. value.value a ≡ value.value z) g e)
+  folds_consistent [] [] (y ∷ ys) a b c d e p q f g = absurd q
+  folds_consistent [] (x ∷ xs) ys a b c d e p q f g = absurd p
+  folds_consistent (v ∷ vs) [] ys a b c d e p q f g = absurd p
+  folds_consistent (v ∷ vs) (x ∷ xs) [] a b c d e p q f g = absurd q
+  folds_consistent (v ∷ vs) (x ∷ xs) (y ∷ ys) a b c d e p q f g =
+      folds_consistent vs xs ys f.0 g.0 c d (consistent.next a b x y f.0 g.0 e (pinned.one_view v x y p.0 q.0) f.1 g.1) p.1 q.1 f.2 g.2
 
   pub folds_pinned : IsPinned value (Folds IsOutput Inits Gives)
   folds_pinned = record {
-    one_view = λ vs c d p q. folds_alike vs p.outputs q.outputs p.first q.first c d (consistent.first p.first q.first p.is_first q.is_first) p.are_outputs
+    one_view = λ vs c d p q. folds_consistent vs p.outputs q.outputs p.first q.first c d (consistent.first p.first q.first p.is_first q.is_first) p.are_outputs
         q.are_outputs p.folded q.folded;
   }
 

@@ -28,7 +28,7 @@ module _ {I A V E : Type 0} {w : Model I A} (errs : Errors I E) (kind : ErrorKin
     consistent = λ s. where_carries w IsUnfit fails false (m.answers s) (m.answers s) (p.consistent s);
     frugal = frugal;
     settles = λ t. where_carries w IsUnfit fails true (m.answers true) (m.answers false) (p.settles t);
-    blames_alike = blames;
+    blames_consistent = blames;
     never_fails = never;
   }
     where
@@ -45,7 +45,7 @@ module _ {I A V E : Type 0} {w : Model I A} (errs : Errors I E) (kind : ErrorKin
       blames t s i o e h a b d (inl z) = inl z
       blames t s i o e h (inl a) b d (inr z) = absurd (z.0 a.0)
       blames t s i o e h (inr a) (inl b) d (inr z) = absurd (z.0 b.0)
-      blames t s i o e h (inr a) (inr b) d (inr z) = inr (z.0, p.blames_alike t s i o e h a.1 b.1 d z.1)
+      blames t s i o e h (inr a) (inr b) d (inr z) = inr (z.0, p.blames_consistent t s i o e h a.1 b.1 d z.1)
 
       never : (cause : Cause) → (unfit errs kind fails IsUnfit m).NeverFails cause → (s : Bool) (i : I) → w.IsKnown i →
           (unfit errs kind fails IsUnfit m).answers s i (Stop (Fails cause)) → ⊥

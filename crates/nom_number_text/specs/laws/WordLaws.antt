@@ -7,21 +7,21 @@ use Rattle.nom_internal.specs.Prelude.{Errors, Model, IsSame, IsModelledBy, View
 use Rattle.nom_internal.specs.Prelude.{IsSteady}
 use Rattle.nom_internal.specs.laws.MappedLaws.{renamed_lawful, renamed_steady}
 use Rattle.nom_branch.specs.laws.AlternativeLaws.{next_lawful, next_steady, choice_lawful, choice_steady}
-use Rattle.nom_character.specs.LineMatches.{Match, one_more}
+use Rattle.nom_character.specs.LineMatches.{Match, one_item_more}
 use Rattle.nom_character.specs.LineMatches.Match.{Full, Absent, Partial}
 use Rattle.nom_character.specs.laws.LineMatchLaws.{IsSettled, LineMatchLaws, match_lawful, match_steady}
 use Rattle.nom_number_text.specs.laws.FloatLaws.{IsStream}
 use Rattle.nom_number_text.specs.Exceptions.{word_in, word_meaning, exceptions_meaning, as_float_meaning}
 
-settled_less : (a : Match) → IsSettled (one_more a) → IsSettled a
+settled_less : (a : Match) → IsSettled (one_item_more a) → IsSettled a
 settled_less (Full n) h = tt
 settled_less Absent h = tt
 settled_less (Partial lack) h = h
 
 module _ {A : Type 0} (code : A → ℕ) where
-  by_letter : (b : Bool) (p q : Match) → (IsSettled p → q ≡ p) → IsSettled (cond b (one_more p) Absent) →
-      cond b (one_more q) Absent ≡ cond b (one_more p) Absent
-  by_letter true p q f h = ap one_more (f (settled_less p h))
+  by_letter : (b : Bool) (p q : Match) → (IsSettled p → q ≡ p) → IsSettled (cond b (one_item_more p) Absent) →
+      cond b (one_item_more q) Absent ≡ cond b (one_item_more p) Absent
+  by_letter true p q f h = ap one_item_more (f (settled_less p h))
   by_letter false p q f h = refl
 
   word_stays : (word : List ℕ) (s : Bool) (xs more : List A) → IsSettled (word_in code word true xs) →

@@ -26,8 +26,8 @@ with_prefixes [] s = s
 with_prefixes (p ∷ ps) s = with_prefixes ps (Prefix p ∷ s)
 
 -- A list has no room for that many operators that wait. The innermost isn't kept in it.
-abbrev pub LacksRoom : (capacity waits : ℕ) → Type 0
-LacksRoom capacity waits = capacity + 1 < waits
+abbrev pub StackLacksRoom : (capacity waits : ℕ) → Type 0
+StackLacksRoom capacity waits = capacity + 1 < waits
 
 module _ {P Q B O X : Type 0} (Gives : Operation P Q B O → Result O X → Type 0) where
   -- what an operator gives for the value on its right

@@ -10,10 +10,10 @@ pub data TwoPlaces {A : Type 0} (b c : List A) (x y : A) (a d : List A) : Type 0
   After : (m : List A) → c ≡ b ++ x ∷ m → a ≡ m ++ y ∷ d → TwoPlaces b c x y a d
   Before : (m : List A) → b ≡ c ++ y ∷ m → d ≡ m ++ x ∷ a → TwoPlaces b c x y a d
 
-one_more : {A : Type 0} (z z' : A) (b c : List A) (x y : A) (a d : List A) → z ≡ z' → TwoPlaces b c x y a d → TwoPlaces (z ∷ b) (z' ∷ c) x y a d
-one_more z z' b c x y a d e (Same p q r) = Same (cc (e, p)) q r
-one_more z z' b c x y a d e (After m p q) = After m (cc (e, p)) q
-one_more z z' b c x y a d e (Before m p q) = Before m (cc (e, p)) q
+one_place_more : {A : Type 0} (z z' : A) (b c : List A) (x y : A) (a d : List A) → z ≡ z' → TwoPlaces b c x y a d → TwoPlaces (z ∷ b) (z' ∷ c) x y a d
+one_place_more z z' b c x y a d e (Same p q r) = Same (cc (e, p)) q r
+one_place_more z z' b c x y a d e (After m p q) = After m (cc (e, p)) q
+one_place_more z z' b c x y a d e (Before m p q) = Before m (cc (e, p)) q
 
 pub two_places : {A : Type 0} (b c : List A) (x y : A) (a d : List A) → b ++ x ∷ a ≡ c ++ y ∷ d → TwoPlaces b c x y a d
 two_places [] [] x y a d e = Same refl (cc) (cc)
@@ -22,7 +22,7 @@ two_places (z ∷ b) [] x y a d e = Before b (cc) (cc)
 two_places (z ∷ b) (z' ∷ c) x y a d e =
     let heads : z ≡ z' = cc in
     let tails : b ++ x ∷ a ≡ c ++ y ∷ d = cc in
-    one_more z z' b c x y a d heads (two_places b c x y a d tails)
+    one_place_more z z' b c x y a d heads (two_places b c x y a d tails)
 
 module _ {T B : Type 0} (level : B → ℕ) where
   -- what holds of all holds of one, and of those on either side

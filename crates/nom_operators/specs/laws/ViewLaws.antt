@@ -18,7 +18,7 @@ use Rattle.nom_operators.specs.laws.OperatorTreeLaws.{no_other}
 
 -- The fold gives values that are equal as viewed for operators and values that are. No verdict rests on it: it is asked only where outputs
 -- are compared.
-pub record OperatesAlike {P Q B O X : Type 0} (Gives : Operation P Q B O → Result O X → Type 0) (prefix : View P) (postfix : View Q) (binary : View B)
+pub record OperatesConsistently {P Q B O X : Type 0} (Gives : Operation P Q B O → Result O X → Type 0) (prefix : View P) (postfix : View Q) (binary : View B)
     (value : View O) : Type 0 where
   pub on_prefix : (a b : P) (x y u v : O) → prefix.value a ≡ prefix.value b → value.value x ≡ value.value y → Gives (Does.Prefix a x) (Ok u) →
       Gives (Does.Prefix b y) (Ok v) → value.value u ≡ value.value v
@@ -84,71 +84,71 @@ module _ {P Q B O : Type 0} (prefix : View P) (postfix : View Q) (binary : View 
       ∙ (ap (λ z. map viewed_symbol (symbols x) ++ OfBinary ((binary_view binary).value b) ∷ z) (viewed_symbols y)
       ∙ sym (map-append viewed_symbol (symbols x) (OfBinary b ∷ symbols y)))
 
-  module _ {X : Type 0} (Gives : Operation P Q B O → Result O X → Type 0) (consistent : OperatesAlike Gives prefix postfix binary value) where
-    prefix_alike : (p q : Unary P) (r s : Result O X) (u v : O) → (unary_view prefix).value p ≡ (unary_view prefix).value q →
+  module _ {X : Type 0} (Gives : Operation P Q B O → Result O X → Type 0) (consistent : OperatesConsistently Gives prefix postfix binary value) where
+    prefix_consistent : (p q : Unary P) (r s : Result O X) (u v : O) → (unary_view prefix).value p ≡ (unary_view prefix).value q →
         ((x y : O) → r ≡ Ok x → s ≡ Ok y → value.value x ≡ value.value y) → OnValue r (λ x. Gives (Does.Prefix p.value x) (Ok u)) (Ok u) →
         OnValue s (λ x. Gives (Does.Prefix q.value x) (Ok v)) (Ok v) → value.value u ≡ value.value v
-    prefix_alike p q (Ok x) (Ok y) u v e f g h = consistent.on_prefix p.value q.value x y u v (ap (λ z. z.0) e) (f x y refl refl) g h
-    prefix_alike p q (Err x) s u v e f g h = absurd (cc (g))
-    prefix_alike p q (Ok x) (Err y) u v e f g h = absurd (cc (h))
+    prefix_consistent p q (Ok x) (Ok y) u v e f g h = consistent.on_prefix p.value q.value x y u v (ap (λ z. z.0) e) (f x y refl refl) g h
+    prefix_consistent p q (Err x) s u v e f g h = absurd (cc (g))
+    prefix_consistent p q (Ok x) (Err y) u v e f g h = absurd (cc (h))
 
-    postfix_alike : (p q : Unary Q) (r s : Result O X) (u v : O) → (unary_view postfix).value p ≡ (unary_view postfix).value q →
+    postfix_consistent : (p q : Unary Q) (r s : Result O X) (u v : O) → (unary_view postfix).value p ≡ (unary_view postfix).value q →
         ((x y : O) → r ≡ Ok x → s ≡ Ok y → value.value x ≡ value.value y) → OnValue r (λ x. Gives (Does.Postfix x p.value) (Ok u)) (Ok u) →
         OnValue s (λ x. Gives (Does.Postfix x q.value) (Ok v)) (Ok v) → value.value u ≡ value.value v
-    postfix_alike p q (Ok x) (Ok y) u v e f g h = consistent.on_postfix p.value q.value x y u v (ap (λ z. z.0) e) (f x y refl refl) g h
-    postfix_alike p q (Err x) s u v e f g h = absurd (cc (g))
-    postfix_alike p q (Ok x) (Err y) u v e f g h = absurd (cc (h))
+    postfix_consistent p q (Ok x) (Ok y) u v e f g h = consistent.on_postfix p.value q.value x y u v (ap (λ z. z.0) e) (f x y refl refl) g h
+    postfix_consistent p q (Err x) s u v e f g h = absurd (cc (g))
+    postfix_consistent p q (Ok x) (Err y) u v e f g h = absurd (cc (h))
 
-    binary_alike : (p q : Binary B) (r s k l : Result O X) (u v : O) → (binary_view binary).value p ≡ (binary_view binary).value q →
+    binary_consistent : (p q : Binary B) (r s k l : Result O X) (u v : O) → (binary_view binary).value p ≡ (binary_view binary).value q →
         ((x y : O) → r ≡ Ok x → s ≡ Ok y → value.value x ≡ value.value y) → ((x y : O) → k ≡ Ok x → l ≡ Ok y → value.value x ≡ value.value y) →
         OnValue r (λ x. OnValue k (λ z. Gives (Does.Binary x p.value z) (Ok u)) (Ok u)) (Ok u) →
         OnValue s (λ x. OnValue l (λ z. Gives (Does.Binary x q.value z) (Ok v)) (Ok v)) (Ok v) → value.value u ≡ value.value v
-    binary_alike p q (Ok x) (Ok y) (Ok z) (Ok w) u v e f d g h =
+    binary_consistent p q (Ok x) (Ok y) (Ok z) (Ok w) u v e f d g h =
         consistent.on_binary p.value q.value x y z w u v (ap (λ t. t.0) e) (f x y refl refl) (d z w refl refl) g h
-    binary_alike p q (Err x) s k l u v e f d g h = absurd (cc (g))
-    binary_alike p q (Ok x) (Err y) k l u v e f d g h = absurd (cc (h))
-    binary_alike p q (Ok x) (Ok y) (Err z) l u v e f d g h = absurd (cc (g))
-    binary_alike p q (Ok x) (Ok y) (Ok z) (Err w) u v e f d g h = absurd (cc (h))
+    binary_consistent p q (Err x) s k l u v e f d g h = absurd (cc (g))
+    binary_consistent p q (Ok x) (Err y) k l u v e f d g h = absurd (cc (h))
+    binary_consistent p q (Ok x) (Ok y) (Err z) l u v e f d g h = absurd (cc (g))
+    binary_consistent p q (Ok x) (Ok y) (Ok z) (Err w) u v e f d g h = absurd (cc (h))
 
-    evaluates_alike : (x y : OperatorTree (Unary P) O (Unary Q) (Binary B)) (r s : Result O X) (u v : O) → r ≡ Ok u → s ≡ Ok v →
+    evaluates_consistent : (x y : OperatorTree (Unary P) O (Unary Q) (Binary B)) (r s : Result O X) (u v : O) → r ≡ Ok u → s ≡ Ok v →
         viewed x ≡ viewed y → Evaluates Gives x r → Evaluates Gives y s → value.value u ≡ value.value v
     unfolding viewed
-    evaluates_alike (Bare o) (Bare p) r s u v c d e h k =
+    evaluates_consistent (Bare o) (Bare p) r s u v c d e h k =
         let a : u ≡ o = cc (c, h) in
         let b : v ≡ p = cc (d, k) in
         let same : value.value o ≡ value.value p = cc (e) in
         ap value.value a ∙ (same ∙ sym (ap value.value b))
-    evaluates_alike (Prefixed p x) (Prefixed q y) r s u v c d e h k =
+    evaluates_consistent (Prefixed p x) (Prefixed q y) r s u v c d e h k =
         let ops : (unary_view prefix).value p ≡ (unary_view prefix).value q = cc (e) in
         let trees : viewed x ≡ viewed y = cc (e) in
-        prefix_alike p q h.0 k.0 u v ops (λ a b f g. evaluates_alike x y h.0 k.0 a b f g trees h.1 k.1) (rw c at h.2) (rw d at k.2)
-    evaluates_alike (Postfixed x p) (Postfixed y q) r s u v c d e h k =
+        prefix_consistent p q h.0 k.0 u v ops (λ a b f g. evaluates_consistent x y h.0 k.0 a b f g trees h.1 k.1) (rw c at h.2) (rw d at k.2)
+    evaluates_consistent (Postfixed x p) (Postfixed y q) r s u v c d e h k =
         let ops : (unary_view postfix).value p ≡ (unary_view postfix).value q = cc (e) in
         let trees : viewed x ≡ viewed y = cc (e) in
-        postfix_alike p q h.0 k.0 u v ops (λ a b f g. evaluates_alike x y h.0 k.0 a b f g trees h.1 k.1) (rw c at h.2) (rw d at k.2)
-    evaluates_alike (Between x p z) (Between y q w) r s u v c d e h k =
+        postfix_consistent p q h.0 k.0 u v ops (λ a b f g. evaluates_consistent x y h.0 k.0 a b f g trees h.1 k.1) (rw c at h.2) (rw d at k.2)
+    evaluates_consistent (Between x p z) (Between y q w) r s u v c d e h k =
         let ops : (binary_view binary).value p ≡ (binary_view binary).value q = cc (e) in
         let lefts : viewed x ≡ viewed y = cc (e) in
         let rights : viewed z ≡ viewed w = cc (e) in
-        binary_alike p q h.0 k.0 h.1 k.1 u v ops (λ a b f g. evaluates_alike x y h.0 k.0 a b f g lefts h.2 k.2)
-        (λ a b f g. evaluates_alike z w h.1 k.1 a b f g rights h.3 k.3) (rw c at h.4) (rw d at k.4)
-    evaluates_alike (Bare o) (Prefixed q y) r s u v c d e h k = absurd (cc (e))
-    evaluates_alike (Bare o) (Postfixed y q) r s u v c d e h k = absurd (cc (e))
-    evaluates_alike (Bare o) (Between y q w) r s u v c d e h k = absurd (cc (e))
-    evaluates_alike (Prefixed p x) (Bare o) r s u v c d e h k = absurd (cc (e))
-    evaluates_alike (Prefixed p x) (Postfixed y q) r s u v c d e h k = absurd (cc (e))
-    evaluates_alike (Prefixed p x) (Between y q w) r s u v c d e h k = absurd (cc (e))
-    evaluates_alike (Postfixed x p) (Bare o) r s u v c d e h k = absurd (cc (e))
-    evaluates_alike (Postfixed x p) (Prefixed q y) r s u v c d e h k = absurd (cc (e))
-    evaluates_alike (Postfixed x p) (Between y q w) r s u v c d e h k = absurd (cc (e))
-    evaluates_alike (Between x p z) (Bare o) r s u v c d e h k = absurd (cc (e))
-    evaluates_alike (Between x p z) (Prefixed q y) r s u v c d e h k = absurd (cc (e))
-    evaluates_alike (Between x p z) (Postfixed y q) r s u v c d e h k = absurd (cc (e))
+        binary_consistent p q h.0 k.0 h.1 k.1 u v ops (λ a b f g. evaluates_consistent x y h.0 k.0 a b f g lefts h.2 k.2)
+        (λ a b f g. evaluates_consistent z w h.1 k.1 a b f g rights h.3 k.3) (rw c at h.4) (rw d at k.4)
+    evaluates_consistent (Bare o) (Prefixed q y) r s u v c d e h k = absurd (cc (e))
+    evaluates_consistent (Bare o) (Postfixed y q) r s u v c d e h k = absurd (cc (e))
+    evaluates_consistent (Bare o) (Between y q w) r s u v c d e h k = absurd (cc (e))
+    evaluates_consistent (Prefixed p x) (Bare o) r s u v c d e h k = absurd (cc (e))
+    evaluates_consistent (Prefixed p x) (Postfixed y q) r s u v c d e h k = absurd (cc (e))
+    evaluates_consistent (Prefixed p x) (Between y q w) r s u v c d e h k = absurd (cc (e))
+    evaluates_consistent (Postfixed x p) (Bare o) r s u v c d e h k = absurd (cc (e))
+    evaluates_consistent (Postfixed x p) (Prefixed q y) r s u v c d e h k = absurd (cc (e))
+    evaluates_consistent (Postfixed x p) (Between y q w) r s u v c d e h k = absurd (cc (e))
+    evaluates_consistent (Between x p z) (Bare o) r s u v c d e h k = absurd (cc (e))
+    evaluates_consistent (Between x p z) (Prefixed q y) r s u v c d e h k = absurd (cc (e))
+    evaluates_consistent (Between x p z) (Postfixed y q) r s u v c d e h k = absurd (cc (e))
 
     -- the values of what is viewed alike are viewed alike
-    pub values_alike : (ss ts : List (Symbol (Unary P) O (Unary Q) (Binary B))) (u v : O) → map viewed_symbol ss ≡ map viewed_symbol ts →
+    pub values_consistent : (ss ts : List (Symbol (Unary P) O (Unary Q) (Binary B))) (u v : O) → map viewed_symbol ss ≡ map viewed_symbol ts →
         IsValueOf Gives ss (Ok u) → IsValueOf Gives ts (Ok v) → value.value u ≡ value.value v
-    values_alike ss ts u v e g h = evaluates_alike g.tree h.tree (Ok u) (Ok v) u v refl refl
+    values_consistent ss ts u v e g h = evaluates_consistent g.tree h.tree (Ok u) (Ok v) u v refl refl
         (no_other viewed_levels (map viewed_symbol ss) (viewed g.tree) (viewed h.tree)
         (viewed_symbols g.tree ∙ ap (map viewed_symbol) g.is_tree.0, viewed_grouped g.tree g.is_tree.1)
         (viewed_symbols h.tree ∙ (ap (map viewed_symbol) h.is_tree.0 ∙ sym e), viewed_grouped h.tree h.is_tree.1)) g.evaluates h.evaluates
@@ -171,15 +171,16 @@ module _ {P Q B O : Type 0} (prefix : View P) (postfix : View Q) (binary : View 
       ∙ ap (λ z. map OfPrefix (map (unary_view prefix).value ps) ++ OfOperand (value.value o) ∷ z) (postfixes_viewed qs))
 
   -- terms of parts that are viewed alike are viewed alike
-  pub terms_alike : (ps ps' : List (Unary P)) (o o' : O) (qs qs' : List (Unary Q)) → map (unary_view prefix).value ps ≡ map (unary_view prefix).value ps' →
+  pub terms_consistent : (ps ps' : List (Unary P)) (o o' : O) (qs qs' : List (Unary Q)) → map (unary_view prefix).value ps ≡ map (unary_view prefix).value ps' →
       value.value o ≡ value.value o' → map (unary_view postfix).value qs ≡ map (unary_view postfix).value qs' →
       map viewed_symbol (term_symbols ps o qs) ≡ map viewed_symbol (term_symbols ps' o' qs')
-  terms_alike ps ps' o o' qs qs' e f g = term_viewed ps o qs
+  terms_consistent ps ps' o o' qs qs' e f g = term_viewed ps o qs
       ∙ (ap (λ z. term_symbols z (value.value o) (map (unary_view postfix).value qs)) e
       ∙ (ap (λ z. term_symbols (map (unary_view prefix).value ps') z (map (unary_view postfix).value qs)) f
       ∙ (ap (λ z. term_symbols (map (unary_view prefix).value ps') (value.value o') z) g ∙ sym (term_viewed ps' o' qs'))))
 
   -- and one operator
-  pub binaries_alike : (b c : Binary B) → (binary_view binary).value b ≡ (binary_view binary).value c → viewed_symbol (OfBinary b) ≡ viewed_symbol (OfBinary c)
+  pub binaries_consistent : (b c : Binary B) → (binary_view binary).value b ≡ (binary_view binary).value c →
+      viewed_symbol (OfBinary b) ≡ viewed_symbol (OfBinary c)
   unfolding viewed_symbol
-  binaries_alike b c e = ap OfBinary e
+  binaries_consistent b c e = ap OfBinary e

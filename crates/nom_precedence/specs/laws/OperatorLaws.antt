@@ -3,7 +3,7 @@ use Rattle.std.specs.Prelude.{◌≡◌, ℕ, Bool, true, false, ltb, refl}
 use Rattle.std.proofs.Common.{sym, ◌∙◌, ap, subst}
 use Rattle.nom.specs.Prelude.{Errors, Model, IsBoundary, Outcome, Cause, Accept, Refuse, Stop, Fails, Outright, TooLarge, IsDecided}
 use Rattle.nom.specs.Prelude.{Meaning, IsLawful, IsSteady, OfValue, IsOne, Passes}
-use Rattle.nom.specs.CaseLaws.{CaseLaws, here_known, here_related, here_alike, here_place, case_lawful, case_steady}
+use Rattle.nom.specs.CaseLaws.{CaseLaws, here_known, here_related, here_consistent, here_place, case_lawful, case_steady}
 use Rattle.nom_precedence.specs.Operators.{if_level, IfNoLevel, operator_case, operator_meaning}
 use Rattle.nom_precedence.specs.laws.StuckLaws.{either_more}
 
@@ -53,7 +53,7 @@ module _ {I A P E : Type 0} (w : Model I A) (errs : Errors I E) (IsLevel : P →
   operator_laws = record {
     at_known = here_known w;
     at_related = λ longer stays. here_related w longer;
-    at_alike = here_alike w;
+    at_consistent = here_consistent w;
     keeps = λ only i. keeps IsLevel levels;
     same = λ longer stays x y a o p kx ky r s k t. same IsLevel levels one a o p s t;
     consistent = λ x y a o kx ky r b. b;

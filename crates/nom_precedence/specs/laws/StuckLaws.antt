@@ -10,18 +10,18 @@ use Rattle.nom_precedence.specs.Stuck.{read_after, unless_stuck, read_both, read
 use Rattle.nom_precedence.specs.declared.read.Read.{Read}
 use Rattle.nom_precedence.specs.declared.read.Read.TheVariants.{Whole, Stuck}
 
--- of what is read after a tree the fact holds
-after : {I V W E : Type 0} (Fact : Meaning I (Read W) E → Type 0) (m : Meaning I (Read W) E) → Fact m → Fact (success_meaning Stuck) → (u : Read V) →
+-- of what is read kept_after a tree the fact holds
+kept_after : {I V W E : Type 0} (Fact : Meaning I (Read W) E → Type 0) (m : Meaning I (Read W) E) → Fact m → Fact (success_meaning Stuck) → (u : Read V) →
     Fact (read_after m u)
-after Fact m p q (Whole v) = p
-after Fact m p q Stuck = q
+kept_after Fact m p q (Whole v) = p
+kept_after Fact m p q Stuck = q
 
 unless_lawful : {I A V W E : Type 0} {w : Model I A} (m : Meaning I (Read W) E) → IsLawful w m → IsLawfulFamily {K = Read V} w AnyKey (unless_stuck m)
 unless_lawful {w = w} m p = record {
-  lawful = λ u _. after (IsLawful w) m p success_lawful u;
-  frugal = λ mode h u _. after (λ z. z.IsFrugal mode) m h (λ _ x. x) u;
-  settles = λ h u _. after (λ z. z.Settles) m h tt u;
-  never_fails = λ cause h u _. after (λ z. z.NeverFails cause) m h tt u;
+  lawful = λ u _. kept_after (IsLawful w) m p success_lawful u;
+  frugal = λ mode h u _. kept_after (λ z. z.IsFrugal mode) m h (λ _ x. x) u;
+  settles = λ h u _. kept_after (λ z. z.Settles) m h tt u;
+  never_fails = λ cause h u _. kept_after (λ z. z.NeverFails cause) m h tt u;
 }
 
 module _ {I A V W T E : Type 0} {w : Model I A} (l : InputLaws w) {tree : V → W → T} {a : Meaning I (Read V) E} {b : Meaning I (Read W) E} where
@@ -29,7 +29,7 @@ module _ {I A V W T E : Type 0} {w : Model I A} (l : InputLaws w) {tree : V → 
   both_lawful p q = then_lawful l (unless_stuck b) p (unless_lawful b q)
 
   pub both_steady : IsSteady w a → IsSteady w b → IsSteady w (read_both w tree a b)
-  both_steady p q = then_steady l (unless_stuck b) p (after (IsSteady w) b q success_steady)
+  both_steady p q = then_steady l (unless_stuck b) p (kept_after (IsSteady w) b q success_steady)
 
 module _ {I A V W T E : Type 0} {w : Model I A} (l : InputLaws w) {tree : V → W → T} {a : Meaning I V E} {b : Meaning I (Read W) E} where
   pub next_lawful : IsLawful w a → IsLawful w b → IsLawful w (read_next w tree a b)
@@ -73,7 +73,7 @@ module _ {I A V E : Type 0} (w : Model I A) (errs : Errors I E) where
       record {
         at_known = l.at_known;
         at_related = l.at_related;
-        at_alike = l.at_alike;
+        at_consistent = l.at_consistent;
         keeps = l.keeps;
         same = l.same;
         consistent = l.consistent;

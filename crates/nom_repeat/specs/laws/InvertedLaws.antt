@@ -16,7 +16,7 @@ module _ {I A V E : Type 0} {w : Model I A} (errs : Errors I E) (kind : ErrorKin
     consistent = λ s x y o kx ky r a d. a;
     frugal = λ mode i h f r. f r.0 r.1;
     settles = λ t x y o kx ky r a d. a;
-    blames_alike = λ t s i o e h a b d z. z;
+    blames_consistent = λ t s i o e h a b d z. z;
     never_fails = λ cause g s i h a. g (sym a);
   }
   error_if_lawful false p = record {
@@ -25,7 +25,7 @@ module _ {I A V E : Type 0} {w : Model I A} (errs : Errors I E) (kind : ErrorKin
     consistent = p.consistent;
     frugal = p.frugal;
     settles = p.settles;
-    blames_alike = p.blames_alike;
+    blames_consistent = p.blames_consistent;
     never_fails = p.never_fails;
   }
 

@@ -1,7 +1,7 @@
 -- The laws of repetitions.
 use Rattle.std.specs.Prelude.{◌≡◌, ℕ, ◌+◌, Bool, true, false, not, ◌⊎◌, Option, Some, None, List, [], ◌∷◌, refl}
 use Rattle.std.proofs.Common.{arith, sym, ◌∙◌, ap, subst, inl, inr}
-use Rattle.nom_internal.specs.Prelude.{Modes, Model, InputLaws, IsSuffixOf, IsBoundary, IsSame, Related, same_self, rest_related, rest_alike, place_more}
+use Rattle.nom_internal.specs.Prelude.{Modes, Model, InputLaws, IsSuffixOf, IsBoundary, IsSame, Related, same_self, rest_related, rest_consistent, place_more}
 use Rattle.nom_internal.specs.Prelude.{Outcome, Cause, Accept, Refuse, Stop, Fails, IsDecided, IsLawful, IsSteady, Keeps, Agree, Carries, Within, SameBlame}
 use Rattle.nom_internal.specs.Prelude.{place_zero, Family, IsLawfulFamily, AnyKey, after}
 use Rattle.nom_internal.specs.laws.PartLaws.{keeps_mapped, failure_mapped, transfers}
@@ -26,7 +26,7 @@ EndsAt n (Some (Stop why)) = n ≡ 0
 EndsAt n None = n ≡ 0
 
 -- two lists of items that end alike
-pub record EndAlike {V T : Type 0} (vs us : List V) (n m : ℕ) (p q : Outcome T) : Type 0 where
+pub record EndConsistent {V T : Type 0} (vs us : List V) (n m : ℕ) (p q : Outcome T) : Type 0 where
   pub trees_are : vs ≡ us
   pub taken_is : n ≡ m
   pub ending_is : p ≡ q
@@ -42,7 +42,8 @@ module _ {I A : Type 0} (w : Model I A) {V T : Type 0} where
 
 module _ {I A V T : Type 0} (w : Model I A) (l : InputLaws w) (longer : Bool) (F G : ℕ → I → Turn V T → Type 0) where
   pieces_agree : AgreeTurns w longer F G → (k : ℕ) (x y : I) (vs us : List V) (n m : ℕ) (p q : Outcome T) → w.IsKnown x → w.IsKnown y →
-      Related w longer x y → Keeps longer p → Pieces w F (λ h j. F h j (Ends p)) k x vs n → Pieces w G (λ h j. G h j (Ends q)) k y us m → EndAlike vs us n m p q
+      Related w longer x y → Keeps longer p → Pieces w F (λ h j. F h j (Ends p)) k x vs n → Pieces w G (λ h j. G h j (Ends q)) k y us m →
+      EndConsistent vs us n m p q
   pieces_agree f k x y [] [] n m p q kx ky r d a b =
       let e = f k x y (Ends p) (Ends q) kx ky r a.1 d b.1 in
       record { trees_are = refl; taken_is = a.0 ∙ sym b.0; ending_is = cc }
@@ -118,7 +119,7 @@ module _ {I A V T : Type 0} (w : Model I A) (decided : Bool) (F G : ℕ → I �
     p.1,
     p.2,
     f k x y (Takes p.0 v) kx ky r p.3 tt,
-    rest_alike w x y p.0 p.2 r p.4,
+    rest_consistent w x y p.0 p.2 r p.4,
     pieces_carry f g (k + 1) p.2 p.2 vs p.1 (p.4).known (p.4).known (same_self w p.2) p.5,
     p.6,
   )
@@ -202,15 +203,15 @@ keeps_any : {V T : Type 0} (y : Turn V T) → KeepsTurn false y
 keeps_any (Takes n v) = tt
 keeps_any (Ends o) = tt
 
-keeps_alike : {P : Type 0} (a : Option (Outcome P)) → KeepsReply false a
-keeps_alike (Some o) = tt
-keeps_alike None = tt
+keeps_consistent : {P : Type 0} (a : Option (Outcome P)) → KeepsReply false a
+keeps_consistent (Some o) = tt
+keeps_consistent None = tt
 
 module _ {I A P V T : Type 0} (w : Model I A) (bound : Option ℕ) (turn : ℕ → Option (Outcome P) → Turn V T)
     (decided : (k : ℕ) (a : Option (Outcome P)) → KeepsTurn true (turn k a) → KeepsReply true a) where
   kept_reply : (longer : Bool) (k : ℕ) (a : Option (Outcome P)) → KeepsTurn longer (turn k a) → KeepsReply longer a
   kept_reply true k a h = decided k a h
-  kept_reply false k a h = keeps_alike a
+  kept_reply false k a h = keeps_consistent a
 
   turns_agree : (longer : Bool) (F G : ℕ → I → Outcome P → Type 0) → ((k : ℕ) → Agree w longer (F k) (G k)) →
       AgreeTurns w longer (TurnsBy bound turn F) (TurnsBy bound turn G)
@@ -259,7 +260,7 @@ module _ {I A P V T R E : Type 0} (w : Model I A) (l : InputLaws w) (r : Rule I 
     -- a reply of one mode, where both modes have an equal decided turn, is one of the other, with its blames
     part_blames : f.Settles → (s : Bool) (k : ℕ) (j : I) (a : Option (Outcome P)) → w.IsKnown j → Replies r.bound (Part s) k j a →
         Replies r.bound (Part (not s)) k j a → KeepsReply true a → Ran a → (e : E) → (f.at k).blames s j e → (f.at k).blames (not s) j e
-    part_blames t s k j (Some o) h a b d ran e z = (q.lawful k tt).blames_alike (q.settles t k tt) s j o e h a.1 b.1 d z
+    part_blames t s k j (Some o) h a b d ran e z = (q.lawful k tt).blames_consistent (q.settles t k tt) s j o e h a.1 b.1 d z
     part_blames t s k j None h a b d ran e z = absurd ran
 
     blamed_too : f.Settles → (s : Bool) (i : I) (e : E) (k : ℕ) (x z : I) (turn : Turn V T) → w.IsKnown x → w.IsKnown z → IsSame w x z →
@@ -297,9 +298,9 @@ module _ {I A P V T R E : Type 0} (w : Model I A) (l : InputLaws w) (r : Rule I 
         pieces_along w (Turns true) (BothTurns (Turns false) (Turns true)) (λ k j u kj z y. (settle t k j j u kj kj (same_self w j) z y, z))
         (λ k j kj z. (settle t k j j (Ends p) kj kj (same_self w j) z d, z)) 0 i vs n h a
 
-    blames_alike : f.Settles → (s : Bool) (i : I) (o : Outcome R) (e : E) → w.IsKnown i → Repeats w (Turns true) tree i o → IsDecided o →
+    blames_consistent : f.Settles → (s : Bool) (i : I) (o : Outcome R) (e : E) → w.IsKnown i → Repeats w (Turns true) tree i o → IsDecided o →
         (repeat_meaning w r tree f).blames s i e → (repeat_meaning w r tree f).blames (not s) i e
-    blames_alike t s i o e h a d b =
+    blames_consistent t s i o e h a d b =
         let decided = keeps_mapped true (λ m. a.taken + m) (tree a.trees) a.ending (subst (λ z. IsDecided z) a.outcome_is d) in
         reaches_too w l (Turns s) (Turns (not s)) (agree s) (consistent (not s)) (Blamed s i e) (Blamed (not s) i e)
         (blamed_too t s i e) i a.trees a.taken a.ending h decided (in_both t s i a.trees a.taken a.ending h decided a.pieces) b
@@ -307,8 +308,8 @@ module _ {I A P V T R E : Type 0} (w : Model I A) (l : InputLaws w) (r : Rule I 
     both_blames : f.Settles → (s : Bool) →
         SameBlame w (Repeats w (Turns s) tree) (Repeats w (Turns (not s)) tree) ((repeat_meaning w r tree f).blames s)
         ((repeat_meaning w r tree f).blames (not s))
-    both_blames t true i o e h a b d z = blames_alike t true i o e h a d z
-    both_blames t false i o e h a b d z = blames_alike t false i o e h b d z
+    both_blames t true i o e h a b d z = blames_consistent t true i o e h a d z
+    both_blames t false i o e h a b d z = blames_consistent t false i o e h b d z
 
     never_asks : (mode : Modes) → r.IsFrugal f.IsFrugal mode → (k : ℕ) (j : I) → w.IsKnown j →
         OnReply r.bound (Part mode.streaming) (r.Asks mode k) k j ⊎ (IsBelow r.bound k × (f.at k).may_run_out (r.part k mode) j) → ⊥
@@ -330,7 +331,7 @@ module _ {I A P V T R E : Type 0} (w : Model I A) (l : InputLaws w) (r : Rule I 
           (λ k j. OnReply r.bound (Part mode.streaming) (r.Asks mode k) k j ⊎ (IsBelow r.bound k × (f.at k).may_run_out (r.part k mode) j))
           (never_asks mode g) i h;
       settles = λ t. repeats_carry w true (Turns true) (Turns false) tree (settle t);
-      blames_alike = both_blames;
+      blames_consistent = both_blames;
       never_fails = λ cause g s i h. repeats_never w (Turns s) tree cause (never cause s g) i h;
     }
 

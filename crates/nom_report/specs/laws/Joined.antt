@@ -5,8 +5,8 @@ use Rattle.std.proofs.lemmas.List.{get_or_append_left, get_or-append-add}
 use Rattle.std.specs.List.{IsAmong}
 use Rattle.nom_choose.specs.Lists.{Each}
 use Rattle.nom_report.specs.Wanted.{Wanted}
-use Rattle.nom_report.specs.Kept.{Kept, kept, Adds, AddsEach, Joins}
-use Rattle.nom_report.specs.Kept.Adds.{IsKnown, HasRoom, IsLeftOut}
+use Rattle.nom_report.specs.Kept.{Kept, kept, AddsExpectation, AddsEach, Joins}
+use Rattle.nom_report.specs.Kept.AddsExpectation.{IsKnown, HasRoom, IsLeftOut}
 use Rattle.nom_report.specs.Reports.{IsFurthest}
 use Rattle.nom_report.specs.Reports.IsFurthest.{FirstGotFurther, SecondGotFurther, GotAsFar}
 use Rattle.nom_report.specs.Furthest.{One, HasAll, TellsFurthest}
@@ -34,10 +34,10 @@ each_map : {X : Type 0} (P Q : X → Type 0) → ((x : X) → P x → Q x) → (
 each_map P Q f [] h = tt
 each_map P Q f (x ∷ xs) h = (f x h.0, each_map P Q f xs h.1)
 
-one_more : {X : Type 0} (P : X → Type 0) (xs : List X) (x : X) → One P xs → One P (xs ++ (x ∷ []))
-one_more P [] x h = absurd h
-one_more P (y ∷ xs) x (inl p) = inl p
-one_more P (y ∷ xs) x (inr h) = inr (one_more P xs x h)
+one_appended : {X : Type 0} (P : X → Type 0) (xs : List X) (x : X) → One P xs → One P (xs ++ (x ∷ []))
+one_appended P [] x h = absurd h
+one_appended P (y ∷ xs) x (inl p) = inl p
+one_appended P (y ∷ xs) x (inr h) = inr (one_appended P xs x h)
 
 one_last : {X : Type 0} (P : X → Type 0) (xs : List X) (x : X) → P x → One P (xs ++ (x ∷ []))
 one_last P [] x p = inl p
@@ -56,13 +56,13 @@ grows_self a = record { wanted = λ it h. h; more = λ h. h }
 grows_then : (a b e : Kept) → Grows a b → Grows b e → Grows a e
 grows_then a b e g h = record { wanted = λ it k. h.wanted it (g.wanted it k); more = λ k. h.more (g.more k) }
 
-added_grows : (a e : Kept) (it : Wanted) → Adds a it e → Grows a e
+added_grows : (a e : Kept) (it : Wanted) → AddsExpectation a it e → Grows a e
 added_grows a e it (IsKnown h is) = subst (Grows a) (sym is) (grows_self a)
 added_grows a e it (HasRoom n l is) = subst (Grows a) (sym is) (record { wanted = λ x h. among_left a.wanted (it ∷ []) x h; more = λ h. h })
 added_grows a e it (IsLeftOut n l is) = subst (Grows a) (sym is) (record { wanted = λ x h. h; more = λ h. refl })
 
 -- what is added is wanted, or it is told that there was more
-added_has : (a e : Kept) (it : Wanted) → Adds a it e → IsAmong e.wanted it ⊎ IsTrue e.more
+added_has : (a e : Kept) (it : Wanted) → AddsExpectation a it e → IsAmong e.wanted it ⊎ IsTrue e.more
 added_has a e it (IsKnown h is) = inl (subst (λ z. IsAmong z.wanted it) (sym is) h)
 added_has a e it (HasRoom n l is) = inl (subst (λ z. IsAmong z.wanted it) (sym is) (among_last a.wanted it))
 added_has a e it (IsLeftOut n l is) = inr (subst (λ z. IsTrue z.more) (sym is) refl)
@@ -119,7 +119,7 @@ module _ {I : Type 0} (place : I → ℕ) where
   pub tells_more : (es : List (Report I)) (a b e : Report I) → TellsFurthest place es a → IsFurthest place a b e →
       TellsFurthest place (es ++ (b ∷ [])) e
   tells_more es a b e t (FirstGotFurther l is) = subst (TellsFurthest place (es ++ (b ∷ []))) (sym is) (record {
-    stands_at_one = one_more (λ x. x.at ≡ a.at) es b t.stands_at_one;
+    stands_at_one = one_appended (λ x. x.at ≡ a.at) es b t.stands_at_one;
     none_further = each_more (λ x. place x.at ≤ place a.at) es b t.none_further (omega (arith, l));
     tells_all = each_more (λ x. place x.at ≡ place a.at → HasAll (kept x.expected) (kept a.expected)) es b t.tells_all
         (λ q. absurd (omega (arith, l, q)));
@@ -136,7 +136,7 @@ module _ {I : Type 0} (place : I → ℕ) where
   tells_more es a b e t (GotAsFar j) =
       let same : place e.at ≡ place a.at = ap place j.at_is in
       record {
-        stands_at_one = subst (λ z. One (λ x. x.at ≡ z) (es ++ (b ∷ []))) (sym j.at_is) (one_more (λ x. x.at ≡ a.at) es b t.stands_at_one);
+        stands_at_one = subst (λ z. One (λ x. x.at ≡ z) (es ++ (b ∷ []))) (sym j.at_is) (one_appended (λ x. x.at ≡ a.at) es b t.stands_at_one);
         none_further = each_more (λ x. place x.at ≤ place e.at) es b
             (each_map (λ x. place x.at ≤ place a.at) (λ x. place x.at ≤ place e.at) (λ x h. omega (arith, same, h)) es t.none_further)
             (omega (arith, same, j.as_far));

@@ -4,12 +4,12 @@ use Rattle.std.specs.List.{All}
 use Rattle.std.proofs.Common.{arith, sym, ◌∙◌, ap, subst, inl, inr}
 use Rattle.std.proofs.lemmas.List.{length-map}
 use Rattle.std.proofs.lemmas.List.Elements.{All-cons, All-head, All-nil, All-tail}
-use Rattle.nom_internal.specs.Prelude.{Accept, Errors, IsLawful, Model, is_dec_digit_code, items_len, same_self, value_of}
+use Rattle.nom_internal.specs.Prelude.{Accept, Errors, Grammar, IsLawful, Model, is_dec_digit_code, items_len, same_self, value_of}
 use Rattle.nom_character_integer.specs.Integers.{after_digits, after_integer, after_sign, decimal_number, digits_of, integer_digits, integer_meaning}
 use Rattle.nom_character_integer.specs.Integers.{integer_of, is_negative, is_sign, sign_of, with_sign}
 use Rattle.nom_sink.specs.Numerals.{AreDigitsOf, IsSigned, digit_code}
 use Rattle.nom_write.specs.Decimals.{IsDecimal, IsDigit}
-use Rattle.nom_write.specs.Reads.{Reads, ReadsAtEnd}
+use Rattle.nom_write.specs.Reads.{IsEnd, Reads, ReadsAtEnd, ReadsBefore}
 use Rattle.nom_write.specs.Runs.{BeginsOther}
 
 digit : (d : ℕ) → d < 10 → is_dec_digit_code (digit_code d) ≡ true
@@ -141,45 +141,41 @@ module _ {A : Type 0} (code : A → ℕ) where
         (read_as signed true n (item_of 45 ∷ (f.back ++ rest)) (item_of 45 ∷ f.back) f.back rest f.second
         (after_minus signed (item_of 45) f.back rest (coded 45) (allowed refl) (are_digits n f.back f.second) b))
 
-    pub decimal_reads : {I T E : Type 0} (w : Model I A) (signed : Bool) (value : T → ℤ) (fits : ℤ → Type 0) (errs : Errors I E) →
-        IsLawful w (integer_meaning w code signed fits errs) → Reads {O = T} w (record {
-          meaning = integer_meaning w code signed fits errs;
-          IsOutput = λ z x. value x ≡ z;
-        }) (IsDecimal item_of signed value fits) (BeginsOther (IsDigit code))
-    decimal_reads w signed value fits errs l = record {
-      reads = λ v xs f s. record {
-        read = λ i rest o known e next a.
-            let n = items_len w.item_len xs in
-            let z : ℤ = with_sign f.negative f.whole in
-            let r : IsReadAs signed f.negative f.whole (w.elements i) xs rest = subst (λ y. IsReadAs signed f.negative f.whole y xs rest) (sym e)
-            (reads_as signed f.negative f.whole xs rest (λ h. (f.minus h).0) f.written (inl next)) in
-            let after : 0 < length (after_integer code signed (w.elements i)) = subst (λ y. 0 < length y) {x = next.item ∷ next.more} (sym (r.after ∙
-            next.whole)) (omega arith) in (
-              z,
-              l.one_outcome s i i o (Accept n z) known known (same_self w i) a tt
-                  (ap (λ y. items_len w.item_len y) (sym r.front), sym r.number, f.fitting, r.some, λ _. after),
-              f.value_is,
-            );
-      };
-    }
+    module _ {I T E : Type 0} (w : Model I A) (signed : Bool) (value : T → ℤ) (fits : ℤ → Type 0) (errs : Errors I E)
+        (l : IsLawful w (integer_meaning w code signed fits errs)) where
+      abbrev integers : Grammar I ℤ T E
+      integers = record { meaning = integer_meaning w code signed fits errs; IsOutput = λ z x. value x ≡ z }
 
-    -- and at the end of a complete input
-    pub decimal_ends : {I T E : Type 0} (w : Model I A) (signed : Bool) (value : T → ℤ) (fits : ℤ → Type 0) (errs : Errors I E) →
-        IsLawful w (integer_meaning w code signed fits errs) → ReadsAtEnd {O = T} w (record {
-          meaning = integer_meaning w code signed fits errs;
-          IsOutput = λ z x. value x ≡ z;
-        }) (IsDecimal item_of signed value fits)
-    decimal_ends w signed value fits errs l = record {
-      reads = λ v xs f. record {
+      -- before what ends digits
+      decimal_before : (s : Bool) (Next : List A → Type 0) → ((rest : List A) → Next rest → EndsDigits code rest × (s ≡ true → 0 < length rest)) →
+          (v : T) (xs : List A) → IsDecimal item_of signed value fits v xs → ReadsBefore w (integers.meaning.answers s) (λ z. value v ≡ z) Next xs
+      decimal_before s Next ends v xs f = record {
         read = λ i rest o known e next a.
             let n = items_len w.item_len xs in
             let z : ℤ = with_sign f.negative f.whole in
+            let end = ends rest next in
             let r : IsReadAs signed f.negative f.whole (w.elements i) xs rest = subst (λ y. IsReadAs signed f.negative f.whole y xs rest) (sym e)
-            (reads_as signed f.negative f.whole xs rest (λ h. (f.minus h).0) f.written (inr next)) in (
+            (reads_as signed f.negative f.whole xs rest (λ h. (f.minus h).0) f.written end.0) in (
               z,
-              l.one_outcome false i i o (Accept n z) known known (same_self w i) a tt
-                  (ap (λ y. items_len w.item_len y) (sym r.front), sym r.number, f.fitting, r.some, λ h. absurd (cc (h))),
+              l.one_outcome s i i o (Accept n z) known known (same_self w i) a tt (
+                ap (λ y. items_len w.item_len y) (sym r.front),
+                sym r.number,
+                f.fitting,
+                r.some,
+                λ h. subst (λ y. 0 < length y) (sym r.after) (end.1 h),
+              ),
               f.value_is,
             );
-      };
-    }
+      }
+
+      pub decimal_reads : Reads w integers (IsDecimal item_of signed value fits) (BeginsOther (IsDigit code))
+      decimal_reads = record {
+        reads = λ v xs f s. decimal_before s (BeginsOther (IsDigit code)) (λ rest next. (
+          inl next,
+          λ _. subst (λ y. 0 < length y) {x = next.item ∷ next.more} (sym next.whole) (omega arith),
+        )) v xs f;
+      }
+
+      -- and at the end of a complete input
+      pub decimal_ends : ReadsAtEnd w integers (IsDecimal item_of signed value fits)
+      decimal_ends = record { reads = λ v xs f. decimal_before false IsEnd (λ rest next. (inr next, λ h. absurd (cc (h)))) v xs f }

@@ -1,7 +1,7 @@
 -- Which codes forms begin with, by those of the parts.
 use Rattle.std.specs.Prelude.{◌≡◌, ℕ, Bool, true, false, cond, eqb, ◌&&◌, List, [], ◌∷◌, ◌++◌, length, map, Option, Some, None, refl}
 use Rattle.std.proofs.Common.{sym, ◌∙◌, ap, subst, inl, inr, append-nil, append_assoc}
-use Rattle.std.proofs.lemmas.Bool.{eq-eqb}
+use Rattle.std.proofs.lemmas.Bool.{and_from, and_parts, eq-eqb}
 use Rattle.std.specs.Borrow.{Bor}
 use Rattle.nom_internal.specs.Prelude.{Errors, Family, GoesOn, GoesOnRefused, Grammar, Meaning, Model, Modes, OnPart, Outcome, Accept, Refuse, Stop}
 use Rattle.nom_internal.specs.Prelude.{Fails, Needs, bytes_model, ComparesBytes, then_meaning, labelled, either_of, always, with_outputs}
@@ -14,8 +14,9 @@ use Rattle.nom_error.specs.Errors.{Contexts}
 use Rattle.nom_sink.specs.declared.error.WriteError.{WriteError}
 use Rattle.nom_sink.specs.Choices.{Either}
 use Rattle.nom_write.specs.Choices.{Apart}
+use Rattle.nom_write.specs.laws.ChoiceReads.{become_refused}
 use Rattle.nom_write.specs.FirstSets.{BeginsWith, Differ, IsAmong, HasFirst, RefusesOthers, StartsWith, Words}
-use Rattle.nom_write.specs.FirstSets.{are_others, are_unlike, either_first, is_unlike, first_of, whole_first}
+use Rattle.nom_write.specs.FirstSets.{are_others, are_unlike, or_first, is_unlike, first_of, whole_first}
 use Rattle.nom_sink.specs.Parts.{Both}
 use Rattle.nom_write.specs.Reads.{NoItem}
 use Rattle.nom_sink.specs.Written.{Space}
@@ -28,19 +29,11 @@ no_first = record { begins = λ bs e. absurd (cc (e)); others = record { refuses
 pub no_start : {I A V E : Type 0} {w : Model I A} {code : A → ℕ} {m : Meaning I V E} {items : List A} → StartsWith w code m items None
 no_start = record { begins = λ bs e. absurd (cc (e)); others = record { refuses = λ bs e. absurd (cc (e)) } }
 
-both_true : (a b : Bool) → (a && b) ≡ true → (a ≡ true) × (b ≡ true)
-both_true true b h = (refl, h)
-both_true false b h = absurd (cc (h))
-
-and_true : (a b : Bool) → a ≡ true → b ≡ true → (a && b) ≡ true
-and_true true b h k = k
-and_true false b h k = absurd (cc (h))
-
 -- one of the others is none of the first
 is_other : (bs cs : Words) (c : List ℕ) → are_others bs cs ≡ true → IsAmong cs c → are_unlike bs c ≡ true
 is_other bs [] c o h = absurd h
-is_other bs (d ∷ cs) c o (inl e) = subst (λ z. are_unlike bs z ≡ true) e (both_true (are_unlike bs d) (are_others bs cs) o).0
-is_other bs (d ∷ cs) c o (inr h) = is_other bs cs c (both_true (are_unlike bs d) (are_others bs cs) o).1 h
+is_other bs (d ∷ cs) c o (inl e) = subst (λ z. are_unlike bs z ≡ true) e (and_parts (are_unlike bs d) (are_others bs cs) o).0
+is_other bs (d ∷ cs) c o (inr h) = is_other bs cs c (and_parts (are_unlike bs d) (are_others bs cs) o).1 h
 
 module _ {I A V U O E : Type 0} {w : Model I A} {code : A → ℕ} {g : Grammar I V O E} {h : Grammar I U O E} {First Second : O → List A → Type 0} where
   told_apart : (bs cs : Words) → HasFirst w code g First (Some bs) → HasFirst w code h Second (Some cs) → are_others bs cs ≡ true →
@@ -101,7 +94,7 @@ whole_starts code m (a ∷ more) f = record {
     is_one = subst (λ z. IsAmong z (map code (a ∷ more))) {x = map code (a ∷ more) ∷ []} {y = bs} (cc (e)) (inl refl);
   };
   others = record {
-    refuses = λ bs e front rest h. f front rest (both_true (is_unlike (map code (a ∷ more)) (map code front)) true
+    refuses = λ bs e front rest h. f front rest (and_parts (is_unlike (map code (a ∷ more)) (map code front)) true
         (subst (λ z. are_unlike z (map code front) ≡ true) {x = bs} {y = map code (a ∷ more) ∷ []} (cc (e)) h)).0;
   };
 }
@@ -167,6 +160,17 @@ case_refuses w code m n words stays p = record {
       let k = stays s i o a in k.2 (p.refuses bs e front rest h s i k.0 known el k.1);
 }
 
+-- a part whose outcome becomes another, as its refusal becomes a refusal
+pub become_refuses : {I A P T E F : Type 0} {w : Model I A} {code : A → ℕ} {m : Meaning I P E} {words : Option Words} (Becomes : Outcome P → Outcome T → Type 0)
+    (n : Meaning I T F) → ((o : Outcome T) → Becomes Refuse o → o ≡ Refuse) →
+    ((s : Bool) (i : I) (o : Outcome T) → n.answers s i o → OnPart (λ (x y : I). x ≡ y) (m.answers s) (λ _ a. Becomes a o) i) →
+    RefusesOthers w code m words → RefusesOthers w code n words
+become_refuses {w = w} {code} {m} {words} Becomes n stays part p = case_refuses w code m n words (λ s i o a. let b = part s i o a in (
+  b.outcome,
+  subst (λ z. m.answers s z b.outcome) (sym b.at_is) b.answered,
+  λ e. stays o (subst (λ z. Becomes z o) e b.fact),
+)) p
+
 module _ {I A V O E : Type 0} {w : Model I A} {code : A → ℕ} {g : Grammar I V O E} {Form : O → List A → Type 0} {words : Option Words}
     (p : HasFirst w code g Form words) where
   -- what stands before other items
@@ -203,32 +207,14 @@ module _ {I A V O E : Type 0} {w : Model I A} {code : A → ℕ} {g : Grammar I 
       HasFirst w code (map_by IsTaken Gives g) (λ v xs. (x : O) × Back v x × Form x xs) words
   map_begins = record {
     begins = λ bs e v xs f. p.begins bs e f.0 xs f.2;
-    others = case_refuses w code g.meaning _ words (λ s i o a. (
-      a.outcome,
-      subst (λ z. g.meaning.answers s z a.outcome) (sym a.at_is) a.answered,
-      λ e. a.fact ∙ e,
-    )) p.others;
+    others = become_refuses (λ a o. o ≡ a) _ (λ o e. e) (λ s i o a. a) p.others;
   }
 
   pub alt_begins : (errs : Errors I E) → HasFirst w code (alt_of errs g) Form words
-  alt_begins errs = record {
-    begins = p.begins;
-    others = case_refuses w code g.meaning _ words (λ s i o a. (
-      a.outcome,
-      subst (λ z. g.meaning.answers s z a.outcome) (sym a.at_is) a.answered,
-      λ e. a.fact ∙ e,
-    )) p.others;
-  }
+  alt_begins errs = record { begins = p.begins; others = become_refuses (λ a o. o ≡ a) _ (λ o e. e) (λ s i o a. a) p.others }
 
   pub context_begins : (contexts : Contexts I E) (name : List ℕ) → HasFirst w code (context_of contexts name g) Form words
-  context_begins contexts name = record {
-    begins = p.begins;
-    others = case_refuses w code g.meaning _ words (λ s i o a. (
-      a.outcome,
-      subst (λ z. g.meaning.answers s z a.outcome) (sym a.at_is) a.answered,
-      λ e. a.fact ∙ e,
-    )) p.others;
-  }
+  context_begins contexts name = record { begins = p.begins; others = become_refuses (λ a o. o ≡ a) _ (λ o e. e) (λ s i o a. a) p.others }
 
 -- items, and then a form
 pub preceded_begins : {I A V U O P E : Type 0} {w : Model I A} (code : A → ℕ) (g : Grammar I V O E) {h : Grammar I U P E} {NextForm : P → List A → Type 0}
@@ -253,14 +239,8 @@ among_right (b ∷ bs) cs c h = inr (among_right bs cs c h)
 unlike_both : (bs cs : Words) (c : List ℕ) → are_unlike (bs ++ cs) c ≡ true → (are_unlike bs c ≡ true) × (are_unlike cs c ≡ true)
 unlike_both [] cs c h = (refl, h)
 unlike_both (b ∷ bs) cs c h =
-    let here = both_true (is_unlike b c) (are_unlike (bs ++ cs) c) h in
-    let more = unlike_both bs cs c here.1 in (and_true (is_unlike b c) (are_unlike bs c) here.0 more.0, more.1)
-
-labelled_refused : {I A P T : Type 0} (w : Model I A) (label : P → T) (F : I → Outcome P → Type 0) (xs : List A) (i : I) (o : Outcome T) → w.IsKnown i →
-    w.elements i ≡ xs → ((i : I) (o : Outcome P) → w.IsKnown i → w.elements i ≡ xs → F i o → o ≡ Refuse) →
-    OnPart (λ (x y : I). x ≡ y) F (λ _ a. o ≡ labelled label a) i → o ≡ Refuse
-labelled_refused w label F xs i o known e none a =
-    a.fact ∙ ap (λ z. labelled label z) (none i a.outcome known e (subst (λ z. F z a.outcome) (sym a.at_is) a.answered))
+    let here = and_parts (is_unlike b c) (are_unlike (bs ++ cs) c) h in
+    let more = unlike_both bs cs c here.1 in (and_from (is_unlike b c) (are_unlike bs c) here.0 more.0, more.1)
 
 module _ {I A P Q O E : Type 0} {w : Model I A} {code : A → ℕ} (errs : Errors I E) {g : Grammar I P O E} {h : Grammar I Q O E}
     {First Second : O → List A → Type 0} {FirstFails : O → Space → WriteError → Type 0} where
@@ -289,18 +269,23 @@ module _ {I A P Q O E : Type 0} {w : Model I A} {code : A → ℕ} (errs : Error
           NoItem w (either_of errs.joined errs.grows g h).meaning (front ++ rest)
       others ds e front rest unlike s i o known el r =
           let parts = unlike_both bs cs (map code front) (subst (λ z. are_unlike z (map code front) ≡ true) {x = ds} {y = bs ++ cs} (cc (e)) unlike) in
-          let first = labelled_refused w inl (g.meaning.answers s) (front ++ rest) i r.first known el (p.others.refuses bs refl front rest parts.0 s)
+          let first = become_refused w (labelled inl) (g.meaning.answers s) (front ++ rest) i r.first known el (p.others.refuses bs refl front rest parts.0 s)
           r.answered in
-          labelled_refused w inr (h.meaning.answers s) (front ++ rest) i o known el (q.others.refuses cs refl front rest parts.1 s)
+          become_refused w (labelled inr) (h.meaning.answers s) (front ++ rest) i o known el (q.others.refuses cs refl front rest parts.1 s)
           (subst (λ z. GoesOnRefused (λ o. OnPart (λ (x y : I). x ≡ y) (h.meaning.answers s) (λ _ a. o ≡ labelled inr a) i) z o) first r.goes_on)
 
   -- one of two
-  pub either_begins : {a b : Option Words} → HasFirst w code g First a → HasFirst w code h Second b →
-      HasFirst w code (either_of errs.joined errs.grows g h) (λ v. Either (First v) (FirstFails v) (Second v)) (either_first a b)
-  either_begins {a} {b} p q = by a b p q
+  pub or_begins : {a b : Option Words} → HasFirst w code g First a → HasFirst w code h Second b →
+      HasFirst w code (either_of errs.joined errs.grows g h) (λ v. Either (First v) (FirstFails v) (Second v)) (or_first a b)
+  or_begins {a} {b} p q = by a b p q
     where
       by : (a b : Option Words) → HasFirst w code g First a → HasFirst w code h Second b →
-          HasFirst w code (either_of errs.joined errs.grows g h) (λ v. Either (First v) (FirstFails v) (Second v)) (either_first a b)
+          HasFirst w code (either_of errs.joined errs.grows g h) (λ v. Either (First v) (FirstFails v) (Second v)) (or_first a b)
       by (Some bs) (Some cs) p q = both_told bs cs p q
       by (Some bs) None p q = no_first
       by None b p q = no_first
+
+  -- the last branch of a choice
+  pub last_begins : {a b : Option Words} → HasFirst w code g First a → HasFirst w code h Second b →
+      HasFirst w code (alt_of errs (either_of errs.joined errs.grows g h)) (λ v. Either (First v) (FirstFails v) (Second v)) (or_first a b)
+  last_begins p q = alt_begins (or_begins p q) errs

@@ -3,7 +3,7 @@ use Rattle.std.specs.Prelude.{◌≡◌, ℕ, ◌+◌, ◌*◌, ◌^◌, ◌<◌
 use Rattle.std.specs.List.{All}
 use Rattle.std.proofs.Common.{arith, sym, ◌∙◌, ap, subst}
 use Rattle.std.proofs.lemmas.Bool.{ltb-false, ltb-true}
-use Rattle.std.proofs.lemmas.List.{length-map}
+use Rattle.std.proofs.lemmas.List.{length-map, take_all}
 use Rattle.std.proofs.lemmas.List.Elements.{All-cons, All-head, All-nil, All-tail}
 use Rattle.nom_error.specs.declared.kind.ErrorKind.TheVariants as Kind
 use Rattle.nom_internal.specs.Prelude.{Accept, AreValues, Errors, Model, Passes, digits_after, has_code, items_len, valued, value_of}
@@ -44,12 +44,6 @@ at_most_eight (suc n) (suc d ∷ ds) below value none alone = few (ltb (length d
     few true e = omega (arith, ltb-true (length ds) 8 e)
     few false e = absurd (omega (arith, below, value, grows 8 1 (16 * 0 + suc d) ds (omega arith) (ltb-false (length ds) 8 e)))
 
-take_whole : {A : Type 0} (k : ℕ) (xs : List A) → length xs ≤ k → take k xs ≡ xs
-take_whole zero [] h = refl
-take_whole zero (x ∷ xs) h = absurd (omega (arith, h))
-take_whole (suc k) [] h = refl
-take_whole (suc k) (x ∷ xs) h = ap (λ z. x ∷ z) (take_whole k xs (omega (arith, h)))
-
 module _ {A : Type 0} (code : A → ℕ) (item_of : ℕ → A) (coded : (n : ℕ) → code (item_of n) ≡ n) where
   abbrev IsHex : A → Bool → Type 0
   IsHex = IsOf code Class.HexDigit
@@ -77,10 +71,11 @@ module _ {A : Type 0} (code : A → ℕ) (item_of : ℕ → A) (coded : (n : ℕ
           let digits = subst (λ z. All (λ x. IsHex x true) z) (sym d.items) (all_digits d.digits d.below) in
           let count : length xs ≡ length d.digits = ap length d.items ∙ length-map d.digits (λ d. item_of (digit_code d)) in
           let run = run_items w IsHex 1 None (wanted_error errs (Some Kind.IsA)) (wanted_grows errs (Some Kind.IsA))
-          (class_lawful w IsValue values_of code errs Class.HexDigit (Some Kind.IsA)) xs digits (omega (arith, count, d.some)) tt s in
+          (class_lawful w IsValue values_of code errs Class.HexDigit (Some Kind.IsA)) s xs digits (omega (arith, count, d.some)) tt (λ t. t.items ≡ xs)
+          (λ t e. e) in
           let q = run.read i rest a.outcome known e next (subst (λ z. (class_meaning w code errs Class.HexDigit (Some Kind.IsA)).answers s z a.outcome)
           (sym a.at_is) a.answered) in
-          let all : take 8 q.0.items ≡ xs = ap (λ z. take 8 z) q.2 ∙ take_whole 8 xs (omega (
+          let all : take 8 q.0.items ≡ xs = ap (λ z. take 8 z) q.2 ∙ take_all 8 xs (omega (
             arith,
             count,
             at_most_eight v d.digits f.0 d.number d.none_before d.alone,

@@ -6,7 +6,7 @@ use Rattle.nom_internal.specs.Judged.{map_opt_by, map_res_by}
 use Rattle.nom_internal.specs.Prelude.{Accept, Errors, GivesFor, Grammar, IsJudge, Judged, Model, Passes, items_len, judged_meaning, kept_if}
 use Rattle.nom_write.specs.FirstSets.{HasFirst, Words}
 use Rattle.nom_write.specs.Reads.{Reads}
-use Rattle.nom_write.specs.laws.FirstSetLaws.{case_refuses}
+use Rattle.nom_write.specs.laws.FirstSetLaws.{become_refuses}
 
 -- a grammar whose outputs a closure judges, and where what it gives fits, it is the one for a value of the whole
 abbrev pub judged_by : {I V O R P E : Type 0} → (O → Type 0) → (O → R → Type 0) → (R → Bool) → (I → R → E → Type 0) → Type 0 → (P → R) →
@@ -41,11 +41,7 @@ module _ {I A V O R P E : Type 0} {w : Model I A} {g : Grammar I V O E} {Form : 
       HasFirst w code (judged_by Takes Gives fits Makes Grows fit g) (λ v xs. (x : O) × Back v x × Form x xs) words
   judged_back_begins {code} {words} p = record {
     begins = λ bs e v xs f. p.begins bs e f.0 xs f.2;
-    others = case_refuses w code g.meaning _ words (λ s i o a. (
-      a.outcome,
-      subst (λ z. g.meaning.answers s z a.outcome) (sym a.at_is) a.answered,
-      λ e. subst (λ z. Passes (Judged (GivesFor g.IsOutput Gives) fits) z o) e a.fact,
-    )) p.others;
+    others = become_refuses (λ a o. Passes (Judged (GivesFor g.IsOutput Gives) fits) a o) _ (λ o e. e) (λ s i o a. a) p.others;
   }
 
 module _ {I A V O P E : Type 0} {w : Model I A} {g : Grammar I V O E} {Form : O → List A → Type 0} (Takes : O → Type 0) where

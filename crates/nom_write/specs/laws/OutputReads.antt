@@ -5,7 +5,7 @@ use Rattle.nom_internal.specs.Prelude.{Accept, Errors, GivesFor, Grammar, IsJudg
 use Rattle.nom_combinator.specs.Outputs.{GivesValue, value_by, verify_by}
 use Rattle.nom_write.specs.FirstSets.{HasFirst, StartsWith, Words}
 use Rattle.nom_write.specs.Reads.{Anything, Reads, ReadsSome}
-use Rattle.nom_write.specs.laws.FirstSetLaws.{case_refuses, fixed_begins}
+use Rattle.nom_write.specs.laws.FirstSetLaws.{become_refuses, fixed_begins}
 
 module _ {I A V O R E : Type 0} {w : Model I A} (g : Grammar I V O E) (value : R) (IsSure : Type 0) (IsClone : R → Type 0)
     (items : List A) where
@@ -27,11 +27,7 @@ module _ {I A V O R E : Type 0} {w : Model I A} (g : Grammar I V O E) (value : R
       HasFirst w code (value_by value IsSure IsClone g) (λ v xs. IsClone v × (xs ≡ items)) words
   value_begins code {words} p = fixed_begins code items (λ v xs f. f.1) (record {
     begins = p.begins;
-    others = case_refuses w code g.meaning _ words (λ s i o a. (
-      a.outcome,
-      subst (λ z. g.meaning.answers s z a.outcome) (sym a.at_is) a.answered,
-      λ e. subst (λ z. Passes (GivesValue value) z o) e a.fact,
-    )) p.others;
+    others = become_refuses (λ a o. Passes (GivesValue value) a o) _ (λ o e. e) (λ s i o a. a) p.others;
   })
 
 module _ {I A V O E : Type 0} {w : Model I A} (errs : Errors I E) {g : Grammar I V O E} (Takes : O → Type 0) (Says : O → Bool → Type 0)
@@ -53,9 +49,5 @@ module _ {I A V O E : Type 0} {w : Model I A} (errs : Errors I E) {g : Grammar I
       HasFirst w code (verify_by errs Takes Says g) (λ v xs. Says v true × Form v xs) words
   verify_begins {code} {words} p = record {
     begins = λ bs e v xs f. p.begins bs e v xs f.1;
-    others = case_refuses w code g.meaning _ words (λ s i o a. (
-      a.outcome,
-      subst (λ z. g.meaning.answers s z a.outcome) (sym a.at_is) a.answered,
-      λ e. subst (λ z. Passes (Judged (GivesFor g.IsOutput Says) (λ b. b)) z o) e a.fact,
-    )) p.others;
+    others = become_refuses (λ a o. Passes (Judged (GivesFor g.IsOutput Says) (λ b. b)) a o) _ (λ o e. e) (λ s i o a. a) p.others;
   }

@@ -6,7 +6,7 @@ use Rattle.nom_internal.specs.Prelude.{PairOutput, pair_of}
 use Rattle.nom_internal.specs.Tuples.{tuple_of}
 use Rattle.nom_traits.specs.Rests.{same_cut}
 use Rattle.nom_sequence.specs.Sequences.{preceded_of, terminated_of}
-use Rattle.nom_sink.specs.Parts.{Both, Meets}
+use Rattle.nom_sink.specs.Parts.{Both, MeetsForms}
 use Rattle.nom_write.specs.Reads.{Anything, IsEnd, IsTaken, Reads, ReadsAtEnd, ReadsBefore, ReadsSome}
 
 -- what follows items of a front, by the front's length
@@ -63,7 +63,7 @@ module _ {I A P Q T : Type 0} (w : Model I A) (l : InputLaws w) (tree : P → Q 
 
 module _ {I A V W O P E : Type 0} {w : Model I A} (l : InputLaws w) {g : Grammar I V O E} {h : Grammar I W P E} where
   pub pair_reads : {FirstForm : O → List A → Type 0} {NextForm : P → List A → Type 0} {First Next : List A → Type 0} →
-      Meets First (λ ys. (b : P) × NextForm b ys) Next → Reads w g FirstForm First → Reads w h NextForm Next →
+      MeetsForms First NextForm Next → Reads w g FirstForm First → Reads w h NextForm Next →
       Reads w (pair_of w g h) (λ v. Both (FirstForm v.0) (NextForm v.1)) Next
   pair_reads {First = First} {Next} meets p q = record {
     reads = λ v xs f s. as_whole w f.whole (then_reads w l (λ u v. (u, v)) (g.meaning.answers s) (λ u. h.meaning.answers s)
@@ -110,9 +110,8 @@ module _ {I A V W O P E : Type 0} {w : Model I A} (l : InputLaws w) {g : Grammar
 
 -- what may follow a first part, where a second and a third do
 module _ {T O P : Type 0} (First : List T → Type 0) {Mid : List T → Type 0} {Form : O → List T → Type 0} {Next : P → List T → Type 0}
-    (meets : Meets First (λ ys. (b : O) × Form b ys) Mid) where
-  pub meets_more : {Last : List T → Type 0} → Meets Mid (λ ys. (b : P) × Next b ys) Last →
-      Meets First (λ ys. (b : O × P) × Both (Form b.0) (Next b.1) ys) Last
+    (meets : MeetsForms First Form Mid) where
+  pub meets_more : {Last : List T → Type 0} → MeetsForms Mid Next Last → MeetsForms {O = O × P} First (λ b. Both (Form b.0) (Next b.1)) Last
   meets_more n ys rest b k =
       let f = b.1 in
       let whole : ys ++ rest ≡ f.front ++ (f.back ++ rest) = ap (λ z. z ++ rest) f.whole ∙ append_assoc f.front f.back rest in
@@ -125,40 +124,41 @@ module _ {T O P : Type 0} (First : List T → Type 0) {Mid : List T → Type 0} 
 -- the member before.
 module _ {I A V O E : Type 0} (w : Model I A) (g : Grammar I V O E) (Form : O → List A → Type 0) (Before Last : List A → Type 0) where
   pub record Remaining : Type 0 where
+    pub lawful : InputLaws w
     pub reads : Reads w g Form Last
-    pub meets : Meets Before (λ ys. (b : O) × Form b ys) Last
+    pub meets : MeetsForms Before Form Last
 
 pub last_member : {I A V O E : Type 0} {w : Model I A} {g : Grammar I V O E} {Form : O → List A → Type 0} {Before Last : List A → Type 0} →
-    Meets Before (λ ys. (b : O) × Form b ys) Last → Reads w g Form Last → Remaining w g Form Before Last
-last_member meets p = record { reads = p; meets = meets }
-
-module _ {I A V W O P E : Type 0} {w : Model I A} (l : InputLaws w) {g : Grammar I V O E} {h : Grammar I W P E} {Form : O → List A → Type 0}
-    {Next : P → List A → Type 0} {Follow Last : List A → Type 0} where
-  pub first_member : Reads w g Form Follow → Remaining w h Next Follow Last → Reads w (pair_of w g h) (λ v. Both (Form v.0) (Next v.1)) Last
-  first_member p rest = pair_reads l rest.meets p rest.reads
-
-  pub next_member : {Before : List A → Type 0} → Meets Before (λ ys. (b : O) × Form b ys) Follow → Reads w g Form Follow →
-      Remaining w h Next Follow Last → Remaining w (pair_of w g h) (λ v. Both (Form v.0) (Next v.1)) Before Last
-  next_member {Before} meets p rest = record { reads = first_member p rest; meets = meets_more Before meets rest.meets }
+    InputLaws w → MeetsForms Before Form Last → Reads w g Form Last → Remaining w g Form Before Last
+last_member l meets p = record { lawful = l; reads = p; meets = meets }
 
 -- the same, where the last member ends a complete input
 module _ {I A V O E : Type 0} (w : Model I A) (g : Grammar I V O E) (Form : O → List A → Type 0) (Before : List A → Type 0) where
   pub record RemainingEnds : Type 0 where
+    pub lawful : InputLaws w
     pub ends : ReadsAtEnd w g Form
     pub meets : (v : O) (ys : List A) → Form v ys → Before ys
 
 pub last_end : {I A V O E : Type 0} {w : Model I A} {g : Grammar I V O E} {Form : O → List A → Type 0} {Before : List A → Type 0} →
-    ((v : O) (ys : List A) → Form v ys → Before ys) → ReadsAtEnd w g Form → RemainingEnds w g Form Before
-last_end meets p = record { ends = p; meets = meets }
+    InputLaws w → ((v : O) (ys : List A) → Form v ys → Before ys) → ReadsAtEnd w g Form → RemainingEnds w g Form Before
+last_end l meets p = record { lawful = l; ends = p; meets = meets }
 
-module _ {I A V W O P E : Type 0} {w : Model I A} (l : InputLaws w) {g : Grammar I V O E} {h : Grammar I W P E} {Form : O → List A → Type 0}
-    {Next : P → List A → Type 0} {Follow : List A → Type 0} where
+module _ {I A V W O P E : Type 0} {w : Model I A} {g : Grammar I V O E} {h : Grammar I W P E} {Form : O → List A → Type 0} {Next : P → List A → Type 0}
+    {Follow : List A → Type 0} where
+  pub first_member : {Last : List A → Type 0} → Reads w g Form Follow → Remaining w h Next Follow Last →
+      Reads w (pair_of w g h) (λ v. Both (Form v.0) (Next v.1)) Last
+  first_member p rest = pair_reads rest.lawful rest.meets p rest.reads
+
+  pub next_member : {Before Last : List A → Type 0} → MeetsForms Before Form Follow → Reads w g Form Follow → Remaining w h Next Follow Last →
+      Remaining w (pair_of w g h) (λ v. Both (Form v.0) (Next v.1)) Before Last
+  next_member {Before} meets p rest = record { lawful = rest.lawful; reads = first_member p rest; meets = meets_more Before meets rest.meets }
+
   pub first_end : Reads w g Form Follow → RemainingEnds w h Next Follow → ReadsAtEnd w (pair_of w g h) (λ v. Both (Form v.0) (Next v.1))
-  first_end p rest = pair_ends l rest.meets p rest.ends
+  first_end p rest = pair_ends rest.lawful rest.meets p rest.ends
 
-  pub next_end : {Before : List A → Type 0} → Meets Before (λ ys. (b : O) × Form b ys) Follow → Reads w g Form Follow →
-      RemainingEnds w h Next Follow → RemainingEnds w (pair_of w g h) (λ v. Both (Form v.0) (Next v.1)) Before
-  next_end {Before} meets p rest = record { ends = first_end p rest; meets = ends_more Before meets rest.meets }
+  pub next_end : {Before : List A → Type 0} → MeetsForms Before Form Follow → Reads w g Form Follow → RemainingEnds w h Next Follow →
+      RemainingEnds w (pair_of w g h) (λ v. Both (Form v.0) (Next v.1)) Before
+  next_end {Before} meets p rest = record { lawful = rest.lawful; ends = first_end p rest; meets = ends_more Before meets rest.meets }
 
 -- two parts and a third are a first and two others
 both_regrouped : {T : Type 0} {A B C : List T → Type 0} {xs : List T} → Both A (Both B C) xs → Both (Both A B) C xs

@@ -7,6 +7,7 @@ use Rattle.std.specs.List.{list_all}
 use Rattle.std.specs.Str.{all_scalars, is_utf8}
 use Rattle.std.proofs.Common.{arith, sym, ◌∙◌, ap, subst, inl, inr, append_assoc}
 use Rattle.std.proofs.Math.Utf8.{scalar}
+use Rattle.std.proofs.lemmas.Bool.{and_from}
 use Rattle.std.proofs.lemmas.Str.{chars-append, chars-encodes, encode_ascii, encodes-chars, IsUtf8-from_is_utf8, is_utf8-from_IsUtf8, scalars-chars}
 use Rattle.nom_internal.specs.Prelude.{AreValues, Errors, IsFirst, IsModelledBy, Accept, Refuse, Stop, Fails, Needs, Slice, items_len}
 use Rattle.nom_internal.specs.Prelude.{ComparesText, sliced, text_comparing}
@@ -27,17 +28,13 @@ below b h = grind (arith, h)
 ascii_scalar : (b : ℕ) → b < 128 → scalar b ≡ true
 ascii_scalar b h = grind (arith, h)
 
-both_true : (x y : Bool) → x ≡ true → y ≡ true → (x && y) ≡ true
-both_true true y h k = k
-both_true false y h k = absurd (cc (h))
-
 ascii_spelled : (bs : List ℕ) → list_all (λ b. nat_lt b 128) bs ≡ true → (all_scalars bs ≡ true) × (encode_utf8_all bs ≡ bs)
 ascii_spelled [] h = (refl, refl)
 ascii_spelled (b ∷ bs) h =
     let parts = both (nat_lt b 128) (list_all (λ b. nat_lt b 128) bs) h in
     let more = ascii_spelled bs parts.1 in
     let small = below b parts.0 in (
-      both_true (scalar b) (all_scalars bs) (ascii_scalar b small) more.0,
+      and_from (scalar b) (all_scalars bs) (ascii_scalar b small) more.0,
       ap (λ z. z ++ encode_utf8_all bs) (encode_ascii b small) ∙ ap (λ z. b ∷ z) more.1,
     )
 
@@ -87,7 +84,7 @@ tag_items tag s IsTree stands = elim (viewed tag) [
 
 pub scalars_front : (xs ys : List ℕ) → all_scalars (xs ++ ys) ≡ true → all_scalars xs ≡ true
 scalars_front [] ys h = refl
-scalars_front (x ∷ xs) ys h = let b = both (scalar x) (all_scalars (xs ++ ys)) h in both_true (scalar x) (all_scalars xs) b.0 (scalars_front xs ys b.1)
+scalars_front (x ∷ xs) ys h = let b = both (scalar x) (all_scalars (xs ++ ys)) h in and_from (scalar x) (all_scalars xs) b.0 (scalars_front xs ys b.1)
 
 -- what begins with the characters of a tag begins with its first item
 other_lead : (tag zs : List ℕ) (a c : ℕ) (more : List ℕ) → text_items tag ≡ a ∷ more → chars tag ≡ c ∷ zs → a ≡ c

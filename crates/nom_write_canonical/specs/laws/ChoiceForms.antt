@@ -41,6 +41,11 @@ module _ {I A P Q O E : Type 0} {w : Model I A} (errs : Errors I E) {g : Grammar
           of_first Refuse b e = (right s).front i n t known e
           of_first (Stop why) b e = absurd (cc (e))
 
+  -- the branches before, each of which excludes all before it, and one more
+  pub or_accepts : {D : Type 0} → (D → AcceptsForms w g First) → AcceptsForms w h Second → D × Excludes First Fails Second →
+      AcceptsForms w (either_of errs.joined errs.grows g h) (λ v. Either (First v) (Fails v) (Second v))
+  or_accepts before q d = either_accepts d.1 (before d.0) q
+
 -- one of two has one form where each has, and no value has one of both
 pub either_one : {T : Type 0} {IsValue : T → Type 0} {A B : List T → Type 0} {Fails : Space → WriteError → Type 0} → ((xs ys : List T) → A xs → B ys → ⊥) →
     IsOneForm IsValue A → IsOneForm IsValue B → IsOneForm IsValue (Either A Fails B)
@@ -51,6 +56,12 @@ either_one {T} {IsValue} {A} {B} {Fails} apart p q = record { one = λ xs ys h k
     one xs ys h k (inl a) (inr b) = absurd (apart xs ys a b.1)
     one xs ys h k (inr a) (inl b) = absurd (apart ys xs b a.1)
     one xs ys h k (inr a) (inr b) = q.one xs ys h k a.1 b.1
+
+-- so it is with the branches before, and one more
+pub or_one : {O T : Type 0} {IsValue : T → Type 0} {First Second : O → List T → Type 0} {Fails : O → Space → WriteError → Type 0} {D : Type 0} →
+    (D → (v : O) → IsOneForm IsValue (First v)) → ((v : O) → IsOneForm IsValue (Second v)) → D × Excludes First Fails Second → (v : O) →
+    IsOneForm IsValue (Either (First v) (Fails v) (Second v))
+or_one before q d v = either_one ((d.1).apart v) (before d.0 v) (q v)
 
 -- what neither of two writes
 pub both_exclude : {O T : Type 0} {A B C : O → List T → Type 0} {AFails BFails : O → Space → WriteError → Type 0} → Excludes A AFails C → Excludes B BFails C →

@@ -3,7 +3,7 @@ use Rattle.nom_internal.proofs.Shown.{err_from_residual}
 use Rattle.nom_calls.specs.Func.{Answers}
 use Rattle.example_json.specs.Numbers.{i64_of, whole_by}
 use Rattle.example_json.proofs.Between.{before_stops, after}
-use Rattle.example_json.proofs.Told.{taken}
+use Rattle.example_json.proofs.Results.{taken}
 use Rattle.example_json.proofs.Whole.{whole_frugal, whole_told}
 use Rattle.example_json.proofs.numbers.integer.Goals as goal
 

@@ -3,7 +3,7 @@ use Rattle.nom.specs.grammars.Texts.{char_of}
 use Rattle.nom_internal.proofs.Shown.{err_from_residual}
 use Rattle.example_json.specs.Scalars.{characters_of, token_of}
 use Rattle.example_json.proofs.Between.{body_stops, close_stops, closed, open_stops}
-use Rattle.example_json.proofs.Told.{taken, told}
+use Rattle.example_json.proofs.Results.{taken, told}
 use Rattle.example_json.proofs.Tokens.{char_frugal, token_frugal}
 use Rattle.example_json.proofs.scalars.text.Goals as goal
 

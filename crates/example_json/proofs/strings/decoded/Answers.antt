@@ -1,7 +1,7 @@
 use Rattle.std.proofs.Common.{refl}
 use Rattle.nom_internal.proofs.Shown.{err_from_residual}
 use Rattle.example_json.proofs.Plain.{borrowed, never_stops, none_left, not_plain, owned, owned_stops}
-use Rattle.example_json.proofs.Told.{taken, told}
+use Rattle.example_json.proofs.Results.{taken, told}
 use Rattle.example_json.proofs.strings.decoded.Goals as goal
 
 pub returns-in_err-rest-clause-shown : goal.returns-in_err-rest-clause-shown

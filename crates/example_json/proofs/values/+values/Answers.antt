@@ -8,7 +8,7 @@ use Rattle.example_json.specs.Scalars.{text_of, token_of}
 use Rattle.example_json.proofs.Between.{before_stops, after, body_stops, close_stops, closed, name_stops, open_stops, paired, sign_stops, value_stops}
 use Rattle.example_json.proofs.Lists.{first_kept, first_lacks, first_refused, first_stopped, further_kept, further_lacks, further_refused, further_stopped}
 use Rattle.example_json.proofs.Lists.{grown}
-use Rattle.example_json.proofs.Told.{as_stops, as_told, refused, taken, told}
+use Rattle.example_json.proofs.Results.{as_stops, as_told, refused, taken, told}
 use Rattle.example_json.proofs.Tokens.{token_frugal}
 use Rattle.example_json.proofs.Branches.{a_scalar, an_array, an_object, moved, moved_not, none_deeper}
 use Rattle.example_json.proofs.values.+values.Goals as goal

@@ -3,7 +3,7 @@ use Rattle.nom_internal.proofs.Shown.{err_from_residual}
 use Rattle.example_json.specs.Json.{value_of}
 use Rattle.example_json.specs.Scalars.{spaces_of}
 use Rattle.example_json.proofs.Between.{before_stops, after}
-use Rattle.example_json.proofs.Told.{taken}
+use Rattle.example_json.proofs.Results.{taken}
 use Rattle.example_json.proofs.Tokens.{spaces_frugal}
 use Rattle.example_json.proofs.values.json.Goals as goal
 

@@ -3,7 +3,7 @@ use Rattle.nom_internal.proofs.Shown.{err_from_residual}
 use Rattle.nom_calls.specs.Func.{Answers}
 use Rattle.example_json.specs.Json.{json_of}
 use Rattle.example_json.proofs.Ended.{end_stops, ended, value_stops}
-use Rattle.example_json.proofs.Told.{taken, told}
+use Rattle.example_json.proofs.Results.{taken, told}
 use Rattle.example_json.proofs.values.json_text.Goals as goal
 
 pub returns-in_err-after : goal.returns-in_err-after

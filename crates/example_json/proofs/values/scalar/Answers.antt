@@ -3,7 +3,7 @@ use Rattle.nom.specs.grammars.Texts.{or_of}
 use Rattle.nom_internal.proofs.Shown.{err_from_residual}
 use Rattle.example_json.specs.Json.{string_of}
 use Rattle.example_json.specs.Scalars.{number_of, text_of, word_of}
-use Rattle.example_json.proofs.Told.{as_stops, as_told, first_tells, next_tells, refused, taken, told}
+use Rattle.example_json.proofs.Results.{as_stops, as_told, first_tells, next_tells, refused, taken, told}
 use Rattle.example_json.proofs.values.scalar.Goals as goal
 
 pub returns-then-not-is_refused : goal.returns-then-not-is_refused

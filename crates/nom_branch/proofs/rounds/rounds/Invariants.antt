@@ -1,7 +1,6 @@
 use Rattle.std.specs.Prelude.{◌≡◌, length, Result, Option}
 use Rattle.nom_internal.specs.Prelude.{Needed}
 use Rattle.nom_error.specs.declared.answer.Err as Answer
-use Rattle.nom_error.specs.declared.kind.ErrorKind.TheVariants as Kind
 use Rattle.nom_branch.specs.Rounds.{FlatOutput}
 use Rattle.nom_branch.proofs.Turns.{ShowsRounds}
 use Rattle.nom_branch.proofs.rounds.rounds.Given as goal
@@ -12,13 +11,11 @@ invariant-loop-slots g l = record {
   known : g.I.Items.model.IsKnown l.rest;
   reached : (t : g.N.Nested.Tree) × g.N.Nested.AreHeld g.OM.Output.Mode.BUILDS (g.N.Nested.state l.fn.members) t l.slots ×
       ((r : Result _ (Answer.Err _ (Option _) Needed)) →
-      ShowsRounds g.I.Items.model g.N.Error.ParseError.errors.joined (λ i. g.N.Error.ParseError.errors.appended i Kind.Permutation)
-      g.N.Error.ParseError.errors.grows (g.N.Nested.members (g.N.Nested.state l.fn.members))
+      ShowsRounds g.I.Items.model g.N.Error.ParseError.errors (g.N.Nested.members (g.N.Nested.state l.fn.members))
       (FlatOutput (g.N.Nested.AreOutputs (g.N.Nested.state l.fn.members)) g.N.Outputs.Flat.pairs)
       g.OM.Output.Mode.BUILDS g.OM.Error.Mode.BUILDS g.OM.Incomplete.IsStreaming.STREAMING
       (g.N.Nested.waiting l.slots) t l.rest r →
-      ShowsRounds g.I.Items.model g.N.Error.ParseError.errors.joined (λ i. g.N.Error.ParseError.errors.appended i Kind.Permutation)
-      g.N.Error.ParseError.errors.grows (g.N.Nested.members (g.N.Nested.state l.fn.members))
+      ShowsRounds g.I.Items.model g.N.Error.ParseError.errors (g.N.Nested.members (g.N.Nested.state l.fn.members))
       (FlatOutput (g.N.Nested.AreOutputs (g.N.Nested.state l.fn.members)) g.N.Outputs.Flat.pairs)
       g.OM.Output.Mode.BUILDS g.OM.Error.Mode.BUILDS g.OM.Incomplete.IsStreaming.STREAMING
       (length (g.N.Nested.members (g.N.Nested.state l.fn.members))) g.N.Nested.none l.fn.input r);

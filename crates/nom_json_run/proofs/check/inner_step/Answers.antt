@@ -1,12 +1,8 @@
-use Rattle.std.proofs.Common.{◌≡◌, ◌==◌, ◌∙◌, ◌∷◌, ◌≤◌, true, false, drop, reverse, arith, ap, subst, sym}
-use Rattle.std.specs.Prelude.{◌↔◌}
-use Rattle.nom_json_run.specs.Json.{JsonItem, JsonValue, after_spaces, begins, closing}
-use Rattle.nom_json_run.specs.Scans.{EndsNowhere}
-use Rattle.nom_json_run.specs.Walk.{ClosesAll, ClosesAfter}
-use Rattle.nom_json_run.proofs.Alike.{before, fails_map, first_there, for_all}
-use Rattle.nom_json_run.proofs.Firsts.{rest_at}
-use Rattle.nom_json_run.proofs.Strings.{both}
-use Rattle.nom_json_run.proofs.Walks.{closing_on, comma_in, key_on, neither, no_key}
+use Rattle.std.proofs.Common.{◌≡◌, ◌==◌, ◌∷◌, ◌≤◌, true, false, drop, reverse, arith, subst}
+use Rattle.nom_json_run.specs.Json.{begins, closing}
+use Rattle.nom_json_run.specs.Walk.{ClosesAll}
+use Rattle.nom_json_run.proofs.Alike.{byte_passed, first_there, for_all}
+use Rattle.nom_json_run.proofs.Walks.{closing_on, comma_on, item_goes, item_stops, neither}
 use Rattle.nom_json_run.proofs.check.inner_step.Goals as goal
 
 pub returns-then-byte_is : goal.returns-then-byte_is
@@ -17,14 +13,12 @@ returns-then-byte_is g c =
     let at = c.args.at in
     let stop = c.spaces.result in
     let f : begins c.closing_byte.result (drop at bytes) ≡ true = cc in
-    let e = subst (λ b. begins b (drop at bytes) ≡ true) c.closing_byte.ensures f in
-    let le : at ≤ stop = omega (arith, c.spaces.ensures.begins) in (
+    let e = subst (λ b. begins b (drop at bytes) ≡ true) c.closing_byte.ensures f in (
       omega (arith, c.spaces.ensures.begins),
       c.spaces.ensures.within,
       λ bs s.
-          let there = first_there (λ b. b == closing o) bytes bs at stop true le s e in
-          closing_on o inner (drop at bs) (drop stop bs) there
-          (c.spaces.ensures.follows bs s ∙ ap after_spaces (sym (rest_at (λ b. b == closing o) bs at there))),
+          let p = byte_passed (closing o) bytes at stop c.spaces.ensures.begins e c.spaces.ensures.follows bs s in
+          closing_on o inner (drop at bs) (drop stop bs) p.0 p.1,
     )
 
 pub returns-then-not-byte_is : goal.returns-then-not-byte_is
@@ -44,33 +38,28 @@ returns-then-not-byte_is g c =
           (first_there (λ b. b == 44) bytes bs at at false le s comma);
     })
 
-pub returns-in-Ok-key : goal.returns-in-Ok-key
-returns-in-Ok-key g c =
+pub returns-in-Ok : goal.returns-in-Ok
+returns-in-Ok g c =
     let bytes = c.args.bytes.now in
     let o = c.args.bracket in
     let inner = reverse c.args.open.now.items in
     let at = c.args.at in
-    let item = c.spaces-item.result in
-    let stop = c.in-Ok-key.stop in
-    let found = c.in-Ok-key.ensures.ok in
-    let e : begins 44 (drop at bytes) ≡ true = cc in (
-      omega (arith, c.spaces-item.ensures.begins, found.begins),
-      found.within,
-      λ bs s. subst (λ xs. ClosesAll (o ∷ inner) (drop at bs) ↔ ClosesAfter (JsonValue (drop stop bs)) xs) (sym c.in-Ok.ensures.pushed)
-          (both (comma_in o inner bytes at item c.spaces-item.ensures.begins e c.spaces-item.ensures.follows bs (before bytes bs item stop found.begins s))
-          (key_on o (o ∷ inner) (drop item bs) (drop stop bs) (found.same bs s))),
-    )
-
-pub returns-in-Err-key : goal.returns-in-Err-key
-returns-in-Err-key g c =
-    let bytes = c.args.bytes.now in
-    let o = c.args.bracket in
-    let inner = reverse c.args.open.now.items in
-    let at = c.args.at in
-    let item = c.spaces-item.result in
+    let item = c.spaces-item in
     let e : begins 44 (drop at bytes) ≡ true = cc in
-    for_all bytes (λ i. ClosesAll (o ∷ inner) i → ⊥) at c.in-Err-key.fault (
-    fails_map bytes (λ i. EndsNowhere (JsonItem o i)) (λ i. ClosesAll (o ∷ inner) i → ⊥) at item c.in-Err-key.fault
-    (omega (arith, c.spaces-item.ensures.begins))
-    (λ bs s none h. no_key o (o ∷ inner) (drop item bs) none
-    ((comma_in o inner bytes at item c.spaces-item.ensures.begins e c.spaces-item.ensures.follows bs s).0 h)) c.in-Err-key.ensures.err)
+    item_goes bytes (ClosesAll (o ∷ inner)) o inner _ at item.result c.in-Ok.stop (omega (arith, item.ensures.begins)) c.in_ok-push.ensures.pushed
+    (λ bs s.
+    let p = byte_passed 44 bytes at item.result item.ensures.begins e item.ensures.follows bs s in
+    comma_on o inner (drop at bs) (drop item.result bs) p.0 p.1) c.in-Ok.ensures.ok
+
+pub returns-in-Err : goal.returns-in-Err
+returns-in-Err g c =
+    let bytes = c.args.bytes.now in
+    let o = c.args.bracket in
+    let inner = reverse c.args.open.now.items in
+    let at = c.args.at in
+    let item = c.spaces-item in
+    let e : begins 44 (drop at bytes) ≡ true = cc in
+    item_stops bytes (ClosesAll (o ∷ inner)) o inner at item.result c.in-Err.fault (omega (arith, item.ensures.begins))
+    (λ bs s.
+    let p = byte_passed 44 bytes at item.result item.ensures.begins e item.ensures.follows bs s in
+    comma_on o inner (drop at bs) (drop item.result bs) p.0 p.1) c.in-Err.ensures.err

@@ -1,9 +1,8 @@
-use Rattle.std.proofs.Common.{◌≡◌, ◌==◌, ◌≤◌, ◌∙◌, true, false, drop, arith, ap, sym}
-use Rattle.nom_json_run.specs.Json.{JsonItem, JsonString, after_spaces, begins}
+use Rattle.std.proofs.Common.{◌≡◌, ◌==◌, ◌≤◌, true, false, drop, arith}
+use Rattle.nom_json_run.specs.Json.{JsonItem, JsonString, begins}
 use Rattle.nom_json_run.specs.Scans.{EndsNowhere}
 use Rattle.nom_json_run.specs.declared.bracket.Bracket.TheVariants.{Object}
-use Rattle.nom_json_run.proofs.Alike.{before, fails_map, first_there}
-use Rattle.nom_json_run.proofs.Firsts.{rest_at}
+use Rattle.nom_json_run.proofs.Alike.{before, byte_passed, fails_map, first_there}
 use Rattle.nom_json_run.proofs.Values.{member_no_colon, member_no_name, member_same, string_no}
 use Rattle.nom_json_run.proofs.check.member_name.Goals as goal
 
@@ -24,16 +23,16 @@ returns-then-byte_is-clause-ok c =
     let bytes = c.args.bytes.now in
     let at = c.args.at in
     let colon = c.in-Ok.colon in
-    let found = c.in-Ok.ensures.ok in
+    let found = c.in-Ok.ensures.scans in
+    let stop = c.spaces.result in
     let e : begins 58 (drop colon bytes) ≡ true = cc in
-    let le : colon ≤ c.spaces.result = omega (arith, c.spaces.ensures.begins) in
+    let le : colon ≤ stop = omega (arith, c.spaces.ensures.begins) in
     record {
       begins = omega (arith, found.begins, c.spaces.ensures.begins);
       within = c.spaces.ensures.within;
       same = λ bs s.
-          let f = first_there (λ b. b == 58) bytes bs colon c.spaces.result true le s e in
-          member_same (drop at bs) (drop colon bs) (drop c.spaces.result bs) (found.ends bs (before bytes bs colon c.spaces.result le s)) f
-          (c.spaces.ensures.follows bs s ∙ ap after_spaces (sym (rest_at (λ b. b == 58) bs colon f)));
+          let p = byte_passed 58 bytes colon stop c.spaces.ensures.begins e c.spaces.ensures.follows bs s in
+          member_same (drop at bs) (drop colon bs) (drop stop bs) (found.ends bs (before bytes bs colon stop le s)) p.0 p.1;
     }
 
 pub returns-else-byte_is-clause-err : goal.returns-else-byte_is-clause-err
@@ -41,11 +40,11 @@ returns-else-byte_is-clause-err c =
     let bytes = c.args.bytes.now in
     let at = c.args.at in
     let colon = c.in-Ok.colon in
-    let found = c.in-Ok.ensures.ok in
+    let found = c.in-Ok.ensures.scans in
     let e : begins 58 (drop colon bytes) ≡ false = cc in
     let le : colon ≤ colon = omega arith in
     record {
-      begins = omega (arith, found.begins);
+      begins = found.begins;
       within = found.within;
       fails = λ bs s. member_no_colon (drop at bs) (drop colon bs) (found.ends bs s) (first_there (λ b. b == 58) bytes bs colon colon false le s e);
     }
@@ -55,4 +54,4 @@ returns-in-Err-clause-err c =
     let at = c.args.at in
     let le : at ≤ at = omega arith in
     fails_map c.args.bytes.now (λ i. EndsNowhere (JsonString i)) (λ i. EndsNowhere (JsonItem Object i)) at at c.in-Err.fault le
-    (λ bs s h. member_no_name (drop at bs) h) c.in-Err.ensures.err
+    (λ bs s h. member_no_name (drop at bs) h) c.in-Err.ensures.scans

@@ -1,30 +1,31 @@
-use Rattle.std.proofs.Common.{◌≡◌, ◌≤◌, None, drop, arith}
-use Rattle.nom_json_run.specs.Json.{JsonValue, after_word}
+use Rattle.std.proofs.Common.{◌≤◌, drop, arith}
+use Rattle.nom_json_run.specs.Json.{JsonValue, Leaves, Spaced, after_word}
 use Rattle.nom_json_run.specs.Scans.{EndsNowhere}
-use Rattle.nom_json_run.proofs.Alike.{before, fails_for_map, word_there}
-use Rattle.nom_json_run.proofs.Values.{named_none, named_only, named_some}
+use Rattle.nom_json_run.proofs.Alike.{ends_map, fails_for_map, spaced, word_there}
+use Rattle.nom_json_run.proofs.Values.{named_some, word_same}
 use Rattle.nom_json_run.proofs.check.named.Goals as goal
 
-pub returns-in-Ok-clause-ok : goal.returns-in-Ok-clause-ok
-returns-in-Ok-clause-ok c =
-    let bytes = c.args.bytes.now in
-    let at = c.args.at in
-    let word = c.args.wanted.now in
-    let some = named_some word (drop at bytes) c.requires in
-    let le : at ≤ c.spaces.result = omega (arith, c.in-Ok.ensures.length, c.spaces.ensures.begins) in
-    record {
-      begins = omega (arith, some, c.in-Ok.ensures.length, c.spaces.ensures.begins);
-      within = c.spaces.ensures.within;
-      ends = λ bs s. named_only word (drop at bs) (drop c.in-Ok.stop bs) (drop c.spaces.result bs)
-          (word_there bytes bs word at c.spaces.result le s c.requires)
-          (c.in-Ok.ensures.ok.follows bs (before bytes bs c.in-Ok.stop c.spaces.result c.spaces.ensures.begins s)) (c.spaces.ensures.follows bs s);
-    }
+pub returns-in-Ok-clause-some : goal.returns-in-Ok-clause-some
+returns-in-Ok-clause-some c = omega (arith, named_some c.args.wanted.now _ c.requires, c.in-Ok.ensures.length, c.spaces.ensures.begins)
 
-pub returns-in-Err-clause-err : goal.returns-in-Err-clause-err
-returns-in-Err-clause-err c =
+pub returns-in-Ok-clause-scans : goal.returns-in-Ok-clause-scans
+returns-in-Ok-clause-scans c =
     let bytes = c.args.bytes.now in
     let at = c.args.at in
     let word = c.args.wanted.now in
-    let le : at ≤ at = omega arith in
-    fails_for_map bytes (λ i. after_word word i ≡ None) (λ i. EndsNowhere (JsonValue i)) at at c.in-Err.fault le
-    (λ bs s h. named_none word (drop at bs) (word_there bytes bs word at at le s c.requires) h) c.in-Err.ensures.err
+    let here : at ≤ at = omega arith in
+    ends_map bytes (Spaced (Leaves (after_word word))) JsonValue at at c.spaces.result here
+    (λ bs s. word_same word (drop at bs) (word_there bytes bs word at at here s c.requires))
+    (spaced bytes (Leaves (after_word word)) at c.in-Ok.stop c.spaces.result c.in-Ok.ensures.scans c.spaces.ensures.begins c.spaces.ensures.within
+    c.spaces.ensures.follows)
+
+pub returns-in-Err-clause-scans : goal.returns-in-Err-clause-scans
+returns-in-Err-clause-scans c =
+    let bytes = c.args.bytes.now in
+    let at = c.args.at in
+    let word = c.args.wanted.now in
+    let here : at ≤ at = omega arith in
+    fails_for_map bytes (λ i. EndsNowhere (Leaves (after_word word) i)) (λ i. EndsNowhere (JsonValue i)) at at c.in-Err.fault here
+    (λ bs s none r v.
+    let f = (word_same word (drop at bs) (word_there bytes bs word at at here s c.requires) r).0 v in
+    none f.0 f.1) c.in-Err.ensures.scans

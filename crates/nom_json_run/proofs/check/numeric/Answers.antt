@@ -1,29 +1,28 @@
-use Rattle.std.proofs.Common.{◌≡◌, ◌==◌, ◌≤◌, None, false, drop, arith}
-use Rattle.nom_json_run.specs.Json.{JsonValue, after_number}
+use Rattle.std.proofs.Common.{◌≤◌, false, drop, arith}
+use Rattle.nom_json_run.specs.Json.{JsonValue, Leaves, Spaced, after_number}
 use Rattle.nom_json_run.specs.Scans.{EndsNowhere}
-use Rattle.nom_json_run.proofs.Alike.{before, fails_map, first_there, same_place}
-use Rattle.nom_json_run.proofs.Values.{number_only, value_none}
+use Rattle.nom_json_run.specs.Walk.{is_mark}
+use Rattle.nom_json_run.proofs.Alike.{ends_map, fails_map, first_there, same_place, spaced}
+use Rattle.nom_json_run.proofs.Values.{number_same}
 use Rattle.nom_json_run.proofs.check.numeric.Goals as goal
 
-pub returns-in-Ok-clause-ok : goal.returns-in-Ok-clause-ok
-returns-in-Ok-clause-ok c =
+pub returns-in-Ok-clause-scans : goal.returns-in-Ok-clause-scans
+returns-in-Ok-clause-scans c =
     let bytes = c.args.bytes.now in
     let at = c.args.at in
-    record {
-      begins = omega (arith, c.in-Ok.ensures.some, c.spaces.ensures.begins);
-      within = c.spaces.ensures.within;
-      ends = λ bs s. number_only (drop at bs) (drop c.in-Ok.stop bs) (drop c.spaces.result bs)
-          (c.in-Ok.ensures.ok.follows bs (before bytes bs c.in-Ok.stop c.spaces.result c.spaces.ensures.begins s)) (c.spaces.ensures.follows bs s);
-    }
+    let here : at ≤ at = omega arith in
+    ends_map bytes (Spaced (Leaves after_number)) JsonValue at at c.spaces.result here
+    (λ bs s. number_same (drop at bs) (first_there is_mark bytes bs at at false here s c.requires.other))
+    (spaced bytes (Leaves after_number) at c.in-Ok.stop c.spaces.result c.in-Ok.ensures.scans c.spaces.ensures.begins c.spaces.ensures.within
+    c.spaces.ensures.follows)
 
-pub returns-in-Err-clause-err : goal.returns-in-Err-clause-err
-returns-in-Err-clause-err c =
+pub returns-in-Err-clause-scans : goal.returns-in-Err-clause-scans
+returns-in-Err-clause-scans c =
     let bytes = c.args.bytes.now in
     let at = c.args.at in
-    let le : at ≤ at = omega arith in
+    let here : at ≤ at = omega arith in
     same_place bytes (λ i. EndsNowhere (JsonValue i)) at c.in-Err.fault c.value_fault.result c.value_fault.ensures (
-    fails_map bytes (λ i. after_number i ≡ None) (λ i. EndsNowhere (JsonValue i)) at at c.in-Err.fault le
-    (λ bs s h. value_none (drop at bs) (first_there (λ b. b == 34) bytes bs at at false le s c.requires.quote)
-    (first_there (λ b. b == 116) bytes bs at at false le s c.requires.truth) (first_there (λ b. b == 102) bytes bs at at false le s c.requires.untruth)
-    (first_there (λ b. b == 110) bytes bs at at false le s c.requires.nothing) (first_there (λ b. b == 91) bytes bs at at false le s c.requires.array)
-    (first_there (λ b. b == 123) bytes bs at at false le s c.requires.object) h) c.in-Err.ensures.err)
+    fails_map bytes (λ i. EndsNowhere (Leaves after_number i)) (λ i. EndsNowhere (JsonValue i)) at at c.in-Err.fault here
+    (λ bs s none r v.
+    let f = (number_same (drop at bs) (first_there is_mark bytes bs at at false here s c.requires.other) r).0 v in
+    none f.0 f.1) c.in-Err.ensures.scans)

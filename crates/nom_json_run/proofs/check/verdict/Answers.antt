@@ -1,7 +1,6 @@
 use Rattle.std.proofs.Common.{◌≤◌, arith, refl, reverse, subst}
 use Rattle.nom_json_run.specs.Walk.{FinishesText, Stepped}
-use Rattle.nom_json_run.proofs.Alike.{before}
-use Rattle.nom_json_run.proofs.Strings.{both}
+use Rattle.nom_json_run.proofs.Alike.{before, both}
 use Rattle.nom_json_run.proofs.check.verdict.Goals as goal
 
 pub steps-preserved : goal.steps-preserved
@@ -10,7 +9,7 @@ steps-preserved g c =
     let at = c.steps.at in
     let stop = c.in-Go.stop in
     let went = subst (Stepped bytes (FinishesText c.steps.awaits (reverse c.steps.open.items)) at (reverse c.step.new.open.items)) c.in-Go.is
-    c.in-Ok.ensures in
+    c.in_ok-stop.ensures in
     let le : at ≤ stop = omega (arith, went.0) in
     record { within = went.1; same = λ bs s. both (c.steps.invariant.same bs (before bytes bs at stop le s)) (went.2 bs s) }
 
@@ -20,7 +19,7 @@ returns-in-Stop g c =
     let at = c.steps.at in
     let fault = c.in-Stop.fault in
     let stopped = subst (Stepped bytes (FinishesText c.steps.awaits (reverse c.steps.open.items)) at (reverse c.step.new.open.items)) c.in-Stop.is
-    c.in-Ok.ensures in
+    c.in_ok-stop.ensures in
     record {
       within = stopped.within;
       here = λ v. stopped.here ((c.steps.invariant.same bytes refl).0 v);

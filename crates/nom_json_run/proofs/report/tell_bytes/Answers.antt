@@ -3,16 +3,13 @@ use Rattle.nom_report.specs.Octets.{octets_report}
 use Rattle.nom_json_run.proofs.Wanted.{all_after}
 use Rattle.nom_json_run.proofs.report.tell_bytes.Goals as goal
 
-pub returns-in-Ok-render_bytes : goal.returns-in-Ok-render_bytes
-returns-in-Ok-render_bytes g c = (
-  refl,
-  record {
-    source = c.args.bytes;
-    source_is = refl;
-    place = _;
-    place_is = all_after c.args.bytes.now c.args.at;
-    error = c.in-Ok.error;
-    wants = c.in-Ok.ensures;
-    text_is = c.in-Ok-render_bytes.ensures ∙ ap (λ xs. xs ++ octets_report c.args.name.now c.args.bytes c.in-Ok.error) c.new-out.ensures.bytes;
-  },
-)
+pub returns : goal.returns
+returns g c = record {
+  source = c.args.bytes;
+  source_is = refl;
+  place = _;
+  place_is = all_after c.args.bytes.now c.args.at;
+  error = c.in_ok-error.error;
+  wants = c.in_ok-error.ensures;
+  text_is = c.in_ok-render_bytes.ensures ∙ ap (λ xs. xs ++ octets_report c.args.name.now c.args.bytes c.in_ok-error.error) c.new-out.ensures.bytes;
+}

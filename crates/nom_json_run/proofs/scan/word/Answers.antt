@@ -1,6 +1,6 @@
 use Rattle.std.proofs.Common.{◌≡◌, ◌+◌, ◌<◌, ◌≤◌, ◌==◌, true, false, drop, length, slice_index, arith, ◌∙◌, refl, sym}
-use Rattle.nom_json_run.specs.Json.{begins}
-use Rattle.nom_json_run.proofs.Alike.{before, first_there}
+use Rattle.nom_json_run.specs.Json.{after_word, begins}
+use Rattle.nom_json_run.proofs.Alike.{before, first_there, none_some, reads}
 use Rattle.nom_json_run.proofs.Firsts.{first_within, word_end, word_start, word_step, word_stop}
 use Rattle.nom_json_run.proofs.scan.word.Goals as goal
 
@@ -26,8 +26,8 @@ loop-at-preserved c =
           ∙ c.loop-at.invariant.same bs (before bytes bs (start + k) (start + (k + 1)) next s);
     }
 
-pub returns-then-not-byte_is-clause-err : goal.returns-then-not-byte_is-clause-err
-returns-then-not-byte_is-clause-err c =
+pub returns-then-not-byte_is-clause-scans : goal.returns-then-not-byte_is-clause-scans
+returns-then-not-byte_is-clause-scans c =
     let bytes = c.args.bytes.now in
     let start = c.args.start in
     let w = c.as_bytes-text.result.now in
@@ -37,18 +37,15 @@ returns-then-not-byte_is-clause-err c =
     record {
       begins = omega arith;
       within = c.requires;
-      here = sym (c.loop-at.invariant.same bytes refl) ∙ word_stop w bytes start k more e;
-      fails = λ bs s m. m;
+      here = λ r. none_some _ r (sym (c.loop-at.invariant.same bytes refl) ∙ word_stop w bytes start k more e);
+      fails = λ bs s m r. none_some _ r m;
     }
 
-pub returns-clause-ok : goal.returns-clause-ok
-returns-clause-ok c =
+pub returns-clause-scans : goal.returns-clause-scans
+returns-clause-scans c =
     let start = c.args.start in
     let w = c.as_bytes-text.result.now in
     let k = c.loop-at.at in
     let all : length w ≤ k = omega arith in
-    record {
-      begins = omega arith;
-      within = c.loop-at.invariant.within;
-      follows = λ bs s. sym (c.loop-at.invariant.same bs s) ∙ word_end w bs start k all;
-    }
+    reads c.args.bytes.now (after_word c.args.wanted.now) start (start + k) (omega arith) c.loop-at.invariant.within
+    (λ bs s. sym (c.loop-at.invariant.same bs s) ∙ word_end w bs start k all)

@@ -8,7 +8,7 @@ use Rattle.nom_repeat.proofs.Parts.{shown_at}
 use Rattle.nom_repeat.specs.Accumulated.{Accumulated}
 use Rattle.nom_repeat.specs.Bounds.{any_limits}
 use Rattle.nom_repeat.specs.Items.{items_meaning}
-use Rattle.nom_operators.specs.Steps.{IsNested}
+use Rattle.nom_operators.specs.Steps.{HasOutermost}
 use Rattle.nom_operators.specs.declared.operation.Operation.{Operation}
 use Rattle.nom_language.specs.helpers.Accumulated.{PairPushes}
 use Rattle.nom_language.specs.Precedences.{PrefixesWait, operator_and_term_meaning}
@@ -25,7 +25,7 @@ Accumulator g = Evaluation g.row.P.Denot g.row.Q.Denot g.row.B.Denot g.row.O.Den
 abbrev CanPush : (g : given.Over) → Accumulator g → Type 0
 CanPush g k =
     IsSome k.waiting.partial
-    × IfSome k.waiting.partial (λ r. IsNested r.innermost k.waiting.outer.items)
+    × IfSome k.waiting.partial (λ r. HasOutermost r.innermost k.waiting.outer.items)
     × ((x : Operation g.row.P.Denot g.row.Q.Denot g.row.B.Denot g.row.O.Denot) → g.G.Fn.pre k.fold.now (x, tt))
 
 pub returns-in_err-rest-clause-shown : goal.returns-in_err-rest-clause-shown

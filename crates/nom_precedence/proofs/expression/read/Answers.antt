@@ -3,7 +3,7 @@ use Rattle.nom.proofs.Choices.{shown_map}
 use Rattle.nom.proofs.Parts.{shown_as}
 use Rattle.nom.proofs.Shown.{built_error, then_err}
 use Rattle.nom_operators.specs.Groups.{groups_left}
-use Rattle.nom_precedence.specs.Told.{pair_by, pairs_by, term_by}
+use Rattle.nom_precedence.specs.Readings.{pair_by, pairs_by, term_by}
 use Rattle.nom_precedence.specs.Values.{folding}
 use Rattle.nom_precedence.proofs.OperatorShown.{closed_read}
 use Rattle.nom_precedence.proofs.ReadShown.{at_states, first_stuck, first_whole, item_of, kept_three, read_more, told_ok}

@@ -3,7 +3,7 @@ use Rattle.nom.specs.Prelude.{Built, input_len}
 use Rattle.nom_operators.specs.Groups.{groups_left}
 use Rattle.nom_operators.specs.declared.operation.Operation.TheVariants.{Binary}
 use Rattle.nom_precedence.specs.Expressions.{Pair, Term}
-use Rattle.nom_precedence.specs.Told.{AreKept, Reading, pair_by, term_by}
+use Rattle.nom_precedence.specs.Readings.{AreKept, Reading, pair_by, term_by}
 use Rattle.nom_precedence.proofs.ChainShown.{Chain}
 use Rattle.nom_precedence.proofs.HeldShown.{HasRun}
 use Rattle.nom_precedence.proofs.pairs.pairs.Given as goal

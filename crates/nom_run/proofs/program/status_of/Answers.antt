@@ -1,4 +1,4 @@
-use Rattle.nom_run.specs.Told.Told.{Fault}
+use Rattle.nom_run.specs.Reporting.WritesReport.{Fault}
 use Rattle.nom_run.proofs.Ended.{not_write, told}
 use Rattle.nom_run.proofs.program.status_of.Goals as goal
 

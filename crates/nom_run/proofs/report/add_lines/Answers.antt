@@ -1,5 +1,5 @@
 use Rattle.std.proofs.Common.{◌++◌, ◌∙◌, ap, string_bytes}
-use Rattle.nom_run.proofs.Told.{lines-step, lines-all}
+use Rattle.nom_run.proofs.JoinedLines.{lines-step, lines-all}
 use Rattle.nom_run.proofs.report.add_lines.Goals as goal
 
 pub loop-item-preserved : goal.loop-item-preserved

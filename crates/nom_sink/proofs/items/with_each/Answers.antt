@@ -10,38 +10,25 @@ loop-item-init g c = record {
 }
 
 pub loop-item-preserved : goal.loop-item-preserved
-loop-item-preserved g c =
-    let m = g.S.Sink.model in
-    record {
-      so_far = one_added _ _ m.lack c.args.args.1.now c.loop-item.item-index c.item-item.result
-          c.loop-item-test.true c.item-item.is (m.items c.args.out) (m.items c.loop-item.out) (m.items c.put_one.new.out)
-          c.loop-item.invariant.so_far c.in-Ok.ensures.written;
-      room = omega (arith, c.loop-item.invariant.room, c.in-Ok.ensures.room);
-      loan = c.in-Ok.ensures.loan ∙ c.loop-item.invariant.loan;
-    }
+loop-item-preserved g c = record {
+  so_far = one_added _ _ _ _ _ _ c.loop-item-test.true c.item-item.is _ _ _ c.loop-item.invariant.so_far c.in-Ok.ensures.written;
+  room = omega (arith, c.loop-item.invariant.room, c.in-Ok.ensures.room);
+  loan = c.in-Ok.ensures.loan ∙ c.loop-item.invariant.loan;
+}
 
 pub returns-in-Err-clause-written : goal.returns-in-Err-clause-written
 returns-in-Err-clause-written g c =
-    let m = g.S.Sink.model in
     let i = c.loop-item.invariant in
     let w = c.in-Err.ensures.written in (
-      undone c.len-start.result (m.items c.args.out) i.so_far.added (m.items c.loop-item.out) (m.items c.put_one.new.out)
-          (m.items c.truncate.new.self) c.len-start.ensures i.so_far.whole w.0 c.truncate.ensures.items,
-      (
-        w.1.0,
-        omega (arith, i.room, w.1.1),
-        one_fails _ _ m.lack c.args.args.1.now
-            c.loop-item.item-index c.item-item.result c.loop-item-test.true c.item-item.is (m.items c.args.out) (m.items c.loop-item.out)
-            i.so_far w.1.0 c.in-Err.error w.1.2,
-      ),
+      undone _ _ i.so_far.added _ _ _ c.len-start.ensures i.so_far.whole w.0 c.truncate.ensures.items,
+      (w.1.0, omega (arith, i.room, w.1.1), one_fails _ _ _ _ _ _ c.loop-item-test.true c.item-item.is _ _ i.so_far w.1.0 _ w.1.2),
     )
 
 pub returns-in-Err-clause-room : goal.returns-in-Err-clause-room
 returns-in-Err-clause-room g c = omega (arith, c.loop-item.invariant.room, c.in-Err.ensures.room, c.truncate.ensures.room)
 
 pub returns-clause-written : goal.returns-clause-written
-returns-clause-written g c = let m = g.S.Sink.model in all_added _ _ m.lack c.args.args.1.now c.loop-item.item-index
-    c.loop-item-test.false (m.items c.args.out) (m.items c.loop-item.out) c.loop-item.invariant.so_far
+returns-clause-written g c = all_added _ _ _ _ _ c.loop-item-test.false _ _ c.loop-item.invariant.so_far
 
 pub returns-clause-room : goal.returns-clause-room
 returns-clause-room g c = c.loop-item.invariant.room

@@ -17,9 +17,7 @@ pub loop-c-preserved : goal.loop-c-preserved
 loop-c-preserved g c = record {
   can = search rules;
   finite = search rules;
-  on_way = text_goes_on c.args.text.now c.loop-c.c-iterator.rest.now c.next.new.self.rest.now (g.S.Sink.model.items c.args.out.now)
-      (g.S.Sink.model.items c.loop-c.out) (g.S.Sink.model.items c.add.new.self) c.in-Some.c c.loop-c.invariant.on_way c.in-Some.ensures.steps.0
-      c.in-Ok.ensures.written;
+  on_way = text_goes_on _ _ _ _ _ _ c.in-Some.c c.loop-c.invariant.on_way c.in-Some.ensures.steps.0 c.in-Ok.ensures.written;
   room = omega (arith, c.loop-c.invariant.room, c.in-Ok.ensures.room);
   loan = c.in-Ok.ensures.loan ∙ c.loop-c.invariant.loan;
 }
@@ -34,12 +32,10 @@ returns-in-Err-clause-written g c =
         omega (arith, i.room, w.1.1),
         (
           w.1.2.0,
-          text_room c.args.text.now c.loop-c.c-iterator.rest.now c.next.new.self.rest.now (g.S.Sink.model.items c.args.out.now)
-              (g.S.Sink.model.items c.loop-c.out) c.in-Some.c w.1.0 i.on_way c.in-Some.ensures.steps.0 w.1.2.1,
+          text_room _ _ _ _ _ c.in-Some.c w.1.0 i.on_way c.in-Some.ensures.steps.0 w.1.2.1,
         ),
       ),
     )
 
 pub returns-clause-written : goal.returns-clause-written
-returns-clause-written g c = text_done c.args.text.now c.loop-c.c-iterator.rest.now (g.S.Sink.model.items c.args.out.now)
-    (g.S.Sink.model.items c.loop-c.out) c.loop-c.invariant.on_way c.in-None.ensures.steps.0.0
+returns-clause-written g c = text_done _ _ _ _ c.loop-c.invariant.on_way c.in-None.ensures.steps.0.0

@@ -7,9 +7,7 @@ pub place_after-place-requires : goal.place_after-place-requires
 place_after-place-requires g c = subst IsUtf8 (sym c.as_slice.ensures.value) c.requires
 
 pub returns-clause-valid : goal.returns-clause-valid
-returns-clause-valid g c = (kept c.args.bytes.now.items c.as_slice.result.now c.truncate.new.self.items c.args.count c.place_after-place.result c.requires
-    c.as_slice.ensures.value c.place_after-place.ensures c.truncate.ensures.items).valid
+returns-clause-valid g c = (kept _ _ _ _ _ c.requires c.as_slice.ensures.value c.place_after-place.ensures c.truncate.ensures.items).valid
 
 pub returns-clause-chars : goal.returns-clause-chars
-returns-clause-chars g c = (kept c.args.bytes.now.items c.as_slice.result.now c.truncate.new.self.items c.args.count c.place_after-place.result c.requires
-    c.as_slice.ensures.value c.place_after-place.ensures c.truncate.ensures.items).chars_are
+returns-clause-chars g c = (kept _ _ _ _ _ c.requires c.as_slice.ensures.value c.place_after-place.ensures c.truncate.ensures.items).chars_are

@@ -11,16 +11,13 @@ place_after-to-requires g c = subst IsUtf8 (sym c.as_slice-2.ensures.value) c.re
 
 pub move_behind-requires : goal.move_behind-requires
 move_behind-requires g c =
-    let fit = places_fit c.args.bytes.now.items c.as_slice.result.now c.as_slice-2.result.now c.args.start c.args.middle c.place_after-from.result
-    c.place_after-to.result c.requires.valid c.as_slice.ensures.value c.as_slice-2.ensures.value c.requires.start c.place_after-from.ensures
-    c.place_after-to.ensures in record { start = fit.0; middle = fit.1 }
+    let fit = places_fit _ _ _ _ _ _ _ c.requires.valid c.as_slice.ensures.value c.as_slice-2.ensures.value c.requires.start
+    c.place_after-from.ensures c.place_after-to.ensures in record { start = fit.0; middle = fit.1 }
 
 pub returns-clause-valid : goal.returns-clause-valid
-returns-clause-valid g c = (moved_spells c.args.bytes.now.items c.as_slice.result.now c.as_slice-2.result.now c.move_behind.new.self.items c.args.start
-    c.args.middle c.place_after-from.result c.place_after-to.result c.requires.valid c.as_slice.ensures.value c.as_slice-2.ensures.value c.requires.start
+returns-clause-valid g c = (moved_spells _ _ _ _ _ _ _ _ c.requires.valid c.as_slice.ensures.value c.as_slice-2.ensures.value c.requires.start
     c.place_after-from.ensures c.place_after-to.ensures c.move_behind.ensures.items).valid
 
 pub returns-clause-chars : goal.returns-clause-chars
-returns-clause-chars g c = (moved_spells c.args.bytes.now.items c.as_slice.result.now c.as_slice-2.result.now c.move_behind.new.self.items c.args.start
-    c.args.middle c.place_after-from.result c.place_after-to.result c.requires.valid c.as_slice.ensures.value c.as_slice-2.ensures.value c.requires.start
+returns-clause-chars g c = (moved_spells _ _ _ _ _ _ _ _ c.requires.valid c.as_slice.ensures.value c.as_slice-2.ensures.value c.requires.start
     c.place_after-from.ensures c.place_after-to.ensures c.move_behind.ensures.items).chars_are

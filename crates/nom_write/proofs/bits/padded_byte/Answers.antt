@@ -5,21 +5,13 @@ use Rattle.nom_write.proofs.Packed.{all_read, byte_of_bits, read_bit}
 use Rattle.nom_write.proofs.bits.padded_byte.Goals as goal
 
 pub overflow_mul-value : goal.overflow_mul-value
-overflow_mul-value c = omega (
-  arith,
-  (read_bit c.loop-bit.value c.loop-bit.bit-index c.args.bits.now c.requires.count c.loop-bit-test.true
-      c.loop-bit.invariant).0,
-)
+overflow_mul-value c = omega (arith, (read_bit c.loop-bit.value _ _ c.requires.count c.loop-bit-test.true c.loop-bit.invariant).0)
 
 pub overflow_add-value : goal.overflow_add-value
-overflow_add-value c = omega (
-  arith,
-  (read_bit c.loop-bit.value c.loop-bit.bit-index c.args.bits.now c.requires.count c.loop-bit-test.true
-      c.loop-bit.invariant).0,
-)
+overflow_add-value c = omega (arith, (read_bit c.loop-bit.value _ _ c.requires.count c.loop-bit-test.true c.loop-bit.invariant).0)
 
 pub loop-bit-preserved : goal.loop-bit-preserved
-loop-bit-preserved c = (read_bit c.loop-bit.value c.loop-bit.bit-index c.args.bits.now c.requires.count c.loop-bit-test.true c.loop-bit.invariant).1
+loop-bit-preserved c = (read_bit _ _ _ c.requires.count c.loop-bit-test.true c.loop-bit.invariant).1
 
 pub returns : goal.returns
 returns c =

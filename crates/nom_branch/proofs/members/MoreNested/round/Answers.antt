@@ -9,14 +9,10 @@ use Rattle.nom_branch.proofs.Wider.{others_tried}
 use Rattle.nom_branch.proofs.members.MoreNested.round.Goals as goal
 
 pub round-round-requires : goal.round-round-requires
-round-round-requires g c =
-    let p = c.args.self.now in
-    others_run (g.A.Parser.grammar (g.A.Parser.state p.member)).meaning (g.M.Nested.members (g.M.Nested.state p.others)) c.requires
+round-round-requires g c = others_run _ _ c.requires
 
 pub try_slot-requires : goal.try_slot-requires
-try_slot-requires g c =
-    let p = c.args.self.now in
-    last_runs (g.A.Parser.grammar (g.A.Parser.state p.member)).meaning (g.M.Nested.members (g.M.Nested.state p.others)) c.requires
+try_slot-requires g c = last_runs _ _ c.requires
 
 pub returns-clause-shown : goal.returns-clause-shown
 returns-clause-shown g c t h =

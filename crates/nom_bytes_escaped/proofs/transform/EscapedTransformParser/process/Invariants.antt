@@ -8,9 +8,9 @@ invariant-loop-text g l = record {
   normal_kept : g.F.Parser.state l.self.normal ≡ g.F.Parser.state l.fn.self.normal;
   control_kept : l.self.control_char ≡ l.fn.self.control_char;
   transform_kept : g.G.Parser.state l.self.transform ≡ g.G.Parser.state l.fn.self.transform;
-  collected : Gathered g.I.Items.model (λ x. g.C.Value.code x ≡ l.fn.self.control_char) (g.F.Parser.grammar (g.F.Parser.state l.fn.self.normal)).meaning
-      (g.G.Parser.grammar (g.G.Parser.state l.fn.self.transform)).meaning (g.F.Parser.grammar (g.F.Parser.state l.fn.self.normal)).IsOutput
-      (g.G.Parser.grammar (g.G.Parser.state l.fn.self.transform)).IsOutput g.F.Output.ExtendInto.added g.G.Output.ExtendInto.added g.X.Builder.parts
+  collected : Gathered g.I.Items.model g.F.Error.ParseError.errors (λ x. g.C.Value.code x ≡ l.fn.self.control_char)
+      (g.F.Parser.grammar (g.F.Parser.state l.fn.self.normal)) (g.G.Parser.grammar (g.G.Parser.state l.fn.self.transform))
+      g.F.Output.ExtendInto.added g.G.Output.ExtendInto.added g.X.Builder.parts
       (modes g.OM.Output.Mode.BUILDS g.OM.Error.Mode.BUILDS g.OM.Incomplete.IsStreaming.STREAMING) l.fn.input l.rest l.text;
 }
 

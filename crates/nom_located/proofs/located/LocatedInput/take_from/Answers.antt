@@ -2,7 +2,7 @@ use Rattle.std.proofs.Common.{arith, ap, length, subst, sym, ◌∙◌}
 use Rattle.nom_traits.specs.Rests.{items_len-append}
 use Rattle.nom_traits.specs.Input.{items_len, input_len}
 use Rattle.nom_search.specs.Reads.{bytes_length}
-use Rattle.nom_located.specs.Located.{Fits, located, place}
+use Rattle.nom_located.specs.Located.{FitsPlace, located, place}
 use Rattle.nom_located.specs.laws.LocatedLaws.{located_fitting, place_after}
 use Rattle.nom_located.specs.laws.MovingLaws.{fits_front, fits_rest, rest_moving}
 use Rattle.nom_located.proofs.located.LocatedInput.take_from.Goals as goal
@@ -16,7 +16,7 @@ line_after-line-requires g c =
     c.take-front.result c.args.self.now.fits c.take-front.ensures in
     let size = ap length c.as_bytes.ensures ∙ bytes_length w g.I.AsBytes.bytes g.I.ByteItems.read g.met.I.ByteItems.reading c.take-front.result
     (c.take-front.ensures).known in
-    subst (λ n. Fits (place c.args.self.now.offset c.args.self.now.line c.args.self.now.column) n) (sym size) fits
+    subst (λ n. FitsPlace (place c.args.self.now.offset c.args.self.now.line c.args.self.now.column) n) (sym size) fits
 
 pub overflow_add-result : goal.overflow_add-result
 overflow_add-result g c =
@@ -39,7 +39,7 @@ invariant_of-result g c =
     let fits = fits_rest (located (λ x. x.fragment) (λ x. place x.offset x.line x.column) (λ x. x.extra) g.I.ByteItems.read) w fitting c.args.self.now
     c.args.index
     c.take_from-fragment.result c.args.self.now.fits q in
-    record { fits = subst (λ p. Fits p.0 (input_len w c.take_from-fragment.result)) (sym there) fits }
+    record { fits = subst (λ p. FitsPlace p.0 (input_len w c.take_from-fragment.result)) (sym there) fits }
 
 pub returns : goal.returns
 returns g c =

@@ -1,6 +1,6 @@
 use Rattle.std.proofs.Common.{◌∙◌, ap, take}
 use Rattle.nom_run.proofs.Built.{built_is, tells_other}
-use Rattle.nom_settings_run.specs.Report.{IsToldBytes}
+use Rattle.nom_settings_run.specs.Report.{IsBytesReport}
 use Rattle.nom_settings_run.proofs.Reported.{report_of_bytes, report_of_text}
 use Rattle.nom_settings_run.proofs.report.SettingsReport.write.Goals as goal
 
@@ -13,5 +13,5 @@ returns-in-Ok g c =
 pub returns-in-Err : goal.returns-in-Err
 returns-in-Err g c =
     tells_other (λ text status b. report_of_bytes c.args.bytes.now c.args._cuts.now text status c.valid_up_to.result _ c.valid_up_to.ensures
-    c.in-Err.ensures.cases.1 (built_is (IsToldBytes (take c.valid_up_to.result c.args.bytes.now)) c.tell_bytes.result c.tell_bytes.ensures text status b))
+    c.in-Err.ensures.cases.1 (built_is (IsBytesReport (take c.valid_up_to.result c.args.bytes.now)) c.tell_bytes.result c.tell_bytes.ensures text status b))
     c.write_built.ensures

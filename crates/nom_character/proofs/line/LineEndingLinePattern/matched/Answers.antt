@@ -1,6 +1,6 @@
 use Rattle.std.proofs.Common.{arith}
 use Rattle.nom_character.proofs.Lines.{is_code, other_code, newline_first, line_ending_shown}
-use Rattle.nom_character.proofs.line.line_ending_at.Goals as goal
+use Rattle.nom_character.proofs.line.LineEndingLinePattern.matched.Goals as goal
 
 pub returns-in-Some : goal.returns-in-Some
 returns-in-Some g c = newline_first g.I.Items.model g.met.I.Items.lawful g.I.Item.Value.code g.S.IsStreaming.STREAMING c.args.input c.after.result

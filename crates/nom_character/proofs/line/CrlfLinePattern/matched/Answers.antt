@@ -1,6 +1,6 @@
 use Rattle.std.proofs.Common.{arith}
 use Rattle.nom_character.proofs.Lines.{is_code, crlf_shown}
-use Rattle.nom_character.proofs.line.crlf_at.Goals as goal
+use Rattle.nom_character.proofs.line.CrlfLinePattern.matched.Goals as goal
 
 pub returns-in-Some : goal.returns-in-Some
 returns-in-Some g c =

@@ -18,10 +18,10 @@ abbrev pub WroteText : (a b : Account) → (text : List ℕ) → Type 0
 WroteText a b text = Wrote a b text ⊎ WroteFront a b text
 
 -- What a program wrote to a sink, and its status.
-pub data Told (IsReport : (bytes cuts text : List ℕ) → (status : ℕ) → Type 0) (a b : Account) (status : ℕ) : Type 0 where
+pub data WritesReport (IsReport : (bytes cuts text : List ℕ) → (status : ℕ) → Type 0) (a b : Account) (status : ℕ) : Type 0 where
   -- the report on what a source gave
-  Report : (s t : Account) (cuts : List ℕ) → Reported IsReport s t a b cuts status → Told IsReport a b status
+  Report : (s t : Account) (cuts : List ℕ) → Reported IsReport s t a b cuts status → WritesReport IsReport a b status
   -- a beginning of it, until a write failed
-  Broken : (s t : Account) (cuts : List ℕ) → Stopped IsReport s t a b cuts → status ≡ 3 → Told IsReport a b status
+  Broken : (s t : Account) (cuts : List ℕ) → Stopped IsReport s t a b cuts → status ≡ 3 → WritesReport IsReport a b status
   -- the line that tells why there is no report
-  Fault : (error : RunError) → (error ≡ Write → ⊥) → WroteText a b (fault_text error) → status ≡ 3 → Told IsReport a b status
+  Fault : (error : RunError) → (error ≡ Write → ⊥) → WroteText a b (fault_text error) → status ≡ 3 → WritesReport IsReport a b status

@@ -9,8 +9,8 @@ use Rattle.nom_internal.specs.Sequence.ThenBlames.{BlamesFirst, BlamesNext}
 use Rattle.nom.specs.grammars.Texts.{Text, TextGrammar, Parses, or_of}
 use Rattle.example_json.specs.Json.{as_of, refuses}
 
-abbrev pub Told : Type 0 → Type 0
-Told O = IResult Text O (Error Text)
+abbrev pub TextResult : Type 0 → Type 0
+TextResult O = IResult Text O (Error Text)
 
 -- an acceptance that was answered
 pub record Taken {V O : Type 0} (IsOutput : V → O → Type 0) (Answers : Outcome V → Type 0) (i j : Text) (x : O) : Type 0 where
@@ -21,7 +21,7 @@ pub record Taken {V O : Type 0} (IsOutput : V → O → Type 0) (Answers : Outco
   pub output_is : IsOutput tree x
 
 module _ {V O : Type 0} {IsOutput : V → O → Type 0} {Answers : Outcome V → Type 0} {IsError : Error Text → Type 0} {RunsOut : Type 0} {i j : Text} {x : O} where
-  pub taken : {r : Told O} → r ≡ Ok (j, x) → ParsesAnswer text_model IsOutput i Answers IsError RunsOut r → Taken IsOutput Answers i j x
+  pub taken : {r : TextResult O} → r ≡ Ok (j, x) → ParsesAnswer text_model IsOutput i Answers IsError RunsOut r → Taken IsOutput Answers i j x
   taken is (ParseRanOut e h) = absurd (cc (is, e))
   taken is (Parsed (Accept n v) a p) =
       let same : ◌≡◌ {A = Text × O} (j, x) (p.0, p.1) = cc (is, p.4) in
@@ -36,13 +36,13 @@ module _ {V O : Type 0} {IsOutput : V → O → Type 0} {Answers : Outcome V →
   taken is (Parsed (Stop (Fails cause)) a p) = absurd (cc (is, p.2))
   taken is (Parsed (Stop (Needs k)) a p) = absurd (cc (is, p.2))
 
-  pub told : {r : Told O} → r ≡ Ok (j, x) → Taken IsOutput Answers i j x → ParsesAnswer text_model IsOutput i Answers IsError RunsOut r
+  pub told : {r : TextResult O} → r ≡ Ok (j, x) → Taken IsOutput Answers i j x → ParsesAnswer text_model IsOutput i Answers IsError RunsOut r
   told is t = Parsed (Accept t.length t.tree) t.answered (j, x, t.rest_is, t.output_is, is)
 
 -- what a first part and what follows on its rest tell
 abbrev TellsThen : {P Q T Z : Type 0} (tree : P → Q → T) (First : Text → Outcome P → Type 0) (FirstBlames : Text → Error Text → Type 0)
     (FirstRunsOut : Text → Type 0) (Next : P → Text → Outcome Q → Type 0) (NextBlames : P → Text → Error Text → Type 0)
-    (NextRunsOut : P → Text → Type 0) (IsResult : T → Z → Type 0) (i : Text) → Told Z → Type 0
+    (NextRunsOut : P → Text → Type 0) (IsResult : T → Z → Type 0) (i : Text) → TextResult Z → Type 0
 TellsThen tree First FirstBlames FirstRunsOut Next NextBlames NextRunsOut IsResult i r =
     ParsesAnswer text_model IsResult i (Then text_model tree First Next i) (ThenBlames text_model First FirstBlames Next NextBlames i)
     (ThenRunsOut text_model First FirstRunsOut NextRunsOut i) r
@@ -52,7 +52,7 @@ module _ {P Q T X Z : Type 0} {tree : P → Q → T} {First : Text → Outcome P
     {NextRunsOut : P → Text → Type 0} {IsFirst : P → X → Type 0} {IsResult : T → Z → Type 0} {i : Text} where
   -- the first part stops
   pub first_stops : {RunsOut : Type 0} → (RunsOut → FirstRunsOut i) →
-      {e : Answer.Err (Error Text) (Error Text) Needed} {r : Told Z} {s : Told X} → s ≡ Err e → r ≡ Err e →
+      {e : Answer.Err (Error Text) (Error Text) Needed} {r : TextResult Z} {s : TextResult X} → s ≡ Err e → r ≡ Err e →
       ParsesAnswer text_model IsFirst i (First i) (FirstBlames i) RunsOut s →
       TellsThen tree First FirstBlames FirstRunsOut Next NextBlames NextRunsOut IsResult i r
   first_stops f is q (ParseRanOut e h) = ParseRanOut (cc (is, q, e)) (RunsOutFirst (f h))
@@ -69,7 +69,7 @@ module _ {P Q T X Z : Type 0} {tree : P → Q → T} {First : Text → Outcome P
   module _ {j : Text} {x : X} (t : Taken IsFirst (First i) i j x) where
     -- the first accepts, and what follows it stops
     pub next_stops : {Y : Type 0} {IsNext : Q → Y → Type 0} {RunsOut : Type 0} → (RunsOut → NextRunsOut t.tree j) →
-        {e : Answer.Err (Error Text) (Error Text) Needed} {r : Told Z} {s : Told Y} → s ≡ Err e → r ≡ Err e →
+        {e : Answer.Err (Error Text) (Error Text) Needed} {r : TextResult Z} {s : TextResult Y} → s ≡ Err e → r ≡ Err e →
         ParsesAnswer text_model IsNext j (Next t.tree j) (NextBlames t.tree j) RunsOut s →
         TellsThen tree First FirstBlames FirstRunsOut Next NextBlames NextRunsOut IsResult i r
     next_stops f is q (ParseRanOut e h) =
@@ -125,7 +125,7 @@ both_taken {tree = tree} {i = i} {j = j} {k = k} t u h = record {
 module _ {P Q T X Y : Type 0} {tree : P → Q → T} {First : Text → Outcome P → Type 0} {FirstBlames : Text → Error Text → Type 0}
     {FirstRunsOut : Text → Type 0} {Next : P → Text → Outcome Q → Type 0} {NextBlames : P → Text → Error Text → Type 0}
     {NextRunsOut : P → Text → Type 0} {IsFirst : P → X → Type 0} {IsNext : Q → Y → Type 0} {IsResult : T → Y → Type 0} {i j : Text} {x : X} where
-  pub follows : (t : Taken IsFirst (First i) i j x) → ((v : Q) (y : Y) → IsNext v y → IsResult (tree t.tree v) y) → {r : Told Y} →
+  pub follows : (t : Taken IsFirst (First i) i j x) → ((v : Q) (y : Y) → IsNext v y → IsResult (tree t.tree v) y) → {r : TextResult Y} →
       ParsesAnswer text_model IsNext j (Next t.tree j) (NextBlames t.tree j) (NextRunsOut t.tree j) r →
       TellsThen tree First FirstBlames FirstRunsOut Next NextBlames NextRunsOut IsResult i r
   follows t f (ParseRanOut e h) =
@@ -139,7 +139,7 @@ module _ {P Q T X Y : Type 0} {tree : P → Q → T} {First : Text → Outcome P
   follows t f (Parsed (Stop (Needs k)) a p) = next_stops t {IsNext = IsNext} (λ z. z) p.2 p.2 (Parsed (Stop (Needs k)) a p)
 
 -- one of two branches
-module _ {V U O : Type 0} (g : TextGrammar V O) (h : TextGrammar U O) {i : Text} {r : Told O} where
+module _ {V U O : Type 0} (g : TextGrammar V O) (h : TextGrammar U O) {i : Text} {r : TextResult O} where
   -- the first, where it doesn't refuse
   pub first_tells : Parses g false i r → false ≡ refuses r → Parses (or_of g h) false i r
   first_tells (ParseRanOut e z) q = ParseRanOut e (inl (RunsOutInPart i refl z))
@@ -181,7 +181,7 @@ pub record HasRefused {V O : Type 0} (g : TextGrammar V O) (i : Text) : Type 0 w
   pub error : Error Text
   pub blamed : g.meaning.blames false i error
 
-pub refused : {V O : Type 0} (g : TextGrammar V O) {i : Text} {r : Told O} → Parses g false i r → true ≡ refuses r → HasRefused g i
+pub refused : {V O : Type 0} (g : TextGrammar V O) {i : Text} {r : TextResult O} → Parses g false i r → true ≡ refuses r → HasRefused g i
 refused g (ParseRanOut e z) q = let no : true ≡ false = q ∙ ap refuses e in absurd (cc (no))
 refused g (Parsed (Accept n v) a p) q = let no : true ≡ false = q ∙ ap refuses p.4 in absurd (cc (no))
 refused g (Parsed Refuse a p) q = record { answered = a; error = p.0; blamed = p.1 }
@@ -189,7 +189,7 @@ refused g (Parsed (Stop (Fails cause)) a p) q = let no : true ≡ false = q ∙ 
 refused g (Parsed (Stop (Needs k)) a p) q = let no : true ≡ false = q ∙ ap refuses p.2 in absurd (cc (no))
 
 -- the second, where the first refused
-module _ {V U O : Type 0} (g : TextGrammar V O) (h : TextGrammar U O) {i : Text} {r : Told O} (f : HasRefused g i) where
+module _ {V U O : Type 0} (g : TextGrammar V O) (h : TextGrammar U O) {i : Text} {r : TextResult O} (f : HasRefused g i) where
   pub next_tells : Parses h false i r → Parses (or_of g h) false i r
   next_tells (ParseRanOut e z) =
       ParseRanOut e (inr (record { at = i; at_is = refl; outcome = Refuse; answered = f.answered; fact = refl }, inl (RunsOutInPart i refl z)))
@@ -273,7 +273,7 @@ module _ {V O P : Type 0} {Makes : O → P → Type 0} (g : TextGrammar V O) {i 
       Taken (as_of Makes g).IsOutput Answers i j y
   as_told {x = x} t m = record { length = t.length; tree = t.tree; answered = t.answered; rest_is = t.rest_is; output_is = (x, t.output_is, m) }
 
-  pub as_stops : {e : Answer.Err (Error Text) (Error Text) Needed} {r : Told P} {s : Told O} → s ≡ Err e → r ≡ Err e → Parses g false i s →
+  pub as_stops : {e : Answer.Err (Error Text) (Error Text) Needed} {r : TextResult P} {s : TextResult O} → s ≡ Err e → r ≡ Err e → Parses g false i s →
       Parses (as_of Makes g) false i r
   as_stops is q (ParseRanOut e z) = ParseRanOut (cc (is, q, e)) z
   as_stops is q (Parsed (Accept n v) a p) = absurd (cc (is, p.4))

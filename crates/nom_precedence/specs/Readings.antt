@@ -8,7 +8,7 @@ use Rattle.nom_operators.specs.declared.operation.Assoc.{Assoc}
 use Rattle.nom_operators.specs.declared.operation.Operation.{Operation}
 use Rattle.nom_operators.specs.declared.operation.Operation.TheVariants.{Prefix, Postfix, Binary}
 use Rattle.nom_precedence.specs.Chains.{chain_meaning}
-use Rattle.nom_precedence.specs.Expressions.{Term, Tail, Pair, affixes_meaning, tail_meaning, term_meaning, pair_meaning, read_meaning}
+use Rattle.nom_precedence.specs.Expressions.{Term, Tail, Pair, affixes_meaning, tail_meaning, term_meaning, operator_pair_meaning, read_meaning}
 use Rattle.nom_precedence.specs.Operators.{HasLevel, operator_meaning}
 use Rattle.nom_precedence.specs.Values.{IsOwn, StandsFor, TailBy, TermBy, folding}
 use Rattle.nom_precedence.specs.declared.read.Read.{Read}
@@ -20,8 +20,8 @@ pub data IsRead {V X : Type 0} (builds : Bool) (IsOutput : V → X → Type 0) (
   IsStuck : u ≡ Stuck → r ≡ Stuck → IsRead builds IsOutput u r
 
 -- what a part answers whose output is told in every mode
-abbrev pub ShowsTold : {I A V O E : Type 0} → Model I A → (V → O → Type 0) → Meaning I V E → Modes → I → PResult I O E → Type 0
-ShowsTold w IsOutput m mode i r =
+abbrev pub ShowsBuilt : {I A V O E : Type 0} → Model I A → (V → O → Type 0) → Meaning I V E → Modes → I → PResult I O E → Type 0
+ShowsBuilt w IsOutput m mode i r =
     ShowsAnswer w IsOutput (with_outputs true mode) i (m.answers mode.streaming i) (m.blames mode.streaming i) (m.may_run_out mode i) r
 
 -- the grammar of a part that may be stuck: what it means, and which outputs a tree that was read whole stands for
@@ -31,7 +31,7 @@ pub record Reading (I V X E : Type 0) : Type 1 where
 
 -- what such a part answers: whether it is stuck is told in every mode
 abbrev pub ShowsRead : {I A V X E : Type 0} → Model I A → Reading I V X E → Modes → I → PResult I (Read (Option X)) E → Type 0
-ShowsRead w g mode i r = ShowsTold w (IsRead mode.outputs g.IsOutput) g.meaning mode i r
+ShowsRead w g mode i r = ShowsBuilt w (IsRead mode.outputs g.IsOutput) g.meaning mode i r
 
 -- the states of the four parts are kept
 pub record AreKept {S T U R : Type 0} (a x : S) (b y : T) (c z : U) (d v : R) : Type 0 where
@@ -92,7 +92,7 @@ module _ {I A E : Type 0} (w : Model I A) where
   -- an operator, and a term after it
   abbrev pub pair_by : {B H T O : Type 0} → Errors I E → ℕ → Grammar I B (ℕ × H) E → Reading I T O E → Reading I (Pair B T) ((ℕ × H) × O) E
   pair_by errs levels binary term =
-      record { meaning = pair_meaning w (operator_of errs levels binary).meaning term.meaning; IsOutput = IsPairOf binary.IsOutput term.IsOutput }
+      record { meaning = operator_pair_meaning w (operator_of errs levels binary).meaning term.meaning; IsOutput = IsPairOf binary.IsOutput term.IsOutput }
 
   -- as many pairs as are accepted, after a first value
   abbrev pub pairs_by : {V F G H O : Type 0} → (ℕ → Bool) → (Operation F G H O → O → Type 0) → Option O → Reading I V ((ℕ × H) × O) E → Reading I (List V) O E
