@@ -1,12 +1,13 @@
-//! Colours in base 16, as `#2F14DF`: a tuple of parsers after a tag.
-ghost use Rattle.std.specs.Prelude.{◌≡◌, chars, encode_utf8_all};
+//! Colours in base 16, as `#2F14DF`: steps by `?`, the last three by a function.
+ghost use Rattle.std.specs.Prelude.{◌≡◌, chars, encode_utf8_all, false};
 ghost use Rattle.std.specs.Char.{is_digit};
 ghost use Rattle.std.specs.Str.Parse.{ParsesUnsigned};
-ghost use Rattle.example_grammars.specs.Colors.{AnswersColor, AnswersPair};
+ghost use Rattle.nom.specs.Texts.{Parses};
+ghost use Rattle.example_grammars.specs.Colors.{color_of, primary_of};
 
-use nom::bytes::complete::{tag, take_while_m_n};
+use nom::bytes::{tag, take_while_m_n};
 use nom::combinator::map_res;
-use nom::{IResult, Items, Parser, func};
+use nom::{IResult, Parser};
 use std::num::ParseIntError;
 
 /// A colour, by how much of each it has.
@@ -32,23 +33,24 @@ fn is_hex_digit(c: char) -> bool
 }
 
 /// Two digits in base 16, as their number; where they aren't there, it refuses with `TakeWhileMN`.
+#[tactic(auto, using(nom::specs::Same::words))]
 fn hex_primary(input: &str) -> IResult<&str, u8>
-    ensures { AnswersPair input.entry result }
+    ensures { Parses primary_of false input.entry result }
 {
-    input.prove_known();
-    map_res(take_while_m_n(2, 2, is_hex_digit), from_hex).parse(input)
+    map_res(take_while_m_n(2, 2, is_hex_digit), from_hex).parse_complete(input)
 }
 
 /// A `#`, and two digits in base 16 each for red, green and blue.
 ///
 /// The input is taken as complete. Where there is no `#`, it refuses with `Tag`; where a pair of digits is
 /// missing, with `TakeWhileMN` at the place of that pair.
+#[tactic(auto, using(nom::specs::Chains::steps))]
 pub fn hex_color(input: &str) -> IResult<&str, Color>
-    ensures { AnswersColor input.entry result }
+    ensures { Parses color_of false input.entry result }
 {
-    input.prove_known();
-    let (input, _) = tag("#").parse(input)?;
-    let mut parts = (func(hex_primary), func(hex_primary), func(hex_primary));
-    let (input, (red, green, blue)) = parts.parse(input)?;
-    Ok((input, Color { red, green, blue }))
+    let (rest, _) = tag("#").parse_complete(input)?;
+    let (rest, red) = hex_primary(rest)?;
+    let (rest, green) = hex_primary(rest)?;
+    let (rest, blue) = hex_primary(rest)?;
+    Ok((rest, Color { red, green, blue }))
 }

@@ -6,7 +6,7 @@ use Rattle.nom_internal.specs.Prelude.{itself, vec_view}
 use Rattle.nom_number.specs.Numbers.{binary_number}
 use Rattle.nom_number.specs.declared.order.Endianness.{Endianness}
 use Rattle.nom_number.specs.declared.order.Endianness.TheVariants.{Big}
-use Rattle.nom_sink.specs.Lists.{Each, ItemForm}
+use Rattle.nom_sink.specs.Lists.{EachForm, ItemForm}
 use Rattle.nom_sink.specs.Parts.{Both}
 use Rattle.nom_write.specs.Lengths.{FormOfSize}
 use Rattle.nom_write_stream.specs.Outgoing.{IsItem}
@@ -22,9 +22,9 @@ abbrev Size : Endianness → ℕ → List ℕ → Type 0
 Size order n xs = (length xs ≡ 2) × (binary_number order xs ≡ n)
 
 abbrev pub FrameForm : Endianness → List ℕ → List ℕ → Type 0
-FrameForm order vs = Both (FormOfSize (λ n. n) (Size order) (length vs)) (Each (ItemForm false Byte) vs)
+FrameForm order vs = Both (FormOfSize (λ n. n) (Size order) (length vs)) (EachForm (ItemForm false Byte) vs)
 
-bytes_each : (vs : List ℕ) → Each (ItemForm false Byte) vs vs
+bytes_each : (vs : List ℕ) → EachForm (ItemForm false Byte) vs vs
 bytes_each [] = refl
 bytes_each (v ∷ vs) = record { front = v ∷ []; back = vs; whole = refl; first = (refl, λ e. absurd (cc (e))); second = bytes_each vs }
 
@@ -45,8 +45,8 @@ frame_form most vs xs i =
       known = i.known;
     }
 
-frames_form : {A : Type 0} → (most : ℕ) (frames : List (Vec ℕ A)) (xs : List ℕ) → Each (λ v. IsItem (IsFrame v.items) most) frames xs →
-    Each (λ v. IsItem (FrameForm Big v.items) most) frames xs
+frames_form : {A : Type 0} → (most : ℕ) (frames : List (Vec ℕ A)) (xs : List ℕ) → EachForm (λ v. IsItem (IsFrame v.items) most) frames xs →
+    EachForm (λ v. IsItem (FrameForm Big v.items) most) frames xs
 frames_form most [] xs h = h
 frames_form most (v ∷ frames) xs h = record {
   front = h.front;

@@ -3,14 +3,14 @@ use Rattle.std.specs.Prelude.{◌≡◌, ℕ, ◌+◌, ◌≤◌, Bool, List, []
 use Rattle.std.proofs.Common.{arith, sym, ap, subst, inl, inr, zero, suc}
 use Rattle.nom_internal.specs.Prelude.{Model, InputLaws}
 use Rattle.nom_branch.specs.Members.{Member, EachMember}
-use Rattle.nom_branch.specs.Left.{is_left, left, LeavesOneFewer}
+use Rattle.nom_branch.specs.Left.{count_of_left, left, LeavesOneFewer}
 use Rattle.nom_branch.specs.Permutation.{permutation_meaning}
 use Rattle.nom_branch.specs.Order.{TakesTurn, AllApplied, InOrder}
 use Rattle.nom_branch.specs.Once.{AppliesEachOnce, AcceptsEachOrder}
 use Rattle.nom_branch.proofs.Orders.{permutation_in_order, order_in_permutation}
 
-not_left : {P : Type 0} (x : Option P) (n : ℕ) → is_left x + n ≡ 0 → x ≡ None → ⊥
-not_left x n h e = omega (arith, h, ap is_left e)
+not_left : {P : Type 0} (x : Option P) (n : ℕ) → count_of_left x + n ≡ 0 → x ≡ None → ⊥
+not_left x n h e = omega (arith, h, ap count_of_left e)
 
 none_left : {I T E : Type 0} (ms : List (Member I T E)) (t : T) → left ms t ≡ 0 → AllApplied ms t
 none_left [] t h = tt
@@ -18,7 +18,7 @@ none_left (m ∷ ms) t h = (not_left (m.tree t) (left ms t) h, none_left ms t (o
 
 all_left : {I T E : Type 0} (ms : List (Member I T E)) (t : T) → EachMember (λ m. m.tree t ≡ None) ms → left ms t ≡ length ms
 all_left [] t h = omega arith
-all_left (m ∷ ms) t h = omega (arith, ap is_left h.0, all_left ms t h.1)
+all_left (m ∷ ms) t h = omega (arith, ap count_of_left h.0, all_left ms t h.1)
 
 module _ {I T E : Type 0} (s : Bool) (all : List (Member I T E)) where
   turn_left : (ms : List (Member I T E)) → EachMember (LeavesOneFewer all) ms → (t : T) (i : I) (n : ℕ) (u : T) → TakesTurn s ms t i n u →

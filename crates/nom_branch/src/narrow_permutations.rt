@@ -49,13 +49,13 @@ impl<I: Items, A: Parser<I>, B: Parser<I, Error = A::Error>> Parser<I> for OnceE
 
 impl<I: Items, A: StreamParser<I>, B: StreamParser<I, Error = A::Error>> StreamParser<I>
     for OnceEach<Two<A, B>> {
-    ghost use Rattle.nom_branch.specs.laws.NestedLaws.{flat_pinned, one_pinned, more_pinned, one_stream, more_stream};
+    ghost use Rattle.nom_branch.specs.laws.NestedLaws.{flat_members_pinned, one_pinned, more_pinned, one_stream, more_stream};
     ghost use Rattle.nom_branch.specs.laws.PermutationLaws.{once_each_steady};
 
     ghost Pins = { λ p. let m = p.members in
         A.Pins m.others.member × B.Pins m.member };
 
-    ghost pinned = { λ p k h. let m = p.members in (flat_pinned
+    ghost pinned = { λ p k h. let m = p.members in (flat_members_pinned
         (more_pinned (B.grammar (B.state m.member)).meaning _
         (one_pinned (A.grammar (A.state m.others.member)).meaning _ (A.pinned m.others.member)) (B.pinned m.member))
         (λ v. v)
@@ -109,13 +109,13 @@ impl<
     B: StreamParser<I, Error = A::Error>,
     C: StreamParser<I, Error = A::Error>,
 > StreamParser<I> for OnceEach<Three<A, B, C>> {
-    ghost use Rattle.nom_branch.specs.laws.NestedLaws.{flat_pinned, one_pinned, more_pinned, one_stream, more_stream};
+    ghost use Rattle.nom_branch.specs.laws.NestedLaws.{flat_members_pinned, one_pinned, more_pinned, one_stream, more_stream};
     ghost use Rattle.nom_branch.specs.laws.PermutationLaws.{once_each_steady};
 
     ghost Pins = { λ p. let m = p.members in
         (A.Pins m.others.others.member × B.Pins m.others.member) × C.Pins m.member };
 
-    ghost pinned = { λ p k h. let m = p.members in (flat_pinned
+    ghost pinned = { λ p k h. let m = p.members in (flat_members_pinned
         (more_pinned (C.grammar (C.state m.member)).meaning _
         (more_pinned (B.grammar (B.state m.others.member)).meaning _
         (one_pinned (A.grammar (A.state m.others.others.member)).meaning _ (A.pinned m.others.others.member)) (B.pinned m.others.member))
@@ -176,13 +176,13 @@ impl<
     C: StreamParser<I, Error = A::Error>,
     D: StreamParser<I, Error = A::Error>,
 > StreamParser<I> for OnceEach<Four<A, B, C, D>> {
-    ghost use Rattle.nom_branch.specs.laws.NestedLaws.{flat_pinned, one_pinned, more_pinned, one_stream, more_stream};
+    ghost use Rattle.nom_branch.specs.laws.NestedLaws.{flat_members_pinned, one_pinned, more_pinned, one_stream, more_stream};
     ghost use Rattle.nom_branch.specs.laws.PermutationLaws.{once_each_steady};
 
     ghost Pins = { λ p. let m = p.members in
         ((A.Pins m.others.others.others.member × B.Pins m.others.others.member) × C.Pins m.others.member) × D.Pins m.member };
 
-    ghost pinned = { λ p k h. let m = p.members in (flat_pinned
+    ghost pinned = { λ p k h. let m = p.members in (flat_members_pinned
         (more_pinned (D.grammar (D.state m.member)).meaning _
         (more_pinned (C.grammar (C.state m.others.member)).meaning _
         (more_pinned (B.grammar (B.state m.others.others.member)).meaning _
@@ -247,14 +247,14 @@ impl<
     D: StreamParser<I, Error = A::Error>,
     E: StreamParser<I, Error = A::Error>,
 > StreamParser<I> for OnceEach<Five<A, B, C, D, E>> {
-    ghost use Rattle.nom_branch.specs.laws.NestedLaws.{flat_pinned, one_pinned, more_pinned, one_stream, more_stream};
+    ghost use Rattle.nom_branch.specs.laws.NestedLaws.{flat_members_pinned, one_pinned, more_pinned, one_stream, more_stream};
     ghost use Rattle.nom_branch.specs.laws.PermutationLaws.{once_each_steady};
 
     ghost Pins = { λ p. let m = p.members in
         (((A.Pins m.others.others.others.others.member × B.Pins m.others.others.others.member) × C.Pins m.others.others.member) × D.Pins m.others.member)
         × E.Pins m.member };
 
-    ghost pinned = { λ p k h. let m = p.members in (flat_pinned
+    ghost pinned = { λ p k h. let m = p.members in (flat_members_pinned
         (more_pinned (E.grammar (E.state m.member)).meaning _
         (more_pinned (D.grammar (D.state m.others.member)).meaning _
         (more_pinned (C.grammar (C.state m.others.others.member)).meaning _

@@ -72,14 +72,14 @@ impl<
     E: StreamParser<I, Error = A::Error>,
     F: StreamParser<I, Error = A::Error>,
 > StreamParser<I> for OnceEach<Six<A, B, C, D, E, F>> {
-    ghost use Rattle.nom_branch.specs.laws.NestedLaws.{flat_pinned, one_pinned, more_pinned, one_stream, more_stream};
+    ghost use Rattle.nom_branch.specs.laws.NestedLaws.{flat_members_pinned, one_pinned, more_pinned, one_stream, more_stream};
     ghost use Rattle.nom_branch.specs.laws.PermutationLaws.{once_each_steady};
 
     ghost Pins = { λ p. let m = p.members in
         ((((A.Pins m.others.others.others.others.others.member × B.Pins m.others.others.others.others.member) × C.Pins m.others.others.others.member)
         × D.Pins m.others.others.member) × E.Pins m.others.member) × F.Pins m.member };
 
-    ghost pinned = { λ p k h. let m = p.members in (flat_pinned
+    ghost pinned = { λ p k h. let m = p.members in (flat_members_pinned
         (more_pinned (F.grammar (F.state m.member)).meaning _
         (more_pinned (E.grammar (E.state m.others.member)).meaning _
         (more_pinned (D.grammar (D.state m.others.others.member)).meaning _
@@ -160,7 +160,7 @@ impl<
     F: StreamParser<I, Error = A::Error>,
     G: StreamParser<I, Error = A::Error>,
 > StreamParser<I> for OnceEach<Seven<A, B, C, D, E, F, G>> {
-    ghost use Rattle.nom_branch.specs.laws.NestedLaws.{flat_pinned, one_pinned, more_pinned, one_stream, more_stream};
+    ghost use Rattle.nom_branch.specs.laws.NestedLaws.{flat_members_pinned, one_pinned, more_pinned, one_stream, more_stream};
     ghost use Rattle.nom_branch.specs.laws.PermutationLaws.{once_each_steady};
 
     ghost Pins = { λ p. let m = p.members in
@@ -168,7 +168,7 @@ impl<
         × C.Pins m.others.others.others.others.member) × D.Pins m.others.others.others.member) × E.Pins m.others.others.member) × F.Pins m.others.member)
         × G.Pins m.member };
 
-    ghost pinned = { λ p k h. let m = p.members in (flat_pinned
+    ghost pinned = { λ p k h. let m = p.members in (flat_members_pinned
         (more_pinned (G.grammar (G.state m.member)).meaning _
         (more_pinned (F.grammar (F.state m.others.member)).meaning _
         (more_pinned (E.grammar (E.state m.others.others.member)).meaning _
@@ -255,7 +255,7 @@ impl<
     G: StreamParser<I, Error = A::Error>,
     H: StreamParser<I, Error = A::Error>,
 > StreamParser<I> for OnceEach<Eight<A, B, C, D, E, F, G, H>> {
-    ghost use Rattle.nom_branch.specs.laws.NestedLaws.{flat_pinned, one_pinned, more_pinned, one_stream, more_stream};
+    ghost use Rattle.nom_branch.specs.laws.NestedLaws.{flat_members_pinned, one_pinned, more_pinned, one_stream, more_stream};
     ghost use Rattle.nom_branch.specs.laws.PermutationLaws.{once_each_steady};
 
     ghost Pins = { λ p. let m = p.members in
@@ -263,7 +263,7 @@ impl<
         × C.Pins m.others.others.others.others.others.member) × D.Pins m.others.others.others.others.member) × E.Pins m.others.others.others.member)
         × F.Pins m.others.others.member) × G.Pins m.others.member) × H.Pins m.member };
 
-    ghost pinned = { λ p k h. let m = p.members in (flat_pinned
+    ghost pinned = { λ p k h. let m = p.members in (flat_members_pinned
         (more_pinned (H.grammar (H.state m.member)).meaning _
         (more_pinned (G.grammar (G.state m.others.member)).meaning _
         (more_pinned (F.grammar (F.state m.others.others.member)).meaning _

@@ -1,30 +1,21 @@
 -- Lemmas on the answers of a list of pieces.
-use Rattle.std.proofs.Common.{◌≡◌, ℕ, ◌<◌, Bool, true, Ok, Err, Option, Some, None, List, [], ◌∷◌, ◌++◌, length, refl, sym, ap, subst, zero}
+use Rattle.std.proofs.Common.{◌≡◌, ℕ, ◌<◌, Bool, true, Ok, Err, Option, Some, None, List, [], ◌∷◌, ◌++◌, length, refl, sym, subst, zero}
 use Rattle.std.proofs.Common.{suc, arith, inl, inr}
-use Rattle.std.specs.Prelude.{IsSome}
-use Rattle.nom_internal.specs.Prelude.{Needed, OutOfMemory, Built, Modes, with_outputs, PResult, Refuses, Model, InputLaws, IsSuffixOf, input_len, Outcome}
-use Rattle.nom_internal.specs.Prelude.{Grammar}
-use Rattle.nom_internal.specs.Prelude.{Accept, Refuse, Stop, Fails, Needs, ShowsOutcome, ShowsAnswer, RanOut, Shown, Meaning, ShowsMeaning, always}
+use Rattle.nom_internal.specs.Prelude.{Needed, Incomplete, Error, Failure, OutOfMemory, Built, Modes, with_outputs, PResult, Refuses, Model, InputLaws}
+use Rattle.nom_internal.specs.Prelude.{IsSuffixOf, input_len, Outcome, Grammar}
+use Rattle.nom_internal.specs.Prelude.{Accept, Refuse, Stop, ShowsAnswer, Meaning, ShowsMeaning, always}
 use Rattle.nom_error.specs.declared.answer.Err as Answer
 use Rattle.nom_internal.proofs.Consumed.{rest_length}
 use Rattle.nom_internal.proofs.Shown.{Accepts, built_error}
 use Rattle.nom_repeat.specs.Repeat.{Pieces, TurnsBy, repeat_meaning}
 use Rattle.nom_repeat.specs.Repeat.Turn.{Takes, Ends}
-use Rattle.nom_repeat.proofs.Repeated.{Collected, collected_more, ended, refused, failed, lacking, ran_out, ran_out_within}
+use Rattle.nom_repeat.proofs.Parts.{part_refusal}
+use Rattle.nom_repeat.proofs.Repeated.{IsNoRefusal, Collected, collected_more, ended, refused, ran_out, stopped, where_some}
 use Rattle.nom_bytes_escaped.specs.declared.next_piece.Piece.{Piece}
 use Rattle.nom_bytes_escaped.specs.declared.next_piece.NextPiece.{NextPiece}
 use Rattle.nom_bytes_escaped.specs.declared.next_piece.NextPiece.TheVariants.{Found, Other, Dangling, Done}
 use Rattle.nom_bytes_escaped.specs.NextPieces.{IsPiece, IsNextPiece, ShowsNextPiece}
 use Rattle.nom_bytes_escaped.specs.Escapes.{by_next_piece, escape_turn, escape_rule, all_pieces}
-
--- a piece that is empty is the last one, and another is taken
-empty_turn : {V : Type 0} (k n : ℕ) (v : V) → n ≡ 0 → Ends (Accept 0 (Some v)) ≡ by_next_piece (Found v) k n
-empty_turn k zero v e = refl
-empty_turn k (suc n) v e = absurd (cc (e))
-
-taken_turn : {V : Type 0} (k n : ℕ) (v : V) → 0 < n → Takes n v ≡ by_next_piece (Found v) k n
-taken_turn k zero v h = absurd (omega (arith, h))
-taken_turn k (suc n) v h = refl
 
 -- an item that begins no piece ends the list where pieces were taken
 other_turn : {V : Type 0} (k n : ℕ) → (k ≡ 0 → ⊥) → Ends (Accept 0 None) ≡ by_next_piece {V = V} Other k n
@@ -102,7 +93,7 @@ module _ {I A V O E : Type 0} (w : Model I A) (l : InputLaws w) (Gives : I → E
   pub empty_shown : (n : ℕ) (v : V) → m.answers mode.streaming j (Accept n (Found v)) → n ≡ 0 → (b : Option O) →
       Built mode.outputs (IsOutput (c.trees ++ v ∷ [])) b → Goal (Ok (j, b))
   empty_shown n v a e b h = ended (escape_rule Gives Grows at) all_pieces (always m) c (Some (Accept n (Found v))) (tt, a) (Some v)
-      (empty_turn (length c.trees) n v e) h
+      (subst (λ y. Ends (Accept 0 (Some v)) ≡ by_next_piece (Found v) (length c.trees) y) (sym e) refl) h
 
   -- there is no memory for a piece
   pub full_shown : (n : ℕ) (v : V) → m.answers mode.streaming j (Accept n (Found v)) → mode.outputs ≡ true → Goal (Err OutOfMemory)
@@ -112,23 +103,26 @@ module _ {I A V O E : Type 0} (w : Model I A) (l : InputLaws w) (Gives : I → E
   pub piece_taken : {More : List V → Type 0} (n : ℕ) (v : V) (h : I) → m.answers mode.streaming j (Accept n (Found v)) → 0 < n → IsSuffixOf w j n h →
       More (c.trees ++ v ∷ []) → Collected w (TurnsBy None escape_turn (λ _. m.answers mode.streaming)) More i h
   piece_taken n v h a p r g = collected_more l (TurnsBy None escape_turn (λ _. m.answers mode.streaming)) v c
-      (record { reply = Some (Accept n (Found v)); replied = (tt, a); fact = taken_turn (length c.trees) n v p }) r g
+      (record {
+        reply = Some (Accept n (Found v));
+        replied = (tt, a);
+        fact = where_some (λ y. Takes y v ≡ by_next_piece (Found v) (length c.trees) y) (λ y. refl) p;
+      }) r g
 
   -- all else is passed on
   module _ {X : Type 0} (IsX : NextPiece V → X → Type 0) where
-    passed : (f : Answer.Err E (Option E) Needed) (o : Outcome (NextPiece V)) → m.answers mode.streaming j o →
-        ShowsOutcome w IsX (with_outputs true mode) j (m.blames mode.streaming j) o (Err f) → Goal (Err f)
-    passed f (Accept n v) a h = absurd (cc (h.4))
-    passed f Refuse a h = subst (λ y. Goal (Err y)) (cc (h.2)) (refused (escape_rule Gives Grows at) all_pieces (always m) c (Some Refuse) (tt, a) refl h.0 h.1)
-    passed f (Stop (Fails cause)) a h = subst (λ y. Goal (Err y)) (cc (h.2))
-        (failed (escape_rule Gives Grows at) all_pieces (always m) c (Some (Stop (Fails cause))) (tt, a) cause refl h.0 h.1)
-    passed f (Stop (Needs k)) a h = subst (λ y. Goal (Err y)) (cc (h.2))
-        (lacking (escape_rule Gives Grows at) all_pieces (always m) c (Some (Stop (Needs k))) (tt, a) (ap (λ z. Ends (Stop (Needs z))) h.1))
+    stops : {f : Answer.Err E (Option E) Needed} → IsNoRefusal f → ShowsAnswer w IsX (with_outputs true mode) j
+        (m.answers mode.streaming j) (m.blames mode.streaming j) (m.may_run_out mode j) (Err f) → Goal (Err f)
+    stops other h = stopped (escape_rule Gives Grows at) all_pieces (always m) c (record { ends = λ k why. refl; blames = λ i k j cause P e z. z })
+        tt refl other h
 
     pub passed_on : (f : Answer.Err E (Option E) Needed) → ShowsAnswer w IsX (with_outputs true mode) j (m.answers mode.streaming j)
         (m.blames mode.streaming j) (m.may_run_out mode j) (Err f) → Goal (Err f)
-    passed_on f (RanOut e h) = subst (λ y. Goal (Err y)) (cc (e)) (ran_out_within (escape_rule Gives Grows at) all_pieces (always m) c tt h)
-    passed_on f (Shown o a h) = passed f o a h
+    passed_on (Error b) h = let p = part_refusal refl h in
+        refused (escape_rule Gives Grows at) all_pieces (always m) c (Some Refuse) (tt, p.0) refl b p.1
+    passed_on (Failure x) h = stops tt h
+    passed_on (Incomplete k) h = stops tt h
+    passed_on OutOfMemory h = stops tt h
 
 -- what stands at a place, by the value that is returned
 module _ {I A U W O X : Type 0} (w : Model I A) (outputs : Bool) (IsNormal : U → O → Type 0) (IsEscapable : W → X → Type 0) (i : I)

@@ -203,7 +203,8 @@ impl<
 
     ghost word = { λ s. Words.tuple_of_four I.model (A.word s.0) (B.word s.1) (C.word s.2) (D.word s.3) };
 
-    ghost worded = { λ s. tuple_worded (λ o. (o.0, (o.1, (o.2, o.3)))) (pair_worded I.model (A.worded s.0) (pair_worded I.model (B.worded s.1) (pair_worded I.model (C.worded s.2) (D.worded s.3)))) };
+    ghost worded = { λ s. tuple_worded (λ o. (o.0, (o.1, (o.2, o.3)))) (pair_worded I.model (A.worded s.0) (pair_worded I.model (B.worded s.1)
+        (pair_worded I.model (C.worded s.2) (D.worded s.3)))) };
 
     ghost SideCondition = { λ mode old new i. ThenSideCondition (A.SideCondition (with_outputs true mode) old.0 new.0 i) (λ j. ThenSideCondition
         (B.SideCondition (with_outputs

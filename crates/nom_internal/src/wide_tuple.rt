@@ -41,7 +41,8 @@ impl<
 
     ghost word = { λ s. Words.tuple_of_five I.model (A.word s.0) (B.word s.1) (C.word s.2) (D.word s.3) (E.word s.4) };
 
-    ghost worded = { λ s. tuple_worded (λ o. (o.0, (o.1, (o.2, (o.3, o.4))))) (pair_worded I.model (A.worded s.0) (pair_worded I.model (B.worded s.1) (pair_worded I.model (C.worded s.2) (pair_worded I.model (D.worded s.3) (E.worded s.4))))) };
+    ghost worded = { λ s. tuple_worded (λ o. (o.0, (o.1, (o.2, (o.3, o.4))))) (pair_worded I.model (A.worded s.0) (pair_worded I.model (B.worded s.1)
+        (pair_worded I.model (C.worded s.2) (pair_worded I.model (D.worded s.3) (E.worded s.4))))) };
 
     ghost SideCondition = { λ mode old new i. ThenSideCondition (A.SideCondition (with_outputs true mode) old.0 new.0 i) (λ j. ThenSideCondition
         (B.SideCondition (with_outputs
@@ -125,7 +126,9 @@ impl<
 
     ghost word = { λ s. Words.tuple_of_six I.model (A.word s.0) (B.word s.1) (C.word s.2) (D.word s.3) (E.word s.4) (F.word s.5) };
 
-    ghost worded = { λ s. tuple_worded (λ o. (o.0, (o.1, (o.2, (o.3, (o.4, o.5)))))) (pair_worded I.model (A.worded s.0) (pair_worded I.model (B.worded s.1) (pair_worded I.model (C.worded s.2) (pair_worded I.model (D.worded s.3) (pair_worded I.model (E.worded s.4) (F.worded s.5)))))) };
+    ghost worded = { λ s. tuple_worded (λ o. (o.0, (o.1, (o.2, (o.3, (o.4, o.5)))))) (pair_worded I.model (A.worded s.0) (pair_worded I.model
+        (B.worded s.1) (pair_worded I.model (C.worded s.2) (pair_worded I.model (D.worded s.3) (pair_worded I.model (E.worded s.4)
+        (F.worded s.5)))))) };
 
     ghost SideCondition = { λ mode old new i. ThenSideCondition (A.SideCondition (with_outputs true mode) old.0 new.0 i) (λ j. ThenSideCondition
         (B.SideCondition (with_outputs
@@ -234,7 +237,9 @@ impl<
 
     ghost word = { λ s. Words.tuple_of_seven I.model (A.word s.0) (B.word s.1) (C.word s.2) (D.word s.3) (E.word s.4) (F.word s.5) (G.word s.6) };
 
-    ghost worded = { λ s. tuple_worded (λ o. (o.0, (o.1, (o.2, (o.3, (o.4, (o.5, o.6))))))) (pair_worded I.model (A.worded s.0) (pair_worded I.model (B.worded s.1) (pair_worded I.model (C.worded s.2) (pair_worded I.model (D.worded s.3) (pair_worded I.model (E.worded s.4) (pair_worded I.model (F.worded s.5) (G.worded s.6))))))) };
+    ghost worded = { λ s. tuple_worded (λ o. (o.0, (o.1, (o.2, (o.3, (o.4, (o.5, o.6))))))) (pair_worded I.model (A.worded s.0) (pair_worded I.model
+        (B.worded s.1) (pair_worded I.model (C.worded s.2) (pair_worded I.model (D.worded s.3) (pair_worded I.model (E.worded s.4)
+        (pair_worded I.model (F.worded s.5) (G.worded s.6))))))) };
 
     ghost SideCondition = { λ mode old new i. ThenSideCondition (A.SideCondition (with_outputs true mode) old.0 new.0 i) (λ j. ThenSideCondition
         (B.SideCondition (with_outputs
@@ -345,7 +350,9 @@ impl<
     ghost word = { λ s. Words.tuple_of_eight I.model (A.word s.0) (B.word s.1) (C.word s.2) (D.word s.3) (E.word s.4) (F.word s.5) (G.word s.6)
         (H.word s.7) };
 
-    ghost worded = { λ s. tuple_worded (λ o. (o.0, (o.1, (o.2, (o.3, (o.4, (o.5, (o.6, o.7)))))))) (pair_worded I.model (A.worded s.0) (pair_worded I.model (B.worded s.1) (pair_worded I.model (C.worded s.2) (pair_worded I.model (D.worded s.3) (pair_worded I.model (E.worded s.4) (pair_worded I.model (F.worded s.5) (pair_worded I.model (G.worded s.6) (H.worded s.7)))))))) };
+    ghost worded = { λ s. tuple_worded (λ o. (o.0, (o.1, (o.2, (o.3, (o.4, (o.5, (o.6, o.7)))))))) (pair_worded I.model (A.worded s.0)
+        (pair_worded I.model (B.worded s.1) (pair_worded I.model (C.worded s.2) (pair_worded I.model (D.worded s.3) (pair_worded I.model
+        (E.worded s.4) (pair_worded I.model (F.worded s.5) (pair_worded I.model (G.worded s.6) (H.worded s.7)))))))) };
 
     ghost SideCondition = { λ mode old new i. ThenSideCondition (A.SideCondition (with_outputs true mode) old.0 new.0 i) (λ j. ThenSideCondition
         (B.SideCondition (with_outputs

@@ -1,6 +1,11 @@
 pub mod Alike
-pub mod Firsts
+pub mod Decisions
+pub mod Escapes
+pub mod Grammars
 pub mod Listed
+pub mod Reading
+pub mod Runs
+pub mod Scanned
 pub mod Strings
 pub mod Values
 pub mod Walks

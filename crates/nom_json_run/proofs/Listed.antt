@@ -13,10 +13,10 @@ use Rattle.nom_stream.specs.declared.stream.Stop.TheVariants as Stop
 use Rattle.nom_stream.specs.declared.stream.Stream.{Stream}
 use Rattle.nom_stream.specs.Held.{last_of}
 use Rattle.nom_stream.specs.Streams.{Decides}
-use Rattle.nom_json_run.specs.Lines.{CheckedLines, Going, IsLine, IsUnread, ListsLines}
-use Rattle.nom_stream.specs.Lines.{line_of}
-use Rattle.nom_json_run.specs.Lines.{long_line}
-use Rattle.nom_json_run.specs.Lines.CheckedLines.{none, good, bad}
+use Rattle.nom_json_run.specs.JsonLines.{CheckedLines, Going, IsLine, StopsAtRead, ListsLines}
+use Rattle.nom_stream.specs.ReaderLines.{line_of}
+use Rattle.nom_json_run.specs.JsonLines.{long_line}
+use Rattle.nom_json_run.specs.JsonLines.CheckedLines.{none, good, bad}
 
 pub going_none : {R A : Type 0} (left : R → Option (List ℕ)) (s : Stream R A) (a : Account) → Going left s s a a 0 false
 going_none left s a = record { text = []; lines = none; wrote = wrote_none }
@@ -67,7 +67,7 @@ module _ {R A : Type 0} {left : R → Option (List ℕ)} {s t u : Stream R A} {o
 
     pub on_stop : (why : Stops.Stop) {r : Result ℕ RunError} → Decides left line_of t u (Err why) →
         ((why ≡ Stop.TooLong) × WritesText (λ text status. (text ≡ long_line (count + 1)) × (status ≡ 3)) a b Kept r)
-        ⊎ ((why ≡ Stop.OutOfMemory) × Kept × (r ≡ Err Error.OutOfMemory)) ⊎ (IsUnread why × Kept × (r ≡ Err Error.Read)) →
+        ⊎ ((why ≡ Stop.OutOfMemory) × Kept × (r ≡ Err Error.OutOfMemory)) ⊎ (StopsAtRead why × Kept × (r ≡ Err Error.Read)) →
         ListsLines left s u old b r
     on_stop why d (inl (h, Whole text status e i w)) = subst (ListsLines left s u old b) (sym e) (record {
       count = count;

@@ -8,11 +8,11 @@ use Rattle.nom_json_run.specs.Json.{begins, closing, first_is, opening, rest}
 use Rattle.nom_json_run.specs.Json.JsonValue.{null, truth, untruth, number, text, brackets}
 use Rattle.nom_json_run.specs.Json.JsonItem.{element, member}
 use Rattle.nom_json_run.specs.Scans.{EndsNowhere, EndsOnly, SameEnds}
-use Rattle.nom_json_run.specs.Walk.{IsWordAt, is_mark}
-use Rattle.nom_json_run.specs.Walk.IsWordAt.{as_null, as_true, as_false}
+use Rattle.nom_json_run.specs.Walk.{BeginsWord, is_mark}
+use Rattle.nom_json_run.specs.Walk.BeginsWord.{as_null, as_true, as_false}
 use Rattle.nom_json_run.specs.declared.bracket.Bracket.{Bracket}
 use Rattle.nom_json_run.specs.declared.bracket.Bracket.TheVariants.{Array, Object}
-use Rattle.nom_json_run.proofs.Firsts.{rest_at}
+use Rattle.nom_json_run.proofs.Alike.{rest_at}
 
 no_some : (j : List ℕ) → ◌≡◌ {A = Option (List ℕ)} None (Some j) → ⊥
 no_some j e = cc
@@ -73,7 +73,7 @@ untruth_from i r (text t) = absurd (no_true t.0)
 untruth_from i r (brackets Array j e h s) = absurd (no_true e)
 untruth_from i r (brackets Object j e h s) = absurd (no_true e)
 
-pub word_same : (w i : List ℕ) → IsWordAt w i → SameEnds (JsonValue i) (Spaced (Leaves (after_word w)) i)
+pub word_same : (w i : List ℕ) → BeginsWord w i → SameEnds (JsonValue i) (Spaced (Leaves (after_word w)) i)
 word_same w i (as_null e b) r = (
   λ v. subst (λ u. Spaced (Leaves (after_word u)) i r) (sym e) (by_head 110 JsonValue (Spaced (Leaves (after_word (codes "null")))) null_from i b r v),
   λ s. null (subst (λ u. Spaced (Leaves (after_word u)) i r) e s),
@@ -121,7 +121,7 @@ text_same i e r = (λ v. by_head 34 JsonValue JsonString text_from i e r v, λ t
 
 pub string_same : (bs : List ℕ) (at : ℕ) → begins 34 (drop at bs) ≡ true → SameEnds (JsonString (drop at bs)) (Spaced JsonCharacters (drop (at + 1) bs))
 string_same bs at e r =
-    let p = rest_at (λ b. b == 34) bs at e in
+    let p = rest_at bs at in
     (λ t. subst (λ xs. Spaced JsonCharacters xs r) p t.1, λ s. (e, subst (λ xs. Spaced JsonCharacters xs r) (sym p) s))
 
 pub string_no : (i : List ℕ) → begins 34 i ≡ false → EndsNowhere (JsonString i)
@@ -189,7 +189,7 @@ pub bracket_from : (o : Bracket) (i r : List ℕ) → begins (opening o) i ≡ t
 bracket_from Array i r e h = by_head 91 JsonValue (λ j. Spaced (JsonInside Array) (after_spaces (rest j))) array_from i e r h
 bracket_from Object i r e h = by_head 123 JsonValue (λ j. Spaced (JsonInside Object) (after_spaces (rest j))) object_from i e r h
 
-pub named_some : (w i : List ℕ) → IsWordAt w i → 0 < length w
+pub named_some : (w i : List ℕ) → BeginsWord w i → 0 < length w
 named_some w i (as_null e b) = let h : length w ≡ 4 = ap length e in omega (arith, h)
 named_some w i (as_true e b) = let h : length w ≡ 4 = ap length e in omega (arith, h)
 named_some w i (as_false e b) = let h : length w ≡ 5 = ap length e in omega (arith, h)

@@ -1,13 +1,11 @@
 -- JSON, by RFC 8259. A text is read as the bytes of its UTF-8 form: a character above 127 has no byte below 128 in it, so its bytes may be
 -- read one by one. A relation of two lists says that something of its name stands at the beginning of the first, and that the second is
 -- what follows it. White space is taken with what stands before it.
-use Rattle.std.specs.Prelude.{◌≡◌, ℕ, zero, suc, Bool, true, false, ◌==◌, if◌then◌else◌, List, [], ◌∷◌, Option, None, Some}
+use Rattle.std.specs.Prelude.{◌≡◌, ℕ, zero, suc, Bool, true, false, not, ◌==◌, ◌&&◌, if◌then◌else◌, nat_le, List, [], ◌∷◌, Option, None, Some}
 use Rattle.std.specs.Prelude.{codes, IsUtf8}
+use Rattle.nom_traits.specs.Classes.{is_dec_digit_code, is_hex_digit_code, is_listed, is_multispace_code}
 use Rattle.nom_json_run.specs.declared.bracket.Bracket.{Bracket}
 use Rattle.nom_json_run.specs.declared.bracket.Bracket.TheVariants.{Array, Object}
-use Rattle.nom_json_run.specs.declared.class.Class.{Class}
-use Rattle.nom_json_run.specs.declared.class.Class.TheVariants.{Space, Digit, Hex, Minus, Sign, Mark, Plain, Letter}
-use Rattle.nom_json_run.specs.Classes.{in_class}
 
 -- whether the first byte passes a test
 abbrev pub first_is : (ℕ → Bool) → List ℕ → Bool
@@ -34,7 +32,7 @@ after_one test bs = if first_is test bs then rest bs else bs
 
 -- what follows white space, of which there may be none
 abbrev pub after_spaces : List ℕ → List ℕ
-after_spaces = after_all (in_class Space)
+after_spaces = after_all is_multispace_code
 
 -- what follows a word
 abbrev pub after_word : (word bs : List ℕ) → Option (List ℕ)
@@ -43,7 +41,7 @@ after_word (c ∷ word) bs = if begins c bs then after_word word (rest bs) else 
 
 -- what follows digits, one at least
 abbrev pub after_digits1 : List ℕ → Option (List ℕ)
-after_digits1 bs = if first_is (in_class Digit) bs then Some (after_all (in_class Digit) (rest bs)) else None
+after_digits1 bs = if first_is is_dec_digit_code bs then Some (after_all is_dec_digit_code (rest bs)) else None
 
 -- integer = '0' | digit+, where the first isn't 0
 abbrev pub after_integer : List ℕ → Option (List ℕ)
@@ -55,7 +53,7 @@ after_fraction bs = if begins 46 bs then after_digits1 (rest bs) else Some bs
 
 -- exponent = (('e' | 'E') ('+' | '-')? digit+)?
 abbrev pub after_exponent : List ℕ → Option (List ℕ)
-after_exponent bs = if first_is (in_class Mark) bs then after_digits1 (after_one (in_class Sign) (rest bs)) else Some bs
+after_exponent bs = if first_is (is_listed (codes "eE")) bs then after_digits1 (after_one (is_listed (codes "+-")) (rest bs)) else Some bs
 
 abbrev pub and_then : Option (List ℕ) → (List ℕ → Option (List ℕ)) → Option (List ℕ)
 and_then None next = None
@@ -63,28 +61,32 @@ and_then (Some bs) next = next bs
 
 -- number = '-'? integer fraction exponent
 abbrev pub after_unsigned : List ℕ → Option (List ℕ)
-after_unsigned bs = and_then (and_then (after_integer bs) after_fraction) after_exponent
+after_unsigned bs = and_then (after_integer bs) (λ cs. and_then (after_fraction cs) after_exponent)
 
 abbrev pub after_number : List ℕ → Option (List ℕ)
-after_number bs = after_unsigned (after_one (in_class Minus) bs)
+after_number bs = after_unsigned (after_one (λ b. b == 45) bs)
 
--- what follows a byte of a class
-abbrev pub after_class : Class → List ℕ → Option (List ℕ)
-after_class class bs = if first_is (in_class class) bs then Some (rest bs) else None
+-- what follows a byte that passes a test
+abbrev pub after_byte : (ℕ → Bool) → List ℕ → Option (List ℕ)
+after_byte test bs = if first_is test bs then Some (rest bs) else None
 
 -- what follows that many digits in base 16
 abbrev pub after_hex : ℕ → List ℕ → Option (List ℕ)
 after_hex zero bs = Some bs
-after_hex (suc n) bs = and_then (after_hex n bs) (after_class Hex)
+after_hex (suc n) bs = and_then (after_byte is_hex_digit_code bs) (after_hex n)
 
 -- escape = letter | 'u' hex hex hex hex, after a backslash
 abbrev pub after_escape : List ℕ → Option (List ℕ)
-after_escape bs = if begins 117 bs then after_hex 4 (rest bs) else after_class Letter bs
+after_escape bs = if begins 117 bs then after_hex 4 (rest bs) else after_byte (is_listed (codes "\"\\/bfnrt")) bs
+
+-- a character that represents itself: no quote, no backslash, and none below a space
+abbrev pub is_plain_code : ℕ → Bool
+is_plain_code b = nat_le 32 b && (not (b == 34) && not (b == 92))
 
 -- the characters of a string, and the quote that closes it
 pub data JsonCharacters : (i r : List ℕ) → Type 0 where
   close : {i r : List ℕ} → begins 34 i ≡ true → r ≡ rest i → JsonCharacters i r
-  plain : {i r : List ℕ} → first_is (in_class Plain) i ≡ true → JsonCharacters (rest i) r → JsonCharacters i r
+  plain : {i r : List ℕ} → first_is is_plain_code i ≡ true → JsonCharacters (rest i) r → JsonCharacters i r
   escape : {i r : List ℕ} (j : List ℕ) → begins 92 i ≡ true → after_escape (rest i) ≡ Some j → JsonCharacters j r → JsonCharacters i r
 
 -- what is left after a part

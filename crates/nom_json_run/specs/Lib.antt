@@ -1,6 +1,6 @@
-pub mod Classes
+pub mod Grammars
 pub mod Json
-pub mod Lines
+pub mod JsonLines
 pub mod Report
 pub mod Scans
 pub mod Walk

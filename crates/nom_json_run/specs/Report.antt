@@ -14,7 +14,7 @@ use Rattle.nom_json_run.specs.declared.bracket.Fault.{Fault}
 use Rattle.nom_json_run.specs.declared.bracket.Missing as Part
 use Rattle.nom_json_run.specs.declared.bracket.Missing.TheVariants as Missing
 use Rattle.nom_json_run.specs.Json.{IsJson, closing}
-use Rattle.nom_json_run.specs.Walk.{IsFault}
+use Rattle.nom_json_run.specs.Walk.{IsJsonFault}
 
 -- what is wanted at a place, in this order, and nothing else, in no context
 pub record Wanting (place : Bor (List ℕ)) (wanted : List Wanted) (e : Report (Bor (List ℕ))) : Type 0 where
@@ -69,7 +69,7 @@ pub record IsOctetsReport (name bytes : List ℕ) (at : ℕ) (text : List ℕ) :
 -- Of a fault behind `inside` that is the place.
 abbrev pub IsFaultReport : (name bytes : List ℕ) (inside place : ℕ) (text : List ℕ) → Type 0
 IsFaultReport name bytes inside place text = (IsJson bytes → ⊥) × (place ≤ length bytes) ×
-    ((IsUtf8 bytes × ((fault : Fault) × IsFault bytes fault × (place ≡ min fault.at inside) × IsTextReport name bytes fault text)) ⊎
+    ((IsUtf8 bytes × ((fault : Fault) × IsJsonFault bytes fault × (place ≡ min fault.at inside) × IsTextReport name bytes fault text)) ⊎
     ((IsUtf8 bytes → ⊥) × (place ≡ utf8_valid_len bytes) × IsOctetsReport name bytes place text))
 
 -- nothing is told of a JSON text, with status 0; of all else there is a report, with status 1

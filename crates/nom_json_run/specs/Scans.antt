@@ -1,5 +1,9 @@
 -- Where something ends that begins at a place of some bytes, and where it fails.
 use Rattle.std.specs.Prelude.{◌≡◌, ℕ, ◌+◌, ◌≤◌, ◌↔◌, List, None, Result, Ok, Err, length, take, drop}
+use Rattle.nom_error.specs.Answers.{IResult}
+use Rattle.nom_error.specs.declared.answer.Err.TheVariants as Answer
+use Rattle.nom_error.specs.declared.value.Error.{Error}
+use Rattle.nom_json_run.specs.Grammars.{Bytes}
 use Rattle.nom_json_run.specs.declared.bracket.Fault.{Fault}
 use Rattle.nom_json_run.specs.declared.bracket.Missing as Part
 use Rattle.nom_json_run.specs.declared.bracket.Missing.TheVariants as Missing
@@ -54,3 +58,19 @@ Scans bytes Ends start (Err fault) = FailsAt bytes (λ i. EndsNowhere (Ends i)) 
 abbrev pub ScansFor : (bytes : List ℕ) (Ends : List ℕ → List ℕ → Type 0) (start : ℕ) → Result ℕ Fault → Type 0
 ScansFor bytes Ends start (Ok stop) = EndsAt bytes Ends start stop
 ScansFor bytes Ends start (Err fault) = FailsFor bytes (λ i. EndsNowhere (Ends i)) start fault
+
+-- an answer, its rest or its error at a place of the bytes
+abbrev pub IsPlaced : (bytes : List ℕ) → IResult Bytes Bytes (Error Bytes) → Type 0
+IsPlaced bytes (Ok x) = length x.0.now ≤ length bytes
+IsPlaced bytes (Err (Answer.Error e)) = length e.input.now ≤ length bytes
+IsPlaced bytes (Err (Answer.Failure e)) = length e.input.now ≤ length bytes
+IsPlaced bytes (Err (Answer.Incomplete n)) = ⊥
+IsPlaced bytes (Err Answer.OutOfMemory) = ⊥
+
+-- and that place
+abbrev pub IsStop : (bytes : List ℕ) → IResult Bytes Bytes (Error Bytes) → Result ℕ Fault → Type 0
+IsStop bytes (Ok x) stop = (n : ℕ) × (stop ≡ Ok n) × (n + length x.0.now ≡ length bytes)
+IsStop bytes (Err (Answer.Error e)) stop = (fault : Fault) × (stop ≡ Err fault) × (fault.at + length e.input.now ≡ length bytes)
+IsStop bytes (Err (Answer.Failure e)) stop = (fault : Fault) × (stop ≡ Err fault) × (fault.at + length e.input.now ≡ length bytes)
+IsStop bytes (Err (Answer.Incomplete n)) stop = ⊥
+IsStop bytes (Err Answer.OutOfMemory) stop = ⊥

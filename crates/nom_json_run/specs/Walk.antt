@@ -48,17 +48,17 @@ abbrev pub is_mark : ℕ → Bool
 is_mark b = b == 34 || b == 91 || b == 102 || b == 110 || b == 116 || b == 123
 
 -- the first character of a word stands at the place
-pub data IsWordAt (word i : List ℕ) : Type 0 where
-  as_null : word ≡ codes "null" → begins 110 i ≡ true → IsWordAt word i
-  as_true : word ≡ codes "true" → begins 116 i ≡ true → IsWordAt word i
-  as_false : word ≡ codes "false" → begins 102 i ≡ true → IsWordAt word i
+pub data BeginsWord (word i : List ℕ) : Type 0 where
+  as_null : word ≡ codes "null" → begins 110 i ≡ true → BeginsWord word i
+  as_true : word ≡ codes "true" → begins 116 i ≡ true → BeginsWord word i
+  as_false : word ≡ codes "false" → begins 102 i ≡ true → BeginsWord word i
 
 -- The fault of bytes that are no value: whatever follows the byte at its place, they are none, as long as what is missing is missing there.
-pub record IsFault (bytes : List ℕ) (fault : Fault) : Type 0 where
+pub record IsJsonFault (bytes : List ℕ) (fault : Fault) : Type 0 where
   pub within : fault.at ≤ length bytes
   pub here : IsValue bytes → ⊥
   pub fails : (bs : List ℕ) → BeginsAs bytes fault.at bs → IsMissing fault.missing (drop fault.at bs) → IsValue bs → ⊥
 
 -- no fault where the bytes are a value, with white space around it; else their fault
 abbrev pub IsVerdict : (bytes : List ℕ) → Option Fault → Type 0
-IsVerdict bytes verdict = MatchOption verdict (IsValue bytes) (IsFault bytes)
+IsVerdict bytes verdict = MatchOption verdict (IsValue bytes) (IsJsonFault bytes)

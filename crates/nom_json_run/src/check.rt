@@ -4,7 +4,7 @@
 ghost use Rattle.std.specs.Prelude.{◌≡◌, ◌≤◌, ◌∷◌, ◌<◌, [], IfOk, IfErr, MatchOption, OnErr, false, true, length, drop, reverse, vec_capacity, vec_len};
 ghost use Rattle.nom_json_run.specs.Json.{JsonItem, JsonString, JsonValue, begins, closing, first_is, opening};
 ghost use Rattle.nom_json_run.specs.Scans.{EndsNowhere, FailsAt, Scans, ScansFor};
-ghost use Rattle.nom_json_run.specs.Walk.{ClosesAll, ClosesAfter, FinishesText, IsKey, IsWordAt, IsVerdict, Stepped, is_mark};
+ghost use Rattle.nom_json_run.specs.Walk.{ClosesAll, ClosesAfter, FinishesText, IsKey, BeginsWord, IsVerdict, Stepped, is_mark};
 
 use crate::bracket::{Awaits, Bracket, Fault, Missing, Step};
 use crate::scan::{byte_is, number, spaces, string, word};
@@ -60,7 +60,7 @@ fn quoted(bytes: &[u8], at: usize) -> Result<usize, Fault>
 // A word, and the white space after it.
 #[inline(always)]
 fn named(bytes: &[u8], at: usize, wanted: &'static str) -> Result<usize, Fault>
-    requires { IsWordAt wanted.now (drop at bytes.now) }
+    requires { BeginsWord wanted.now (drop at bytes.now) }
     ensures some { IfOk result (λ n. at < n) }
     ensures scans { ScansFor bytes.now JsonValue at result }
 {

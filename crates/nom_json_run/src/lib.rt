@@ -5,7 +5,6 @@
 
 pub mod bracket;
 pub mod check;
-pub mod class;
 pub mod lines;
 pub mod report;
 pub mod scan;

@@ -3,7 +3,7 @@ ghost use Rattle.std.specs.Prelude.{◌≡◌, ◌++◌, ◌≤◌, ◌<◌, ◌
 ghost use Rattle.std.specs.List.{before_first};
 ghost use Rattle.nom_located.specs.Lines.{begins_character};
 ghost use Rattle.nom_run.specs.Runs.{WritesText};
-ghost use Rattle.nom_json_run.specs.Lines.{IsLine, IsUnread, ListsLines, fault_line, long_line};
+ghost use Rattle.nom_json_run.specs.JsonLines.{IsLine, StopsAtRead, ListsLines, fault_line, long_line};
 
 use crate::report::fault_report;
 use nom_error::answer::OutOfMemory;
@@ -126,7 +126,7 @@ fn stopped<A: Allocator + Copy, W: Sink>(
     ensures { ((why ≡ Stop.TooLong) × WritesText (λ text status. (text ≡ long_line number) × (status ≡ 3)) (W.account sink.old) (W.account sink.new)
         (sink.new ≡ sink.old) result)
         ⊎ ((why ≡ Stop.OutOfMemory) × (sink.new ≡ sink.old) × (result ≡ Err RunError.OutOfMemory))
-        ⊎ (IsUnread why × (sink.new ≡ sink.old) × (result ≡ Err RunError.Read)) }
+        ⊎ (StopsAtRead why × (sink.new ≡ sink.old) × (result ≡ Err RunError.Read)) }
 {
     match why {
         Stop::TooLong => tell_too_long(alloc, sink, number),

@@ -1,13 +1,26 @@
-//! Texts without a value in them: white space, words, numbers and strings. Each function returns the place
-//! where it ends.
-ghost use Rattle.std.specs.Prelude.{◌≡◌, ℕ, ◌+◌, ◌<◌, ◌≤◌, List, IfOk, false, length, drop};
-ghost use Rattle.nom_json_run.specs.Classes.{in_class};
-ghost use Rattle.nom_json_run.specs.Json.{JsonCharacters, Leaves, after_all, after_digits1, after_escape, after_exponent, after_fraction};
-ghost use Rattle.nom_json_run.specs.Json.{after_hex, after_integer, after_number, after_one, after_spaces, after_word, begins, first_is};
-ghost use Rattle.nom_json_run.specs.Scans.{BeginsAs, Scans, ScansFor};
+//! Texts without a value in them: white space, words, numbers and strings, of nom's parsers. Each function returns the
+//! place where it ends.
+ghost use Rattle.std.specs.Prelude.{◌≡◌, ℕ, ◌+◌, ◌<◌, ◌≤◌, List, IfOk, length, drop};
+ghost use Rattle.nom_traits.specs.Classes.{is_hex_digit_code};
+ghost use Rattle.nom_json_run.specs.Grammars as Grammar;
+ghost use Rattle.nom_json_run.specs.Grammars.{Parses};
+ghost use Rattle.nom_json_run.specs.Json.{JsonCharacters, Leaves, after_number, after_spaces, after_word, begins, is_plain_code};
+ghost use Rattle.nom_json_run.specs.Scans.{BeginsAs, IsPlaced, IsStop, Scans, ScansFor};
 
 use crate::bracket::{Fault, Missing};
-use crate::class::Class;
+use nom_branch::alt;
+use nom_bytes::{tag, take_while};
+use nom_character::{char, digit1, multispace0, one_of, satisfy};
+use nom_combinator::{cut, opt, recognize};
+use nom_error::answer::{Err, IResult};
+use nom_error::kind::ErrorKind;
+use nom_error::value::Error;
+use nom_internal::parser::Parser;
+use nom_multi_fold::many0_count;
+use nom_sequence::{pair, preceded, terminated};
+use nom_traits::character::AsChar;
+
+type Answer<'a> = IResult<&'a [u8], &'a [u8], Error<&'a [u8]>>;
 
 /// Returns whether a byte is at a place.
 #[inline(always)]
@@ -21,47 +34,39 @@ pub fn byte_is(bytes: &[u8], at: usize, byte: u8) -> bool
     }
 }
 
-/// Returns whether a byte of a class is at a place.
+/// Returns what is missing where a parser refuses with an error of a kind.
 #[inline(always)]
-fn class_at(bytes: &[u8], at: usize, class: Class) -> bool
-    ensures { result ≡ first_is (in_class class) (drop at bytes.now) }
-{
-    if at < bytes.len() {
-        class.has(bytes[at])
-    } else {
-        false
+fn missing(kind: ErrorKind) -> Missing {
+    match kind {
+        ErrorKind::Digit => Missing::Digit,
+        ErrorKind::Satisfy => Missing::Hex,
+        ErrorKind::OneOf => Missing::Escape,
+        _ => Missing::Character,
     }
 }
 
-/// Skips the bytes of a class, as many as there are.
+/// Returns the place of an answer: where its rest begins, or where its error is.
 #[inline(always)]
-fn skip(bytes: &[u8], start: usize, class: Class) -> usize
-    requires { start ≤ length bytes.now }
-    ensures follows { (bs : List ℕ) → BeginsAs bytes.now result bs → drop result bs ≡ after_all (in_class class) (drop start bs) }
-    ensures ends { first_is (in_class class) (drop result bytes.now) ≡ false }
-    ensures begins { start ≤ result }
-    ensures within { result ≤ length bytes.now }
+fn place(bytes: &[u8], answer: Answer<'_>) -> Result<usize, Fault>
+    requires { IsPlaced bytes.now answer }
+    ensures { IsStop bytes.now answer.entry result }
 {
-    let mut at = start;
-    'run: while class_at(bytes, at, class) {
-        at += 1;
+    match answer {
+        Ok((rest, _)) => Ok(bytes.len() - rest.len()),
+        Err(Err::Error(error)) | Err(Err::Failure(error)) => Err(Fault {
+            at: bytes.len() - error.input.len(),
+            missing: missing(error.code),
+        }),
+        Err(Err::Incomplete(_)) => unreachable!(),
+        Err(Err::OutOfMemory) => unreachable!(),
     }
-    at
 }
 
-/// Skips one byte of a class, if there is one.
 #[inline(always)]
-fn skip_one(bytes: &[u8], start: usize, class: Class) -> usize
-    requires { start ≤ length bytes.now }
-    ensures follows { (bs : List ℕ) → BeginsAs bytes.now result bs → drop result bs ≡ after_one (in_class class) (drop start bs) }
-    ensures begins { start ≤ result }
-    ensures within { result ≤ length bytes.now }
+fn spaces_of<'a>(input: &'a [u8]) -> Answer<'a>
+    ensures { Parses Grammar.spaces_of input.entry result }
 {
-    if class_at(bytes, start, class) {
-        start + 1
-    } else {
-        start
-    }
+    multispace0().parse_complete(input)
 }
 
 /// Skips white space.
@@ -71,63 +76,22 @@ pub fn spaces(bytes: &[u8], start: usize) -> usize
     ensures begins { start ≤ result }
     ensures within { result ≤ length bytes.now }
 {
-    // Not `inline(always)`: with the class folded in first, the steps that call it stay small enough to inline.
-    skip(bytes, start, Class::Space)
-}
-
-/// Skips digits, at least one.
-#[inline(always)]
-fn digits1(bytes: &[u8], start: usize) -> Result<usize, Fault>
-    requires { start ≤ length bytes.now }
-    ensures some { IfOk result (λ n. start < n) }
-    ensures scans { Scans bytes.now (Leaves after_digits1) start result }
-{
-    if class_at(bytes, start, Class::Digit) {
-        Ok(skip(bytes, start + 1, Class::Digit))
-    } else {
-        Err(Fault {
-            at: start,
-            missing: Missing::Digit,
-        })
+    match place(bytes, spaces_of(&bytes[start..])) {
+        Ok(stop) => stop,
+        Err(_) => unreachable!(),
     }
 }
 
 #[inline(always)]
-fn integer(bytes: &[u8], start: usize) -> Result<usize, Fault>
-    requires { start ≤ length bytes.now }
-    ensures some { IfOk result (λ n. start < n) }
-    ensures scans { Scans bytes.now (Leaves after_integer) start result }
+fn number_of<'a>(input: &'a [u8]) -> Answer<'a>
+    ensures { Parses Grammar.number_of input.entry result }
 {
-    if byte_is(bytes, start, b'0') {
-        Ok(start + 1)
-    } else {
-        digits1(bytes, start)
-    }
-}
-
-#[inline(always)]
-fn fraction(bytes: &[u8], start: usize) -> Result<usize, Fault>
-    requires { start ≤ length bytes.now }
-    ensures { Scans bytes.now (Leaves after_fraction) start result }
-{
-    if byte_is(bytes, start, b'.') {
-        digits1(bytes, start + 1)
-    } else {
-        Ok(start)
-    }
-}
-
-#[inline(always)]
-fn exponent(bytes: &[u8], start: usize) -> Result<usize, Fault>
-    requires { start ≤ length bytes.now }
-    ensures { Scans bytes.now (Leaves after_exponent) start result }
-{
-    if class_at(bytes, start, Class::Mark) {
-        let signed = skip_one(bytes, start + 1, Class::Sign);
-        digits1(bytes, signed)
-    } else {
-        Ok(start)
-    }
+    let minus = opt(char::<&'a [u8], Error<&'a [u8]>>('-'));
+    let whole = alt((tag("0"), digit1()));
+    let fraction = opt(preceded(char('.'), cut(digit1())));
+    let mark = pair(one_of("eE"), opt(one_of("+-")));
+    let exponent = opt(preceded(mark, cut(digit1())));
+    recognize((minus, whole, fraction, exponent)).parse_complete(input)
 }
 
 /// Skips a number.
@@ -137,16 +101,14 @@ pub fn number(bytes: &[u8], start: usize) -> Result<usize, Fault>
     ensures some { IfOk result (λ n. start < n) }
     ensures scans { Scans bytes.now (Leaves after_number) start result }
 {
-    let unsigned = skip_one(bytes, start, Class::Minus);
-    let whole = match integer(bytes, unsigned) {
-        Ok(at) => at,
-        Err(fault) => return Err(fault),
-    };
-    let part = match fraction(bytes, whole) {
-        Ok(at) => at,
-        Err(fault) => return Err(fault),
-    };
-    exponent(bytes, part)
+    place(bytes, number_of(&bytes[start..]))
+}
+
+#[inline(always)]
+fn word_of<'a>(input: &'a [u8], wanted: &'static str) -> Answer<'a>
+    ensures { Parses (Grammar.tag_of wanted.now) input.entry result }
+{
+    tag(wanted).parse_complete(input)
 }
 
 /// Skips a word.
@@ -156,51 +118,42 @@ pub fn word(bytes: &[u8], start: usize, wanted: &'static str) -> Result<usize, F
     ensures length { IfOk result (λ n. start + length wanted.now ≤ n) }
     ensures scans { ScansFor bytes.now (Leaves (after_word wanted.now)) start result }
 {
-    let text = wanted.as_bytes();
-    let mut at = 0;
-    while at < text.len() {
-        if !byte_is(bytes, start + at, text[at]) {
-            return Err(Fault {
-                at: start,
-                missing: Missing::Word(wanted),
-            });
-        }
-        at += 1;
-    }
-    Ok(start + at)
-}
-
-/// Skips four digits in base 16.
-fn hexes(bytes: &[u8], start: usize) -> Result<usize, Fault>
-    requires { start ≤ length bytes.now }
-    ensures { Scans bytes.now (Leaves (after_hex 4)) start result }
-{
-    for count in 0usize..4 {
-        if !class_at(bytes, start + count, Class::Hex) {
-            return Err(Fault {
-                at: start + count,
-                missing: Missing::Hex,
-            });
-        }
-    }
-    Ok(start + 4)
-}
-
-/// Skips the part after a backslash.
-fn escape(bytes: &[u8], start: usize) -> Result<usize, Fault>
-    requires { start ≤ length bytes.now }
-    ensures { Scans bytes.now (Leaves after_escape) start result }
-{
-    if byte_is(bytes, start, b'u') {
-        hexes(bytes, start + 1)
-    } else if class_at(bytes, start, Class::Letter) {
-        Ok(start + 1)
-    } else {
-        Err(Fault {
+    match place(bytes, word_of(&bytes[start..], wanted)) {
+        Ok(stop) => Ok(stop),
+        Err(_) => Err(Fault {
             at: start,
-            missing: Missing::Escape,
-        })
+            missing: Missing::Word(wanted),
+        }),
     }
+}
+
+#[inline(always)]
+fn is_plain(byte: u8) -> bool
+    ensures { result ≡ is_plain_code byte }
+{
+    byte >= b' ' && byte != b'"' && byte != b'\\'
+}
+
+#[inline(always)]
+fn is_hex(c: char) -> bool
+    ensures { result ≡ is_hex_digit_code c }
+{
+    AsChar::is_hex_digit(c)
+}
+
+fn string_of<'a>(input: &'a [u8]) -> Answer<'a>
+    ensures { Parses Grammar.string_of input.entry result }
+{
+    let hexes = (
+        satisfy(is_hex),
+        satisfy(is_hex),
+        satisfy(is_hex),
+        satisfy(is_hex),
+    );
+    let long = terminated(char('u'), cut(hexes));
+    let escape = preceded(char('\\'), cut(alt((long, one_of("\"\\/bfnrt")))));
+    let escapes = many0_count(terminated(escape, take_while(is_plain)));
+    recognize((take_while(is_plain), escapes, char('"'))).parse_complete(input)
 }
 
 /// Skips the characters of a string, after the quote that opens it, and the quote that closes it.
@@ -209,21 +162,5 @@ pub fn string(bytes: &[u8], start: usize) -> Result<usize, Fault>
     ensures some { IfOk result (λ n. start < n) }
     ensures scans { Scans bytes.now JsonCharacters start result }
 {
-    let mut at = start;
-    'pieces: loop {
-        at = skip(bytes, at, Class::Plain);
-        if byte_is(bytes, at, b'"') {
-            return Ok(at + 1);
-        }
-        if !byte_is(bytes, at, b'\\') {
-            return Err(Fault {
-                at,
-                missing: Missing::Character,
-            });
-        }
-        match escape(bytes, at + 1) {
-            Ok(after) => at = after,
-            Err(fault) => return Err(fault),
-        }
-    }
+    place(bytes, string_of(&bytes[start..]))
 }

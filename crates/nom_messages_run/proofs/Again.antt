@@ -8,7 +8,7 @@ use Rattle.nom_internal.specs.Prelude.{bytes_lawful, bytes_model, AreValues, IsP
 use Rattle.nom_internal.specs.Prelude.{items_len-ones, itself}
 use Rattle.nom_calls.specs.Iterated.{AreItems}
 use Rattle.nom_run.specs.Texts.{bytes_text, lines_text}
-use Rattle.nom_sink.specs.Lists.{Each}
+use Rattle.nom_sink.specs.Lists.{EachForm}
 use Rattle.nom_stream.specs.declared.stream.Stop as Why
 use Rattle.nom_stream.specs.declared.stream.Stop.TheVariants as Stop
 use Rattle.nom_stream.specs.declared.stream.Stream.{Stream}
@@ -17,7 +17,7 @@ use Rattle.nom_stream.specs.Items.{Bytes}
 use Rattle.nom_stream.specs.Streams.{Decides, ItemResult}
 use Rattle.nom_stream.specs.Wholes.{AnswersWhole, AtWhole, BytesOfWhole, Calls, HasLeft, ItemsOfWhole}
 use Rattle.nom_write.specs.Reads.{Anything}
-use Rattle.nom_write.specs.laws.SequenceReads.{follows}
+use Rattle.nom_write.specs.laws.SequenceReads.{rest_follows}
 use Rattle.nom_write_stream.specs.declared.outgoing.Outgoing.{Outgoing}
 use Rattle.nom_write_stream.specs.Outgoing.{IsItem, Sends}
 use Rattle.nom_write_stream.specs.Pipes.{TellsItems}
@@ -40,7 +40,7 @@ use Rattle.nom_messages_run.proofs.ReadBack.{stream_reads_back}
 
 -- what was sent of messages: forms of them, one after another
 abbrev AreSent : List Message → List ℕ → Type 0
-AreSent = Each (λ m. IsItem (IsMessage m) 259)
+AreSent = EachForm (λ m. IsItem (IsMessage m) 259)
 
 one_more : (messages : List Message) (m : Message) (xs ys : List ℕ) → AreSent messages xs → IsItem (IsMessage m) 259 ys →
     AreSent (messages ++ m ∷ []) (xs ++ ys)
@@ -101,7 +101,7 @@ sent_values (m ∷ messages) xs h =
     subst (AreValues (λ b. b < 256)) (sym h.whole) (values_both h.front h.back (h.first).known.0 (sent_values messages h.back h.second))
 
 -- as a stream has them
-as_received : (messages : List Message) (xs : List ℕ) → AreSent messages xs → Each (λ v. IsItem (IsReceived v) 259) (map received messages) xs
+as_received : (messages : List Message) (xs : List ℕ) → AreSent messages xs → EachForm (λ v. IsItem (IsReceived v) 259) (map received messages) xs
 as_received [] xs h = h
 as_received (m ∷ messages) xs h = record {
   front = h.front;
@@ -213,7 +213,7 @@ module _ {R A : Type 0} (left : R → Option (List ℕ)) where
           lent = bytes s u n o d whole.now has ∙ (ap (λ z. take z whole.now) count ∙ (ap (λ z. take (length xs) z) e ∙ take-append_seam xs rest));
           place = k.place;
           known = begins.known;
-          after = follows bytes_model bytes_lawful whole k.place xs rest e begins;
+          after = rest_follows bytes_model bytes_lawful whole k.place xs rest e begins;
           left_then = k.left_then;
           offset = counted;
         }

@@ -2,7 +2,7 @@ mod Again
 pub mod Answered
 pub mod Framed
 pub mod Lacks
-pub mod Lines
+pub mod SentLines
 mod MessageParts
 mod Piped
 mod Putting

@@ -7,7 +7,7 @@ use Rattle.nom_error.specs.declared.value.Error.{Error}
 use Rattle.nom_error.specs.declared.answer.Err.TheVariants as Answer
 use Rattle.nom_internal.specs.Prelude.{IResult}
 use Rattle.nom.specs.grammars.Bytes.{Bytes, Parses}
-use Rattle.nom_stream.specs.Lines.{line_of}
+use Rattle.nom_stream.specs.ReaderLines.{line_of}
 use Rattle.nom_sink.specs.declared.error.WriteError.{WriteError}
 use Rattle.nom_sink.specs.declared.error.WriteError.TheVariants as Write
 use Rattle.nom_stream.specs.declared.stream.Stop as Stops

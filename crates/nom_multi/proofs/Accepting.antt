@@ -36,6 +36,7 @@ module _ {I A V E : Type 0} (w : Model I A) (errs : Errors I E) (m : Meaning I V
       forward false e a = (ltb-false most least e, accepted_in_turn w errs (bounded_limits Kind.ManyMN least most) (Unit {0}) m s i n vs a)
 
       backward : (test : Bool) → ltb most least ≡ test → (least ≤ most) × InTurn w (m.answers s) (λ a. 0 < a) least (Some most) i n vs →
-          IfThenElse test (Accept n vs ≡ error_outcome true) ((items_meaning w errs (bounded_limits Kind.ManyMN least most) (Unit {0}) m).answers s i (Accept n vs))
+          IfThenElse test (Accept n vs ≡ error_outcome true)
+          ((items_meaning w errs (bounded_limits Kind.ManyMN least most) (Unit {0}) m).answers s i (Accept n vs))
       backward true e h = let z : ltb most least ≡ false = le-ltb most least h.0 in absurd (cc (e, z))
       backward false e h = in_turn_accepted w errs (bounded_limits Kind.ManyMN least most) (Unit {0}) m s i n vs h.1

@@ -5,14 +5,14 @@ use Rattle.std.specs.Prelude.{drop, set}
 use Rattle.std.specs.List.{AllZip}
 use Rattle.std.proofs.lemmas.Bool.{lt-ltb}
 use Rattle.std.proofs.lemmas.List.{length-set}
-use Rattle.nom_internal.specs.Prelude.{Needed, Incomplete, Error, Failure, OutOfMemory, size_of, Built, Modes, Model, Accept, Refuse, Stop, Fails, Needs}
+use Rattle.nom_internal.specs.Prelude.{Needed, Error, OutOfMemory, Built, Modes, Model, Accept, Refuse, Stop, RanOut, Shown}
 use Rattle.nom_internal.specs.Prelude.{Meaning, ShowsMeaning}
 use Rattle.nom_error.specs.declared.answer.Err as Answer
 use Rattle.nom_repeat.specs.Repeat.{TurnsBy, Pieces}
 use Rattle.nom_repeat.specs.Items.{item_turn, refused_turn}
 use Rattle.nom_repeat.proofs.Accumulating.{zip_push}
-use Rattle.nom_repeat.proofs.Parts.{part_refused, part_failed, part_lacks, part_ran_out}
-use Rattle.nom_repeat.proofs.Repeated.{Collected, pieces_end}
+use Rattle.nom_repeat.proofs.Parts.{part_refused}
+use Rattle.nom_repeat.proofs.Repeated.{IsNoRefusal, Collected, pieces_end}
 use Rattle.nom_multi.specs.Fill.{HoldsItems, StopsFilling, IsFilled, IsPut}
 use Rattle.nom_repeat.specs.Bounds.{exact_limits}
 
@@ -74,58 +74,55 @@ module _ {V T : Type 0} (P : V → T → Type 0) where
   holds_more false old vs v mid new count (Some x) h c l b p = absurd (none_some x (sym b))
   holds_more false old vs v mid new count None h c l b p = p ∙ h
 
-module _ {I A V E : Type 0} {w : Model I A} (m : Meaning I V E) (n : ℕ) (mode : Modes) {RanOut : Type 0} {Held : List V → Type 0} {i j : I}
+module _ {I A V E : Type 0} {w : Model I A} (m : Meaning I V E) (n : ℕ) (mode : Modes) {Follows : Type 0} {Held : List V → Type 0} {i j : I}
     (c : Collected w (TurnsBy (Some n) (item_turn (exact_limits n)) (λ _. m.answers mode.streaming)) Held i j) where
   -- the buffer is full
-  pub stops_full : (length c.trees < n → ⊥) → StopsFilling m n mode RanOut (length c.trees) j
+  pub stops_full : (length c.trees < n → ⊥) → StopsFilling m n mode Follows (length c.trees) j
   stops_full h = inl (Accept 0 tt, record { reply = None; replied = h; fact = refl })
 
   module _ (below : length c.trees < n) {X : Type 0} {IsItem : V → X → Type 0} {f : Answer.Err E (Option E) Needed} where
-    pub stops_refused : {x : Option E} → f ≡ Error x → ShowsMeaning w IsItem m mode j (Err f) → StopsFilling m n mode RanOut (length c.trees) j
+    pub stops_refused : {x : Option E} → f ≡ Error x → ShowsMeaning w IsItem m mode j (Err f) → StopsFilling m n mode Follows (length c.trees) j
     stops_refused e h = inl (
       Refuse,
       record { reply = Some Refuse; replied = (below, part_refused e h); fact = ap (λ z. refused_turn z) (sym (lt-ltb (length c.trees) n below)) },
     )
 
-    pub stops_failed : {x : E} → f ≡ Failure x → ShowsMeaning w IsItem m mode j (Err f) → StopsFilling m n mode RanOut (length c.trees) j
-    stops_failed e h = let t = part_failed e h in
-        inl (Stop (Fails t.0), record { reply = Some (Stop (Fails t.0)); replied = (below, t.1); fact = refl })
-
-    pub stops_undecided : {k : Needed} → f ≡ Incomplete k → ShowsMeaning w IsItem m mode j (Err f) → StopsFilling m n mode RanOut (length c.trees) j
-    stops_undecided {k = k} e h =
-        inl (Stop (Needs (size_of k)), record { reply = Some (Stop (Needs (size_of k))); replied = (below, part_lacks e h); fact = refl })
-
-    pub stops_without_memory : f ≡ OutOfMemory → ShowsMeaning w IsItem m mode j (Err f) → RanOut → StopsFilling m n mode RanOut (length c.trees) j
-    stops_without_memory e h r = inr (part_ran_out e h, r)
+    -- all else stops it too
+    pub stops_else : {g : Answer.Err E (Option E) Needed} → f ≡ g → IsNoRefusal g → ShowsMeaning w IsItem m mode j (Err f) →
+        (g ≡ OutOfMemory → Follows) → StopsFilling m n mode Follows (length c.trees) j
+    stops_else is other (RanOut e h) follows = inr (h, follows (cc (is, e)))
+    stops_else is other (Shown (Accept k v) a s) follows = absurd (cc (s.4))
+    stops_else {g = g} is other (Shown Refuse a s) follows = let e : g ≡ Error s.0 = cc (is, s.2) in absurd (subst (λ y. IsNoRefusal y) e other)
+    stops_else is other (Shown (Stop why) a s) follows = inl (Stop why, record { reply = Some (Stop why); replied = (below, a); fact = refl })
 
 -- what the buffer holds where the items stop
 pub filled : {I A V T E : Type 0} {w : Model I A} {P : V → T → Type 0} {m : Meaning I V E} {mode : Modes} {i j : I} {old new : List T}
-    {Counted : List V → Type 0} {RanOut : Type 0}
+    {Counted : List V → Type 0} {Follows : Type 0}
     (c : Collected w (TurnsBy (Some (length old)) (item_turn (exact_limits (length old))) (λ _. m.answers mode.streaming))
-    (λ vs. HoldsItems P mode.outputs old vs new × Counted vs) i j) → StopsFilling m (length old) mode RanOut (length c.trees) j →
-    IsFilled w P m mode i old new RanOut
-filled {w = w} {m = m} {mode = mode} {i = i} {j = j} {old = old} {RanOut = RanOut} c h = record {
+    (λ vs. HoldsItems P mode.outputs old vs new × Counted vs) i j) → StopsFilling m (length old) mode Follows (length c.trees) j →
+    IsFilled w P m mode i old new Follows
+filled {w = w} {m = m} {mode = mode} {i = i} {j = j} {old = old} {Follows = Follows} c h = record {
   trees = c.trees;
   taken = c.taken;
   pieces = pieces_end w (TurnsBy (Some (length old)) (item_turn (exact_limits (length old))) (λ _. m.answers mode.streaming))
-      (StopsFilling m (length old) mode RanOut) j (length c.trees) h 0 i c.trees c.taken (omega arith) c.pieces;
+      (StopsFilling m (length old) mode Follows) j (length c.trees) h 0 i c.trees c.taken (omega arith) c.pieces;
   holds = c.held.0;
 }
 
 -- it is filled, whatever else follows from memory running out
-module _ {I A V E : Type 0} (w : Model I A) (m : Meaning I V E) (n : ℕ) (mode : Modes) {RanOut Follows : Type 0} (f : RanOut → Follows) where
-  stops_then : (k : ℕ) (j : I) → StopsFilling m n mode RanOut k j → StopsFilling m n mode Follows k j
+module _ {I A V E : Type 0} (w : Model I A) (m : Meaning I V E) (n : ℕ) (mode : Modes) {Lacked Follows : Type 0} (f : Lacked → Follows) where
+  stops_then : (k : ℕ) (j : I) → StopsFilling m n mode Lacked k j → StopsFilling m n mode Follows k j
   stops_then k j (inl h) = inl h
   stops_then k j (inr h) = inr (h.0, f h.1)
 
   pieces_then : (k : ℕ) (i : I) (vs : List V) (taken : ℕ) →
-      Pieces w (TurnsBy (Some n) (item_turn (exact_limits n)) (λ _. m.answers mode.streaming)) (StopsFilling m n mode RanOut) k i vs taken →
+      Pieces w (TurnsBy (Some n) (item_turn (exact_limits n)) (λ _. m.answers mode.streaming)) (StopsFilling m n mode Lacked) k i vs taken →
       Pieces w (TurnsBy (Some n) (item_turn (exact_limits n)) (λ _. m.answers mode.streaming)) (StopsFilling m n mode Follows) k i vs taken
   pieces_then k i [] taken p = (p.0, stops_then k i p.1)
   pieces_then k i (v ∷ vs) taken p = (p.0, p.1, p.2, p.3, p.4, pieces_then (k + 1) p.2 vs p.1 p.5, p.6)
 
 pub filled_then : {I A V T E : Type 0} {w : Model I A} {P : V → T → Type 0} {m : Meaning I V E} {mode : Modes} {i : I} {old new : List T}
-    {RanOut Follows : Type 0} → (RanOut → Follows) → IsFilled w P m mode i old new RanOut → IsFilled w P m mode i old new Follows
+    {Lacked Follows : Type 0} → (Lacked → Follows) → IsFilled w P m mode i old new Lacked → IsFilled w P m mode i old new Follows
 filled_then {w = w} {m = m} {mode = mode} {i = i} {old = old} f h = record {
   trees = h.trees;
   taken = h.taken;

@@ -1,11 +1,11 @@
 -- Lemmas on the answers of items until an end.
 use Rattle.std.proofs.Common.{◌≡◌, ℕ, ◌<◌, Bool, true, false, Ok, Err, Option, Some, None, ◌⊎◌, List, [], ◌∷◌, ◌++◌, inl, inr, refl, sym}
-use Rattle.std.proofs.Common.{subst, arith, zero, suc}
-use Rattle.std.specs.Prelude.{IsSome, IfSome}
+use Rattle.std.proofs.Common.{subst}
+use Rattle.std.specs.Prelude.{IsSome}
 use Rattle.std.specs.List.{AllZip}
 use Rattle.std.specs.declared.vec.Vec.{Vec}
-use Rattle.nom_internal.specs.Prelude.{Errors, PResult, Refuses, size_of, Needed, Incomplete, Error, Failure, OutOfMemory, Built, Modes, modes, Model, Grammar}
-use Rattle.nom_internal.specs.Prelude.{InputLaws, IsSuffixOf, Outcome, Accept, Refuse, Stop, Fails, Needs, ShowsAnswer, Meaning}
+use Rattle.nom_internal.specs.Prelude.{Errors, PResult, Refuses, Needed, Error, OutOfMemory, Built, Modes, modes, Model, Grammar}
+use Rattle.nom_internal.specs.Prelude.{InputLaws, IsSuffixOf, Outcome, Accept, Refuse, ShowsAnswer, Meaning}
 use Rattle.nom_internal.specs.Prelude.{ShowsMeaning, labelled_meaning, ClosesError, always}
 use Rattle.nom_error.specs.declared.answer.Err as Answer
 use Rattle.nom_error.specs.declared.kind.ErrorKind.TheVariants as Kind
@@ -16,8 +16,8 @@ use Rattle.nom_repeat.specs.Accumulated.{PushesBoth}
 use Rattle.nom_repeat.specs.Repeat.{TurnsBy}
 use Rattle.nom_repeat.specs.Repeat.Turn.{Takes, Ends}
 use Rattle.nom_repeat.proofs.Accumulating.{zip_push}
-use Rattle.nom_repeat.proofs.Parts.{part_refused, part_refusal, part_failed, part_lacks, part_ran_out}
-use Rattle.nom_repeat.proofs.Repeated.{Collected, collected_more, ended_after, refused, failed, lacking, ran_out, ran_out_within}
+use Rattle.nom_repeat.proofs.Parts.{part_refused, part_refusal}
+use Rattle.nom_repeat.proofs.Repeated.{IsNoRefusal, Collected, collected_more, ended_after, refused, ran_out, stopped, where_some}
 use Rattle.nom_multi.specs.Till.{end_or_item, step_turn, till_turn, OnItem, till_rule, many_till_meaning, with_end, IsStep}
 use Rattle.nom_multi.specs.declared.till.Step.{Step}
 use Rattle.nom_multi.specs.declared.till.Step.TheVariants.{End, Item}
@@ -86,23 +86,6 @@ module _ {T V O P : Type 0} (outputs : Bool) (IsEnd : T → O → Type 0) (IsIte
   is_item (inl t) {x = x} p q b = let same : b.0 ≡ Item x = cc (p, q, b.1) in absurd (subst (λ z. IsStep outputs IsEnd IsItem (inl t) z) same b.2)
   is_item (inr v) {x = x} p q b = let same : b.0 ≡ Item x = cc (p, q, b.1) in (v, refl, subst (λ z. IsStep outputs IsEnd IsItem (inr v) z) same b.2)
 
--- turns at an item
-stuck_turn : {T V : Type 0} (v : V) (n : ℕ) → n ≡ 0 → Ends Refuse ≡ step_turn {T = T} (inr v) n
-stuck_turn v zero e = refl
-stuck_turn v (suc n) e = absurd (omega (arith, e))
-
-taken_turn : {T V : Type 0} (v : V) (n : ℕ) → 0 < n → Takes n v ≡ step_turn {T = T} (inr v) n
-taken_turn v zero e = absurd (omega (arith, e))
-taken_turn v (suc n) e = refl
-
-if_stuck : (T : Type 0) {V : Type 0} (Empty Taken : Type 0) (v : V) (n : ℕ) → n ≡ 0 → Empty → OnItem {T = T} Empty Taken (inr v) n
-if_stuck T Empty Taken v zero e h = h
-if_stuck T Empty Taken v (suc n) e h = absurd (omega (arith, e))
-
-if_taken : (T : Type 0) {V : Type 0} (Empty Taken : Type 0) (v : V) (n : ℕ) → 0 < n → Taken → OnItem {T = T} Empty Taken (inr v) n
-if_taken T Empty Taken v zero e h = absurd (omega (arith, e))
-if_taken T Empty Taken v (suc n) e h = h
-
 -- items were taken, and no end was found
 abbrev pub Till : {I A T V : Type 0} (w : Model I A) (Part : I → Outcome (T ⊎ V) → Type 0) (Held : List V → Type 0) (i j : I) → Type 0
 Till w Part Held i j = Collected w (TurnsBy None (λ _ a. till_turn a) (λ _. Part)) Held i j
@@ -112,8 +95,8 @@ abbrev pub ShowsTill : {I A T V O E : Type 0} (w : Model I A) (errs : Errors I E
     (IsOutput : List V × T → O → Type 0) (mode : Modes) (i : I) → PResult I O E → Type 0
 ShowsTill w errs m end IsOutput mode i r = ShowsMeaning w IsOutput (many_till_meaning w errs m end) mode i r
 
-module _ {I A T V O E : Type 0} {w : Model I A} (errs : Errors I E) (m : Meaning I V E) (end : Meaning I T E) (IsOutput : List V × T → O → Type 0)
-    (mode : Modes) {Held : List V → Type 0} {i j : I} (c : Till w ((end_or_item end m).answers mode.streaming) Held i j) where
+module _ {I A T V O E : Type 0} {w : Model I A} (errs : Errors I E) (m : Meaning I V E) (end : Meaning I T E) {IsOutput : List V × T → O → Type 0}
+    {mode : Modes} {Held : List V → Type 0} {i j : I} (c : Till w ((end_or_item end m).answers mode.streaming) Held i j) where
   pub till_ended : InputLaws w → {n : ℕ} {u : T ⊎ V} (t : T) → (end_or_item end m).answers mode.streaming j (Accept n u) → u ≡ inl t → {h : I} →
       IsSuffixOf w j n h → (x : Option O) → Built mode.outputs (IsOutput (c.trees, t)) x → ShowsTill w errs m end IsOutput mode i (Ok (h, x))
   till_ended l {n} {u} t a is q x z =
@@ -126,19 +109,20 @@ module _ {I A T V O E : Type 0} {w : Model I A} (errs : Errors I E) (m : Meaning
       subst (λ y. ShowsTill w errs m end IsOutput mode i (Err y)) (sym g.0)
       (ran_out (till_rule errs) with_end (always (end_or_item end m)) c (Some (Accept n (inr v)))
       (tt, subst (λ y. (end_or_item end m).answers mode.streaming j (Accept n y)) is a)
-      (if_stuck T ((mode.errors ≡ true) × errs.grows) (mode.outputs ≡ true) v n z (g.1, g.2)))
+      (subst (OnItem {T = T} ((mode.errors ≡ true) × errs.grows) (mode.outputs ≡ true) (inr v)) (sym z) (g.1, g.2)))
   till_stuck {n} {u} v a is z f (inr g) =
       subst (λ y. ShowsTill w errs m end IsOutput mode i (Err y)) (sym g.2)
       (refused (till_rule errs) with_end (always (end_or_item end m)) c (Some (Accept n (inr v)))
       (tt, subst (λ y. (end_or_item end m).answers mode.streaming j (Accept n y)) is a)
-      (stuck_turn v n z) g.0 (built_error mode.errors _ _ g.0 (λ e h. if_stuck T (errs.of_kind j Kind.Many0 e) ⊥ v n z h) g.1))
+      (subst (λ m. Ends Refuse ≡ step_turn {T = T} (inr v) m) (sym z) refl) g.0
+      (built_error mode.errors _ _ g.0 (λ e h. subst (OnItem {T = T} (errs.of_kind j Kind.Many0 e) ⊥ (inr v)) (sym z) h) g.1))
 
   pub till_lacks_room : {n : ℕ} {u : T ⊎ V} (v : V) → (end_or_item end m).answers mode.streaming j (Accept n u) → u ≡ inr v → 0 < n →
       mode.outputs ≡ true → ShowsTill w errs m end IsOutput mode i (Err OutOfMemory)
   till_lacks_room {n} {u} v a is z o =
       ran_out (till_rule errs) with_end (always (end_or_item end m)) c (Some (Accept n (inr v)))
       (tt, subst (λ y. (end_or_item end m).answers mode.streaming j (Accept n y)) is a)
-      (if_taken T ((mode.errors ≡ true) × errs.grows) (mode.outputs ≡ true) v n z o)
+      (where_some (OnItem {T = T} ((mode.errors ≡ true) × errs.grows) (mode.outputs ≡ true) (inr v)) (λ m. o) z)
 
   module _ {X : Type 0} {IsResult : T ⊎ V → X → Type 0} {f : Answer.Err E (Option E) Needed}
       (h : ShowsAnswer w IsResult (modes true mode.errors mode.streaming) j ((end_or_item end m).answers mode.streaming j)
@@ -157,23 +141,22 @@ module _ {I A T V O E : Type 0} {w : Model I A} (errs : Errors I E) (m : Meaning
         by a (inr y) = subst (λ z. ShowsTill w errs m end IsOutput mode i (Err z)) (sym y.2)
             (refused (till_rule errs) with_end (always (end_or_item end m)) c (Some Refuse) (tt, a) refl y.0 y.1)
 
-    pub till_failed : {x : E} → f ≡ Failure x → ShowsTill w errs m end IsOutput mode i (Err (Failure x))
-    till_failed {x} e = let p = part_failed e h in
-        failed (till_rule errs) with_end (always (end_or_item end m)) c (Some (Stop (Fails p.0))) (tt, p.1) p.0 refl x p.2
-
-    pub till_lacks : {k : Needed} → f ≡ Incomplete k → ShowsTill w errs m end IsOutput mode i (Err (Incomplete k))
-    till_lacks {k} e = lacking (till_rule errs) with_end (always (end_or_item end m)) c (Some (Stop (Needs (size_of k)))) (tt, part_lacks e h) refl
-
-    pub till_ran_out : f ≡ OutOfMemory → ShowsTill w errs m end IsOutput mode i (Err OutOfMemory)
-    till_ran_out e = ran_out_within (till_rule errs) with_end (always (end_or_item end m)) c tt (part_ran_out e h)
+    -- all else is passed on
+    pub till_stopped : {g : Answer.Err E (Option E) Needed} → f ≡ g → IsNoRefusal g → ShowsTill w errs m end IsOutput mode i (Err g)
+    till_stopped is other = stopped (till_rule errs) with_end (always (end_or_item end m)) c
+        (record { ends = λ k why. refl; blames = λ i k j cause P e z. z }) tt is other h
 
 -- one item more
 pub till_more : {I A T V : Type 0} {w : Model I A} (l : InputLaws w) (Part : I → Outcome (T ⊎ V) → Type 0) {Held More : List V → Type 0} {i j h : I}
     (c : Till w Part Held i j) {n : ℕ} {u : T ⊎ V} (v : V) → Part j (Accept n u) → u ≡ inr v → 0 < n → IsSuffixOf w j n h → More (c.trees ++ v ∷ []) →
     Till w Part More i h
-till_more l Part {i = i} {j = j} c {n} v a is p q z =
+till_more {T = T} l Part {i = i} {j = j} c {n} v a is p q z =
     collected_more l (TurnsBy None (λ _ x. till_turn x) (λ _. Part)) v c
-    (record { reply = Some (Accept n (inr v)); replied = (tt, subst (λ y. Part j (Accept n y)) is a); fact = taken_turn v n p }) q z
+    (record {
+      reply = Some (Accept n (inr v));
+      replied = (tt, subst (λ y. Part j (Accept n y)) is a);
+      fact = where_some (λ m. Takes m v ≡ step_turn {T = T} (inr v) m) (λ m. refl) p;
+    }) q z
 
 -- the list grows by what is built
 pub list_pushed : {V O A : Type 0} (P : V → O → Type 0) (builds : Bool) (vs : List V) (v : V) (old new : Option (Vec O A)) (item : Option O) →

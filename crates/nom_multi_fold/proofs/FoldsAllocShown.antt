@@ -8,17 +8,17 @@ use Rattle.std.proofs.lemmas.Bool.{le-ltb}
 use Rattle.std.proofs.lemmas.Fn.{FoldsTo-push}
 use Rattle.nom_error.specs.declared.answer.OutOfMemory.{OutOfMemory}
 use Rattle.nom_error.specs.declared.answer.Err as Answer
-use Rattle.nom_internal.specs.Prelude.{PResult, Needed, Incomplete, Failure, Built, Modes, Model, Errors, RanOut, Shown, Meaning, ShowsMeaning, Outcome, Accept}
+use Rattle.nom_internal.specs.Prelude.{PResult, Needed, Built, Modes, Model, Errors, RanOut, Shown, Meaning, ShowsMeaning, Outcome, Accept}
 use Rattle.nom_internal.proofs.Shown.{Accepts, err_from_residual}
 use Rattle.nom_repeat.specs.Items.{item_turn, items_meaning}
 use Rattle.nom_repeat.specs.Repeat.{IsBelow, Pieces, TurnsBy}
 use Rattle.nom_repeat.specs.declared.items.Limits.{Limits}
 use Rattle.nom_repeat.proofs.Accumulating.{zip_push}
-use Rattle.nom_repeat.proofs.ItemsShown.{ShowsItem, items_failed, items_lack, taken_turn}
+use Rattle.nom_repeat.proofs.ItemsShown.{ShowsItem, items_stopped, taken_turn}
 use Rattle.nom_repeat.proofs.Parts.{shown_as}
-use Rattle.nom_repeat.proofs.Repeated.{Collected, pieces_end}
+use Rattle.nom_repeat.proofs.Repeated.{IsNoRefusal, Collected, pieces_end}
 use Rattle.nom_multi_fold.specs.Folds.{Folds}
-use Rattle.nom_multi_fold.specs.FoldAlloc.{IsValue, Starts, FoldsItem, LacksFirst, LacksAt, LacksMemory, begun_meaning, folded_meaning}
+use Rattle.nom_multi_fold.specs.FoldAlloc.{IsPresent, Starts, FoldsItem, LacksFirst, LacksAt, LacksMemory, begun_meaning, folded_meaning}
 
 none_some : {X : Type 0} (x : X) → None ≡ Some x → ⊥
 none_some x e = absurd (cc (e))
@@ -27,11 +27,11 @@ some_same : {X : Type 0} (x y : X) → Some x ≡ Some y → x ≡ y
 some_same x y e = cc (e)
 
 -- a value that is there is one of those of which the fact holds
-pub value_of : {R : Type 0} (builds : Bool) (P : R → Type 0) (x : Option R) → Built builds P x → (r : R) → IsValue x r → P r
+pub value_of : {R : Type 0} (builds : Bool) (P : R → Type 0) (x : Option R) → Built builds P x → (r : R) → IsPresent x r → P r
 value_of true P x h r e = subst P (some_same h.0 r (sym h.1 ∙ e)) h.2
 value_of false P x h r e = absurd (none_some r (sym h ∙ e))
 
-pub value_itself : {R : Type 0} (builds : Bool) (P : R → Type 0) (x : Option R) → Built builds P x → Built builds (IsValue x) x
+pub value_itself : {R : Type 0} (builds : Bool) (P : R → Type 0) (x : Option R) → Built builds P x → Built builds (IsPresent x) x
 value_itself true P x h = (h.0, h.1, h.1)
 value_itself false P x h = h
 
@@ -102,17 +102,6 @@ module _ {I A V T R E : Type 0} {w : Model I A} (errs : Errors I E) (IsOutput : 
     folds_by (RanOut e h) = RanOut e (inl h)
     folds_by (Shown o a s) = Shown o a s
 
-    module _ {Held : List V → Type 0} {j : I} (c : Collected w (TurnsBy b.most (item_turn b) (λ _. m.answers mode.streaming)) Held i j)
-        (below : IsBelow b.most (length c.trees)) {X : Type 0} {IsItem : V → X → Type 0} where
-      -- what the part answers is passed on
-      pub folds_failed : {f : Answer.Err E (Option E) Needed} {x : E} → f ≡ Failure x → ShowsItem w b m IsItem mode j (Err f) →
-          FoldShown w errs IsOutput Gives m mode b Inits i (Err (Failure x))
-      folds_failed e h = folds_by (items_failed errs b ⊥ m c below e h)
-
-      pub folds_wait : {f : Answer.Err E (Option E) Needed} {k : Needed} → f ≡ Incomplete k → ShowsItem w b m IsItem mode j (Err f) →
-          FoldShown w errs IsOutput Gives m mode b Inits i (Err (Incomplete k))
-      folds_wait e h = folds_by (items_lack errs b ⊥ m c below e h)
-
     -- the closure found no memory for an item
     pub folds_lack : {Held : List V → Type 0} {j h : I} (a : Option R) {x : Option T} {e : OutOfMemory}
         (c : Collected w (TurnsBy b.most (item_turn b) (λ _. m.answers mode.streaming)) Held i j) → IsBelow b.most (length c.trees) →
@@ -131,6 +120,15 @@ module _ {I A V T R E : Type 0} {w : Model I A} (errs : Errors I E) (IsOutput : 
                 (LacksAt IsOutput Inits Gives b (m.answers mode.streaming) c.trees) j (length c.trees) lack.1 0 i c.trees c.taken (omega arith) c.pieces;
           },
         ))
+
+-- what the part answers is passed on, but for its refusal
+pub folds_stopped : {I A V T R E X : Type 0} {w : Model I A} (errs : Errors I E) {IsOutput : V → T → Type 0}
+    {Gives : R → T → Result R OutOfMemory → Type 0} (m : Meaning I V E) {mode : Modes} (b : Limits) {Inits : R → Type 0} {IsItem : V → X → Type 0}
+    {Held : List V → Type 0} {i j : I} (c : Collected w (TurnsBy b.most (item_turn b) (λ _. m.answers mode.streaming)) Held i j) →
+    IsBelow b.most (length c.trees) → {f g : Answer.Err E (Option E) Needed} → f ≡ g → IsNoRefusal g →
+    ShowsItem w b m IsItem mode j (Err f) → FoldShown w errs IsOutput Gives m mode b Inits i (Err g)
+folds_stopped errs {IsOutput} {Gives} m {mode} b {Inits} c below is other h =
+    folds_by errs IsOutput Gives m mode b Inits (items_stopped errs b m c below is other h)
 
 -- a fold from one value is one from any of which the same holds
 module _ {V T R : Type 0} (IsOutput : V → T → Type 0) (P Q : R → Type 0) (Gives : R → T → Result R OutOfMemory → Type 0) (f : (r : R) → P r → Q r) where

@@ -14,8 +14,8 @@ use Rattle.nom_multi_fold.specs.Folds.{Folds}
 use Rattle.nom_multi_fold.specs.Under.{under}
 
 -- the value that is there
-abbrev pub IsValue : {R : Type 0} → Option R → R → Type 0
-IsValue x r = x ≡ Some r
+abbrev pub IsPresent : {R : Type 0} → Option R → R → Type 0
+IsPresent x r = x ≡ Some r
 
 -- the first value, where outputs are built: the closure makes it, or finds no memory
 abbrev pub Starts : {R E : Type 0} → Bool → (Result R OutOfMemory → Type 0) → Result (Option R) (Answer.Err E (Option E) Needed) → Type 0

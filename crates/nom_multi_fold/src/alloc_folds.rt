@@ -5,7 +5,7 @@ ghost use Rattle.nom_internal.specs.Prelude.{Built, modes, ShowsMeaning};
 ghost use Rattle.nom_repeat.specs.Bounds.{any_limits, one_limits};
 ghost use Rattle.nom_repeat.specs.declared.items.TooFew.TheVariants.{Fresh};
 ghost use Rattle.nom_multi_fold.specs.Folds.{Folds, AreCallable, FoldsConsistently};
-ghost use Rattle.nom_multi_fold.specs.FoldAlloc.{FoldsItem, IsValue, Starts, folded_meaning, fold_many0_alloc_by, fold_many1_alloc_by};
+ghost use Rattle.nom_multi_fold.specs.FoldAlloc.{FoldsItem, IsPresent, Starts, folded_meaning, fold_many0_alloc_by, fold_many1_alloc_by};
 ghost use Rattle.nom_multi_fold.specs.AllocWords as Words;
 
 use nom_error::answer::{Err, OutOfMemory, PResult};
@@ -65,11 +65,11 @@ fn fold_one<
     G: Fn(R, F::Output) -> Result<R, OutOfMemory>,
 >(parser: &mut F, input: I, first: Option<R>, fold: &G) -> PResult<I, R, F::Error>
     requires runs { (F.grammar (F.state parser.old)).meaning.Runs }
-    requires begun { Built OM.Output.BUILDS (IsValue first) first }
+    requires begun { Built OM.Output.BUILDS (IsPresent first) first }
     requires takes { (r : R) (x : F.Output) → G.pre fold.now r x }
-    ensures shown { ShowsMeaning I.model (Folds (F.grammar (F.state parser.old)).IsOutput (IsValue first) (λ r x y. G.post fold.now r x (Ok y)))
+    ensures shown { ShowsMeaning I.model (Folds (F.grammar (F.state parser.old)).IsOutput (IsPresent first) (λ r x y. G.post fold.now r x (Ok y)))
         (folded_meaning I.model F.Error.errors (F.grammar (F.state parser.old)).IsOutput (G.post fold.now) (F.grammar (F.state parser.old)).meaning
-        (one_limits (Fresh Kind.Many1) true) (IsValue first)) (modes OM.Output.BUILDS OM.Error.BUILDS OM.Incomplete.STREAMING) input result }
+        (one_limits (Fresh Kind.Many1) true) (IsPresent first)) (modes OM.Output.BUILDS OM.Error.BUILDS OM.Incomplete.STREAMING) input result }
     ensures kept { F.state parser.new ≡ F.state parser.old }
 {
     input.prove_known();
@@ -98,11 +98,11 @@ fn fold_items<
     G: Fn(R, F::Output) -> Result<R, OutOfMemory>,
 >(parser: &mut F, input: I, first: Option<R>, fold: &G, kind: ErrorKind) -> PResult<I, R, F::Error>
     requires runs { (F.grammar (F.state parser.old)).meaning.Runs }
-    requires begun { Built OM.Output.BUILDS (IsValue first) first }
+    requires begun { Built OM.Output.BUILDS (IsPresent first) first }
     requires takes { (r : R) (x : F.Output) → G.pre fold.now r x }
-    ensures shown { ShowsMeaning I.model (Folds (F.grammar (F.state parser.old)).IsOutput (IsValue first) (λ r x y. G.post fold.now r x (Ok y)))
+    ensures shown { ShowsMeaning I.model (Folds (F.grammar (F.state parser.old)).IsOutput (IsPresent first) (λ r x y. G.post fold.now r x (Ok y)))
         (folded_meaning I.model F.Error.errors (F.grammar (F.state parser.old)).IsOutput (G.post fold.now) (F.grammar (F.state parser.old)).meaning
-        (any_limits kind) (IsValue first)) (modes OM.Output.BUILDS OM.Error.BUILDS OM.Incomplete.STREAMING) input result }
+        (any_limits kind) (IsPresent first)) (modes OM.Output.BUILDS OM.Error.BUILDS OM.Incomplete.STREAMING) input result }
     ensures kept { F.state parser.new ≡ F.state parser.old }
 {
     input.prove_known();

@@ -12,7 +12,7 @@ use Rattle.nom_internal.proofs.Shown.{accepted, undecided, refused}
 use Rattle.nom_character_first.specs.FirstItem.{IsFirstItem}
 use Rattle.nom_character.specs.LineMatches.{Match, at_end, one_item_more}
 use Rattle.nom_character.specs.LineMatches.Match.{Full, Absent, Partial}
-use Rattle.nom_character.proofs.Lines.{after_head, before_rest}
+use Rattle.nom_character.proofs.LineMatching.{after_head, before_rest}
 use Rattle.nom_number_text.specs.declared.word.WordAt.TheVariants as Found
 use Rattle.nom_number_text.specs.Exceptions.{word_in, word_meaning, IsWordAt}
 

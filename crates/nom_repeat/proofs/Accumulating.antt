@@ -3,7 +3,7 @@ use Rattle.std.proofs.Common.{◌≡◌, ◌++◌, ◌∷◌, [], List, Option, 
 use Rattle.std.specs.List.{AllZip}
 use Rattle.nom_internal.specs.Prelude.{Built}
 use Rattle.nom_internal.proofs.Shown.{built_error}
-use Rattle.nom_repeat.specs.Accumulated.{PushesBoth, LacksRoom, Adds, Accumulated}
+use Rattle.nom_repeat.specs.Accumulated.{PushesBoth, AccumulatorIsFull, Adds, Accumulated}
 
 none_some : {X : Type 0} (x : X) → None ≡ Some x → ⊥
 none_some x e = absurd (cc (e))
@@ -90,10 +90,10 @@ pub built_any : {X : Type 0} (builds : Bool) (P : X → Type 0) (x : Option X) �
 built_any builds P x h = built_error builds P (λ _. Unit {0}) x (λ _ _. tt) h
 
 -- where there is no room, something is kept, so it is built
-pub room_built : {K : Type 0} (IsFull P : K → Type 0) (builds : Bool) (x : Option K) → Built builds P x → LacksRoom IsFull x → builds ≡ true
+pub room_built : {K : Type 0} (IsFull P : K → Type 0) (builds : Bool) (x : Option K) → Built builds P x → AccumulatorIsFull IsFull x → builds ≡ true
 room_built IsFull P true x b h = refl
-room_built IsFull P false x b h = absurd (subst (λ z. LacksRoom IsFull z) b h)
+room_built IsFull P false x b h = absurd (subst (λ z. AccumulatorIsFull IsFull z) b h)
 
-pub room_grows : {K : Type 0} (IsFull : K → Type 0) (Grows : Type 0) → ((k : K) → IsFull k → Grows) → (x : Option K) → LacksRoom IsFull x → Grows
+pub room_grows : {K : Type 0} (IsFull : K → Type 0) (Grows : Type 0) → ((k : K) → IsFull k → Grows) → (x : Option K) → AccumulatorIsFull IsFull x → Grows
 room_grows IsFull Grows f (Some k) h = f k h
 room_grows IsFull Grows f None h = absurd h

@@ -1,8 +1,8 @@
 -- Lemmas on the answers of items of which the input is certain.
-use Rattle.std.proofs.Common.{◌≡◌, ℕ, ◌+◌, ◌-◌, ◌*◌, ◌<◌, ◌≤◌, ◌++◌, ◌∷◌, ◌∙◌, [], List, length, zero, suc, Bool, Err, Option, arith, ap, subst, sym}
+use Rattle.std.proofs.Common.{◌≡◌, ℕ, ◌+◌, ◌-◌, ◌*◌, ◌<◌, ◌≤◌, ◌∷◌, ◌∙◌, [], List, length, zero, suc, Bool, Err, Option, arith, ap, subst, sym}
 use Rattle.std.proofs.Common.{length-append}
 use Rattle.nom_error.specs.declared.answer.Err as Answer
-use Rattle.nom_internal.specs.Prelude.{Needed, Modes, Model, InputLaws, IsSuffixOf, IsCount, items_len, same_cut, Outcome, Accept, Meaning, RanOut, Shown}
+use Rattle.nom_internal.specs.Prelude.{Needed, Modes, Model, InputLaws, IsSuffixOf, items_len, same_cut, Accept, Meaning, RanOut, Shown}
 use Rattle.nom_internal.specs.Prelude.{ShowsMeaning, ShowsOutcome, HasWidth}
 use Rattle.nom_repeat.specs.Certain.{IsCertain, AreCertain}
 

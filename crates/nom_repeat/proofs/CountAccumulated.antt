@@ -1,5 +1,5 @@
 -- The number of items.
-use Rattle.std.proofs.Common.{◌≡◌, ℕ, ◌+◌, ◌-◌, ◌%◌, ◌^◌, ◌<◌, ◌∷◌, [], List, Option, Some, None, Bool, true, false, length, refl, sym, arith, ◌∙◌}
+use Rattle.std.proofs.Common.{◌≡◌, ℕ, ◌+◌, ◌%◌, ◌^◌, ◌<◌, ◌∷◌, [], List, Option, Some, None, Bool, true, false, length, refl, sym, arith, ◌∙◌}
 use Rattle.std.specs.List.{AllZip}
 use Rattle.nom_internal.specs.Prelude.{Built}
 use Rattle.nom_repeat.specs.Accumulated.{Adds, Accumulated}

@@ -2,9 +2,9 @@
 use Rattle.std.proofs.Common.{◌≡◌, ℕ, ◌<◌, Bool, true, false, Ok, Err, Option, Some, None, ◌⊎◌, List, ◌∷◌, [], ◌++◌, length, refl, zero, suc}
 use Rattle.std.proofs.Common.{arith, inl, inr, ap, subst, sym}
 use Rattle.std.specs.Prelude.{ltb, if◌then◌else◌}
-use Rattle.nom_internal.specs.Prelude.{Errors, Needed, Incomplete, Error, Failure, OutOfMemory, ErrorKind, Built, Modes, modes, PResult, Refuses, size_of}
+use Rattle.nom_internal.specs.Prelude.{Errors, Needed, Error, OutOfMemory, ErrorKind, Built, Modes, modes, PResult, Refuses}
 use Rattle.nom_internal.specs.Prelude.{Grammar, Shows}
-use Rattle.nom_internal.specs.Prelude.{Model, InputLaws, IsSuffixOf, input_len, Outcome, Accept, Refuse, Stop, Fails, Needs, Meaning}
+use Rattle.nom_internal.specs.Prelude.{Model, InputLaws, IsSuffixOf, input_len, Outcome, Accept, Refuse, Meaning}
 use Rattle.nom_internal.specs.Prelude.{ShowsMeaning, always, ClosesError}
 use Rattle.nom_error.specs.declared.answer.Err as Answer
 use Rattle.nom_internal.proofs.Shown.{Accepts, built_error}
@@ -16,8 +16,8 @@ use Rattle.nom_repeat.specs.Items.{FewBlames, MakesError, GivesFew, ItemBlames, 
 use Rattle.nom_repeat.specs.declared.items.Limits.{Limits}
 use Rattle.nom_repeat.specs.declared.items.TooFew.{TooFew}
 use Rattle.nom_repeat.specs.declared.items.TooFew.TheVariants.{Never, Passed, Added, Fresh}
-use Rattle.nom_repeat.proofs.Parts.{shown_at, part_refused, part_refusal, part_failed, part_lacks, part_ran_out}
-use Rattle.nom_repeat.proofs.Repeated.{Collected, collected_more, ended, refused, failed, lacking, ran_out, ran_out_within, consumes}
+use Rattle.nom_repeat.proofs.Parts.{shown_at, part_refused, part_refusal}
+use Rattle.nom_repeat.proofs.Repeated.{IsNoRefusal, Collected, collected_more, ended, refused, ran_out, stopped, consumes}
 
 -- an item is taken where it may be empty, and where it consumes
 pub taken_turn : {V : Type 0} (b : Limits) (k n : ℕ) (v : V) → (b.empty ≡ None) ⊎ (0 < n) → Takes n v ≡ item_turn b k (Some (Accept n v))
@@ -33,18 +33,17 @@ taken_asks b Refused Keeps k (suc n) v p h = h
 
 -- and refused where it is empty and may not be
 stuck_turn : {V : Type 0} (b : Limits) (k n : ℕ) (v : V) (kind : ErrorKind) → b.empty ≡ Some kind → n ≡ 0 → Ends Refuse ≡ item_turn b k (Some (Accept n v))
-stuck_turn b k zero v kind e z = ap (λ x. empty_turn x v) (sym e)
-stuck_turn b k (suc n) v kind e z = absurd (omega (arith, z))
+stuck_turn b k n v kind e z = subst (λ m. Ends Refuse ≡ item_turn b k (Some (Accept m v))) (sym z) (ap (λ x. empty_turn x v) (sym e))
 
 stuck_asks : {V : Type 0} (b : Limits) (Refused Keeps : Type 0) (k n : ℕ) (v : V) (kind : ErrorKind) → b.empty ≡ Some kind → n ≡ 0 → Refused →
     ItemAsks b Refused Keeps k (Some (Accept n v))
-stuck_asks b Refused Keeps k zero v kind e z h = subst (λ x. EmptyAsks x Refused Keeps) (sym e) h
-stuck_asks b Refused Keeps k (suc n) v kind e z h = absurd (omega (arith, z))
+stuck_asks b Refused Keeps k n v kind e z h =
+    subst (λ m. ItemAsks b Refused Keeps k (Some (Accept m v))) (sym z) (subst (λ x. EmptyAsks x Refused Keeps) (sym e) h)
 
 stuck_blames : {I V E : Type 0} (errs : Errors I E) (b : Limits) (i j : I) (n : ℕ) (v : V) (P : E → Type 0) (kind : ErrorKind) → b.empty ≡ Some kind →
     n ≡ 0 → (e : E) → errs.of_kind j kind e → ItemBlames errs b i j (Some (Accept n v)) P e
-stuck_blames errs b i j zero v P kind is z e h = subst (λ x. OfKind x (λ k. errs.of_kind j k e)) (sym is) h
-stuck_blames errs b i j (suc n) v P kind is z e h = absurd (omega (arith, z))
+stuck_blames errs b i j n v P kind is z e h =
+    subst (λ m. ItemBlames errs b i j (Some (Accept m v)) P e) (sym z) (subst (λ x. OfKind x (λ k. errs.of_kind j k e)) (sym is) h)
 
 -- what items show, and what their part does
 abbrev pub ShowsItems : {I A V E O : Type 0} (w : Model I A) (errs : Errors I E) (b : Limits) (Grows : Type 0) (m : Meaning I V E)
@@ -108,20 +107,6 @@ module _ {I A V E O : Type 0} {w : Model I A} (errs : Errors I E) (b : Limits) (
           (λ y k. subst (λ t. FewBlames errs t (if b.at_start then i else j) (m.blames mode.streaming j) y) (sym is) k)
           (subst (λ t. MakesError t) (sym is) tt) (subst (λ y. Refuses (errs.of_kind y kind) errs.grows mode.errors g) here q)
 
-      -- all else is passed on
-      pub items_failed : {f : Answer.Err E (Option E) Needed} {x : E} → f ≡ Failure x → ShowsItem w b m IsItem mode j (Err f) →
-          ShowsItems w errs b Grows m IsOutput mode i (Err (Failure x))
-      items_failed {x = x} e h = let t = part_failed e h in
-          failed (items_rule errs b Grows) (λ vs _. vs) (always m) c (Some (Stop (Fails t.0))) (below, t.1) t.0 refl x t.2
-
-      pub items_lack : {f : Answer.Err E (Option E) Needed} {k : Needed} → f ≡ Incomplete k → ShowsItem w b m IsItem mode j (Err f) →
-          ShowsItems w errs b Grows m IsOutput mode i (Err (Incomplete k))
-      items_lack {k = k} e h = lacking (items_rule errs b Grows) (λ vs _. vs) (always m) c (Some (Stop (Needs (size_of k)))) (below, part_lacks e h) refl
-
-      pub items_part_ran_out : {f : Answer.Err E (Option E) Needed} → f ≡ OutOfMemory → ShowsItem w b m IsItem mode j (Err f) →
-          ShowsItems w errs b Grows m IsOutput mode i (Err OutOfMemory)
-      items_part_ran_out e h = ran_out_within (items_rule errs b Grows) (λ vs _. vs) (always m) c below (part_ran_out e h)
-
       module _ {h : I} {x : Option X} (a : Accepts w IsItem mode.outputs j (m.answers mode.streaming j) h x) where
         -- an item that consumes nothing is refused
         pub items_stuck : (kind : ErrorKind) → b.empty ≡ Some kind → a.length ≡ 0 → {f : Answer.Err E (Option E) Needed} →
@@ -140,6 +125,14 @@ module _ {I A V E O : Type 0} {w : Model I A} (errs : Errors I E) (b : Limits) (
         pub items_lack_room : (b.empty ≡ None) ⊎ (0 < a.length) → mode.outputs ≡ true → Grows → ShowsItems w errs b Grows m IsOutput mode i (Err OutOfMemory)
         items_lack_room p o t = ran_out (items_rule errs b Grows) (λ vs _. vs) (always m) c (Some (Accept a.length a.tree)) (below, a.answered)
             (taken_asks b ((mode.errors ≡ true) × errs.grows) ((mode.outputs ≡ true) × Grows) (length c.trees) a.length a.tree p (o, t))
+
+-- all else is passed on
+pub items_stopped : {I A V X E O : Type 0} {w : Model I A} (errs : Errors I E) (b : Limits) {Grows : Type 0} (m : Meaning I V E) {IsItem : V → X → Type 0}
+    {IsOutput : List V → O → Type 0} {mode : Modes} {Held : List V → Type 0} {i j : I}
+    (c : Collected w (TurnsBy b.most (item_turn b) (λ _. m.answers mode.streaming)) Held i j) → IsBelow b.most (length c.trees) →
+    {f g : Answer.Err E (Option E) Needed} → f ≡ g → IsNoRefusal g → ShowsItem w b m IsItem mode j (Err f) → ShowsItems w errs b Grows m IsOutput mode i (Err g)
+items_stopped errs b {Grows} m c below is other h =
+    stopped (items_rule errs b Grows) (λ vs _. vs) (always m) c (record { ends = λ k why. refl; blames = λ i k j cause P e z. z }) below is other h
 
 -- an item is taken
 pub items_more : {I A V X : Type 0} {w : Model I A} (l : InputLaws w) (b : Limits) {Item : I → Outcome V → Type 0} {IsItem : V → X → Type 0}

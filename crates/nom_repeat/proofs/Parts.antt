@@ -1,8 +1,8 @@
 -- Lemmas on the answer of a part.
 use Rattle.std.proofs.Common.{◌≡◌, ℕ, Err, Option, subst, sym}
-use Rattle.nom_internal.specs.Prelude.{Needed, Incomplete, Error, Failure, OutOfMemory, PResult, size_of, Built, Modes, Model, Outcome, Accept, Refuse}
+use Rattle.nom_internal.specs.Prelude.{Needed, Error, PResult, Built, Modes, Model, Outcome, Accept, Refuse}
 use Rattle.nom_internal.specs.Prelude.{Stop, Grammar, Shows}
-use Rattle.nom_internal.specs.Prelude.{Fails, Needs, ShowsOutcome, ShowsAnswer, RanOut, Shown, Cause}
+use Rattle.nom_internal.specs.Prelude.{Fails, Needs, ShowsOutcome, ShowsAnswer, RanOut, Shown}
 use Rattle.nom_error.specs.declared.answer.Err as Answer
 use Rattle.nom_internal.proofs.Shown.{built_error}
 
@@ -22,31 +22,6 @@ module _ {I A V O E : Type 0} {w : Model I A} {IsOutput : V → O → Type 0} {m
   part_refusal {b = b} is (Shown Refuse a s) = let e : b ≡ s.0 = cc (is, s.2) in (a, subst (λ z. Built mode.errors IsError z) (sym e) s.1)
   part_refusal is (Shown (Stop (Fails cause)) a s) = absurd (cc (is, s.2))
   part_refusal is (Shown (Stop (Needs k)) a s) = absurd (cc (is, s.2))
-
-  pub part_failed : {x : E} → f ≡ Failure x → ShowsAnswer w IsOutput mode i Answers IsError RunsOut (Err f) →
-      (cause : Cause) × Answers (Stop (Fails cause)) × IsError x
-  part_failed is (RanOut e h) = absurd (cc (e, is))
-  part_failed is (Shown (Accept n v) a s) = absurd (cc (s.4))
-  part_failed is (Shown Refuse a s) = absurd (cc (is, s.2))
-  part_failed {x = x} is (Shown (Stop (Fails cause)) a s) = let e : x ≡ s.0 = cc (is, s.2) in (cause, a, subst (λ z. IsError z) (sym e) s.1)
-  part_failed is (Shown (Stop (Needs k)) a s) = absurd (cc (is, s.2))
-
-  pub part_lacks : {x : Needed} → f ≡ Incomplete x → ShowsAnswer w IsOutput mode i Answers IsError RunsOut (Err f) → Answers (Stop (Needs (size_of x)))
-  part_lacks is (RanOut e h) = absurd (cc (e, is))
-  part_lacks is (Shown (Accept n v) a s) = absurd (cc (s.4))
-  part_lacks is (Shown Refuse a s) = absurd (cc (is, s.2))
-  part_lacks is (Shown (Stop (Fails cause)) a s) = absurd (cc (is, s.2))
-  part_lacks {x = x} is (Shown (Stop (Needs k)) a s) =
-      let e : s.0 ≡ x = cc (is, s.2) in
-      let size : k ≡ size_of x = subst (λ z. k ≡ size_of z) e (sym s.1) in
-      subst (λ z. Answers (Stop (Needs z))) size a
-
-  pub part_ran_out : f ≡ OutOfMemory → ShowsAnswer w IsOutput mode i Answers IsError RunsOut (Err f) → RunsOut
-  part_ran_out is (RanOut e h) = h
-  part_ran_out is (Shown (Accept n v) a s) = absurd (cc (s.4))
-  part_ran_out is (Shown Refuse a s) = absurd (cc (is, s.2))
-  part_ran_out is (Shown (Stop (Fails cause)) a s) = absurd (cc (is, s.2))
-  part_ran_out is (Shown (Stop (Needs k)) a s) = absurd (cc (is, s.2))
 
 -- the same at an equal state
 pub shown_at : {S I A V O E : Type 0} {w : Model I A} (grammar : S → Grammar I V O E) {mode : Modes} {i : I} {r : PResult I O E} {a b : S} →

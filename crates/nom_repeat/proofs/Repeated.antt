@@ -1,7 +1,9 @@
 -- Lemmas on the answers of a repetition.
-use Rattle.std.proofs.Common.{◌≡◌, ℕ, ◌+◌, ◌<◌, Bool, Ok, Err, Option, ◌⊎◌, List, [], ◌∷◌, ◌++◌, length, refl, zero, suc, arith, inl, inr, subst, sym}
-use Rattle.nom_internal.specs.Prelude.{Needed, Incomplete, Error, Failure, OutOfMemory, Built, Modes, size_of, Model, InputLaws, IsSuffixOf, input_len}
-use Rattle.nom_internal.specs.Prelude.{rest_rest, Outcome, Accept, Refuse, Stop, Fails, Needs, RanOut, Shown, ShowsMeaning, Family, after, Cause}
+use Rattle.std.proofs.Common.{◌≡◌, ℕ, ◌+◌, ◌<◌, Bool, Ok, Err, Option, Some, ◌⊎◌, List, [], ◌∷◌, ◌++◌, length, refl, zero, suc, arith, inl, inr, subst, sym}
+use Rattle.nom_error.specs.declared.answer.Err as Answer
+use Rattle.nom_internal.specs.Outcome.{Reason}
+use Rattle.nom_internal.specs.Prelude.{Needed, Incomplete, Error, Failure, OutOfMemory, Built, Modes, Model, InputLaws, IsSuffixOf, input_len}
+use Rattle.nom_internal.specs.Prelude.{rest_rest, Outcome, Accept, Refuse, Stop, Fails, Needs, RanOut, Shown, ShowsAnswer, ShowsMeaning, Family, after, Cause}
 use Rattle.nom_internal.proofs.Consumed.{rest_length}
 use Rattle.nom_internal.proofs.Shown.{built_error}
 pub use Rattle.nom_repeat.specs.Repeat.{Collected}
@@ -56,6 +58,18 @@ module _ {I A V T : Type 0} {w : Model I A} (l : InputLaws w) where
     held = z;
   }
 
+-- all that a parser answers but an acceptance and a refusal
+abbrev pub IsNoRefusal : {E : Type 0} → Answer.Err E (Option E) Needed → Type 0
+IsNoRefusal (Error x) = ⊥
+IsNoRefusal (Failure x) = Unit {0}
+IsNoRefusal (Incomplete k) = Unit {0}
+IsNoRefusal OutOfMemory = Unit {0}
+
+-- A stop of the part ends the repetition with that stop, whatever came before, and the errors of a failure are the part's.
+pub record PassesStops {I P V T E : Type 0} (r : Rule I P V T E) : Type 1 where
+  pub ends : (k : ℕ) (why : Reason) → Ends (Stop why) ≡ r.turn k (Some (Stop why))
+  pub blames : (i : I) (k : ℕ) (j : I) (cause : Cause) (X : E → Type 0) (e : E) → X e → r.Blames i k j (Some (Stop (Fails cause))) X e
+
 module _ {I A P V T R E : Type 0} (w : Model I A) (r : Rule I P V T E) (tree : List V → T → R) (f : Family ℕ I P E) (s : Bool) {Held : List V → Type 0}
     (i j : I) (c : Collected w (TurnsBy r.bound r.turn (λ k. (f.at k).answers s)) Held i j) where
   reaches : (Fact : ℕ → I → Type 0) → Fact (length c.trees) j → Reaches w (TurnsBy r.bound r.turn (λ k. (f.at k).answers s)) Fact i
@@ -89,15 +103,17 @@ module _ {I A P V T R O E : Type 0} {w : Model I A} (r : Rule I P V T E) (tree :
     {mode : Modes} {Held : List V → Type 0} {i j : I} (c : Collected w (TurnsBy r.bound r.turn (λ k. (f.at k).answers mode.streaming)) Held i j) where
   -- what the part replies here
   module _ (a : Option (Outcome P)) (p : Replies r.bound (λ k. (f.at k).answers mode.streaming) (length c.trees) j a) where
-    -- the repetition ends with success, before what the part accepts
-    pub ended : (t : T) → Ends (Accept 0 t) ≡ r.turn (length c.trees) a → {b : Option O} → Built mode.outputs (IsOutput (tree c.trees t)) b →
-        ShowsMeaning w IsOutput (repeat_meaning w r tree f) mode i (Ok (j, b))
+    -- the repetition ends with success, before what the part accepts, wherever memory may run out
+    pub ended : (t : T) → Ends (Accept 0 t) ≡ r.turn (length c.trees) a → {b : Option O} {RunsOut : Type 0} →
+        Built mode.outputs (IsOutput (tree c.trees t)) b → ShowsAnswer w IsOutput mode i ((repeat_meaning w r tree f).answers mode.streaming i)
+        ((repeat_meaning w r tree f).blames mode.streaming i) RunsOut (Ok (j, b))
     ended t e {b = b} h = Shown (Accept (c.taken + 0) (tree c.trees t)) (ends w r tree f mode.streaming i j c a p (Accept 0 t) e)
         (j, b, subst (λ n. IsSuffixOf w i n j) (omega arith) c.rest_is, h, refl)
 
     -- or after it
-    pub ended_after : InputLaws w → (n : ℕ) (t : T) {h : I} → IsSuffixOf w j n h → Ends (Accept n t) ≡ r.turn (length c.trees) a → {b : Option O} →
-        Built mode.outputs (IsOutput (tree c.trees t)) b → ShowsMeaning w IsOutput (repeat_meaning w r tree f) mode i (Ok (h, b))
+    pub ended_after : InputLaws w → (n : ℕ) (t : T) {h : I} → IsSuffixOf w j n h → Ends (Accept n t) ≡ r.turn (length c.trees) a →
+        {b : Option O} {RunsOut : Type 0} → Built mode.outputs (IsOutput (tree c.trees t)) b → ShowsAnswer w IsOutput mode i
+        ((repeat_meaning w r tree f).answers mode.streaming i) ((repeat_meaning w r tree f).blames mode.streaming i) RunsOut (Ok (h, b))
     ended_after l n t {h} q e {b = b} z = Shown (Accept (c.taken + n) (tree c.trees t)) (ends w r tree f mode.streaming i j c a p (Accept n t) e)
         (h, b, rest_rest w l i c.taken j n h c.rest_is q, z, refl)
 
@@ -107,28 +123,38 @@ module _ {I A P V T R O E : Type 0} {w : Model I A} (r : Rule I P V T E) (tree :
     refused e b h = Shown Refuse (ends w r tree f mode.streaming i j c a p Refuse e)
         (b, built_error mode.errors _ _ b (blamed w r tree f mode.streaming i j c a p) h, refl)
 
-    pub failed : (cause : Cause) → Ends (Stop (Fails cause)) ≡ r.turn (length c.trees) a → (x : E) →
-        r.Blames i (length c.trees) j a ((f.at (length c.trees)).blames mode.streaming j) x →
-        ShowsMeaning w IsOutput (repeat_meaning w r tree f) mode i (Err (Failure x))
-    failed cause e x h = Shown (Stop (Fails cause)) (ends w r tree f mode.streaming i j c a p (Stop (Fails cause)) e)
-        (x, blamed w r tree f mode.streaming i j c a p x h, refl)
-
-    pub lacking : {k : Needed} → Ends (Stop (Needs (size_of k))) ≡ r.turn (length c.trees) a →
-        ShowsMeaning w IsOutput (repeat_meaning w r tree f) mode i (Err (Incomplete k))
-    lacking {k = k} e = Shown (Stop (Needs (size_of k))) (ends w r tree f mode.streaming i j c a p (Stop (Needs (size_of k))) e) (k, refl, refl)
-
-    -- memory ran out at what the part replies
-    pub ran_out : r.Asks mode (length c.trees) a → ShowsMeaning w IsOutput (repeat_meaning w r tree f) mode i (Err OutOfMemory)
+    -- memory ran out at what the part replies, in whatever mode that is told
+    pub ran_out : r.Asks mode (length c.trees) a → {told : Modes} → ShowsAnswer w IsOutput told i ((repeat_meaning w r tree f).answers mode.streaming i)
+        ((repeat_meaning w r tree f).blames mode.streaming i) ((repeat_meaning w r tree f).may_run_out mode i) (Err OutOfMemory)
     ran_out h = RanOut refl (reaches w r tree f mode.streaming i j c
         (λ k x. OnReply r.bound (λ k. (f.at k).answers mode.streaming) (r.Asks mode k) k x ⊎ (IsBelow r.bound k × (f.at k).may_run_out (r.part k mode) x))
         (inl (record { reply = a; replied = p; fact = h })))
 
-  -- memory ran out in the part
-  pub ran_out_within : IsBelow r.bound (length c.trees) → (f.at (length c.trees)).may_run_out (r.part (length c.trees) mode) j →
-      ShowsMeaning w IsOutput (repeat_meaning w r tree f) mode i (Err OutOfMemory)
-  ran_out_within b h = RanOut refl
-      (reaches w r tree f mode.streaming i j c (λ k x. OnReply r.bound (λ k. (f.at k).answers mode.streaming) (r.Asks mode k) k x ⊎
-      (IsBelow r.bound k × (f.at k).may_run_out (r.part k mode) x)) (inr (b, h)))
+  -- A failure of the part, a lack and want of memory are the repetition's own, in whatever mode either is told.
+  pub stopped : PassesStops r → IsBelow r.bound (length c.trees) → {X : Type 0} {IsItem : P → X → Type 0} {asked told : Modes}
+      {e g : Answer.Err E (Option E) Needed} → e ≡ g → IsNoRefusal g →
+      ShowsAnswer w IsItem asked j ((f.at (length c.trees)).answers mode.streaming j) ((f.at (length c.trees)).blames mode.streaming j)
+      ((f.at (length c.trees)).may_run_out (r.part (length c.trees) mode) j) (Err e) →
+      ShowsAnswer w IsOutput told i ((repeat_meaning w r tree f).answers mode.streaming i) ((repeat_meaning w r tree f).blames mode.streaming i)
+      ((repeat_meaning w r tree f).may_run_out mode i) (Err g)
+  stopped p below is other (RanOut x h) = RanOut (cc (is, x))
+      (reaches w r tree f mode.streaming i j c (λ k y. OnReply r.bound (λ n. (f.at n).answers mode.streaming) (r.Asks mode k) k y ⊎
+      (IsBelow r.bound k × (f.at k).may_run_out (r.part k mode) y)) (inr (below, h)))
+  stopped p below is other (Shown (Accept n v) a s) = absurd (cc (s.4))
+  stopped p below {g = g} is other (Shown Refuse a s) = let e : g ≡ Error s.0 = cc (is, s.2) in absurd (subst (λ y. IsNoRefusal y) e other)
+  stopped p below is other (Shown (Stop (Fails cause)) a s) = Shown (Stop (Fails cause))
+      (ends w r tree f mode.streaming i j c (Some (Stop (Fails cause))) (below, a) (Stop (Fails cause)) (p.ends (length c.trees) (Fails cause))) (
+        s.0,
+        blamed w r tree f mode.streaming i j c (Some (Stop (Fails cause))) (below, a) s.0 (p.blames i (length c.trees) j cause _ s.0 s.1),
+        cc (is, s.2),
+      )
+  stopped p below is other (Shown (Stop (Needs n)) a s) = Shown (Stop (Needs n))
+      (ends w r tree f mode.streaming i j c (Some (Stop (Needs n))) (below, a) (Stop (Needs n)) (p.ends (length c.trees) (Needs n))) (s.0, s.1, cc (is, s.2))
+
+-- a fact of each length above 0
+pub where_some : (Fact : ℕ → Type 0) → ((m : ℕ) → Fact (suc m)) → {n : ℕ} → 0 < n → Fact n
+where_some Fact h {n = zero} p = absurd (omega (arith, p))
+where_some Fact h {n = suc m} p = h m
 
 -- lengths tell whether a part consumed
 module _ {I A : Type 0} {w : Model I A} {i : I} {n : ℕ} {j : I} where

@@ -10,9 +10,9 @@ PushesBoth Pushes CanPush (Some k) None new = new ≡ Some k
 PushesBoth Pushes CanPush None x new = new ≡ None
 
 -- the accumulator has no room for another item
-abbrev pub LacksRoom : {K : Type 0} → (K → Type 0) → Option K → Type 0
-LacksRoom IsFull (Some k) = IsFull k
-LacksRoom IsFull None = ⊥
+abbrev pub AccumulatorIsFull : {K : Type 0} → (K → Type 0) → Option K → Type 0
+AccumulatorIsFull IsFull (Some k) = IsFull k
+AccumulatorIsFull IsFull None = ⊥
 
 -- Where there was room for an item, it was pushed, and there is room for the others.
 abbrev pub KeepsRoom : {K X F : Type 0} → (K → ℕ → Type 0) → K → K → Result X F → Type 0

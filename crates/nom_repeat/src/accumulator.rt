@@ -1,7 +1,7 @@
 //! Accumulators of items.
 ghost use Rattle.std.specs.Prelude.{◌≡◌, ◌+◌, ◌%◌, ◌^◌, ◌<◌, ◌≤◌, ◌++◌, ◌∷◌, [], ℕ, IsTrue, OnOk, OnErr, false, vec_len, vec_capacity};
 ghost use Rattle.nom_internal.specs.Prelude.{Built};
-ghost use Rattle.nom_repeat.specs.Accumulated.{PushesBoth, LacksRoom, KeepsRoom, HasRoomFor};
+ghost use Rattle.nom_repeat.specs.Accumulated.{PushesBoth, AccumulatorIsFull, KeepsRoom, HasRoomFor};
 
 use core::mem::replace_with;
 use nom_error::answer::OutOfMemory;
@@ -184,7 +184,7 @@ pub fn push_item<M: Mode, T: Drop, K: Accumulator<T>>(
     requires kept { Built M.BUILDS K.CanPush kept.old }
     requires item { Built M.BUILDS (λ _. Unit {0}) item }
     ensures kept { OnOk result (PushesBoth K.Pushes K.CanPush kept.old item kept.new) }
-    ensures full { OnErr result (LacksRoom K.IsFull kept.old) }
+    ensures full { OnErr result (AccumulatorIsFull K.IsFull kept.old) }
 {
     if !M::BUILDS {
         return Ok(());

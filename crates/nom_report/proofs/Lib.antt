@@ -6,6 +6,6 @@ mod Each
 mod Fronts
 mod Inner
 mod Items
-mod Lines
+mod QuotedLines
 mod Whole
 mod Windows

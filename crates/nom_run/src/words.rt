@@ -1,7 +1,7 @@
 //! Cuts, as words define them.
 ghost use Rattle.std.specs.Prelude.{◌≡◌, ◌++◌, [], ◌∷◌, map, IfOk, IfErr, MatchOption};
 ghost use Rattle.nom_run.specs.Runs.{MatchRunError};
-ghost use Rattle.nom_run.specs.Words.{IsNumber, word_number, Numbers, BadWord, StartsWithNumbers};
+ghost use Rattle.nom_run.specs.Words.{IsDecimalSize, word_number, Numbers, BadWord, StartsWithNumbers};
 
 use crate::error::RunError;
 use nom_error::answer::OutOfMemory;
@@ -9,7 +9,7 @@ use std::alloc::Allocator;
 
 // The number that a word of one or more decimal digits writes, where it fits.
 fn number(word: &str) -> Option<usize>
-    ensures { MatchOption result (¬ IsNumber word.now) (λ n. IsNumber word.now × (n ≡ word_number word.now)) }
+    ensures { MatchOption result (¬ IsDecimalSize word.now) (λ n. IsDecimalSize word.now × (n ≡ word_number word.now)) }
 {
     match word.as_bytes() {
         [b'+', ..] => None,

@@ -2,24 +2,17 @@
 use Rattle.std.proofs.Common.{◌≡◌, ◌<◌, Bool, true, false, Ok, Err, Option, Some, None, List, [], ◌∷◌, ◌++◌, length, inl, refl, sym, ap, subst, arith}
 use Rattle.std.specs.Prelude.{ltb}
 use Rattle.std.proofs.lemmas.Bool.{le-ltb}
-use Rattle.nom_internal.specs.Prelude.{PResult, Errors, Needed, Incomplete, Error, Failure, OutOfMemory, Built, Modes, modes, Model, InputLaws, Outcome, Accept}
-use Rattle.nom_internal.specs.Prelude.{Refuse, ShowsAnswer, RanOut, Shown, Meaning, ShowsMeaning, always}
+use Rattle.nom_internal.specs.Prelude.{PResult, Errors, Needed, Error, OutOfMemory, Built, Modes, modes, Model, InputLaws, Outcome, Accept}
+use Rattle.nom_internal.specs.Prelude.{Refuse, ShowsAnswer, Shown, Meaning, ShowsMeaning, always}
 use Rattle.nom_error.specs.declared.answer.Err as Answer
 use Rattle.nom_internal.proofs.Shown.{Accepts, output_err}
 use Rattle.nom_repeat.specs.Repeat.{TurnsBy}
 use Rattle.nom_repeat.specs.Items.{item_turn, refused_turn, items_rule}
 use Rattle.nom_repeat.specs.Accumulated.{Accumulated}
 use Rattle.nom_repeat.proofs.Parts.{part_refused}
-use Rattle.nom_repeat.proofs.Repeated.{Collected, collected_none, ended}
-use Rattle.nom_repeat.proofs.ItemsShown.{items_more, items_failed, items_lack, items_part_ran_out, items_lack_room}
+use Rattle.nom_repeat.proofs.Repeated.{IsNoRefusal, Collected, collected_none, ended, stopped}
+use Rattle.nom_repeat.proofs.ItemsShown.{items_more, items_lack_room}
 use Rattle.nom_separated.specs.Separated.{optional_limits, optional_meaning, Found, HasFirstItem, follows, further_meaning}
-
--- where something is accepted, memory didn't run out
-accepted_anyway : {I A V O E : Type 0} {w : Model I A} {IsOutput : V → O → Type 0} {mode : Modes} {i j : I} {x : Option O} {Answers : Outcome V → Type 0}
-    {IsError : E → Type 0} {RunsOut Other : Type 0} → ShowsAnswer w IsOutput mode i Answers IsError RunsOut (Ok (j, x)) →
-    ShowsAnswer w IsOutput mode i Answers IsError Other (Ok (j, x))
-accepted_anyway (RanOut e h) = absurd (cc (e))
-accepted_anyway (Shown o a s) = Shown o a s
 
 -- what is shown of the first item, as it is told
 abbrev pub ShowsFirst : {I A V T K E : Type 0} (w : Model I A) (errs : Errors I E) (Grows : Type 0) (m : Meaning I V E) (Pushes : K → T → K → Type 0)
@@ -51,36 +44,35 @@ module _ {I A V T K E : Type 0} {w : Model I A} (l : InputLaws w) (errs : Errors
       ShowsMeaning w IsItem m (modes outputs false streaming) i (Err f) → (k : Option K) → Built outputs (Accumulated Pushes CanPush IsItem before []) k →
       First (Ok (i, Some (false, k)))
   first_missing e h k built =
-      accepted_anyway (ended (items_rule errs optional_limits Grows) (λ vs _. vs) (always m) {IsOutput = Found Pushes CanPush IsItem outputs before}
+      ended (items_rule errs optional_limits Grows) (λ vs _. vs) (always m) {IsOutput = Found Pushes CanPush IsItem outputs before}
       {mode = modes true errors streaming} c (Some Refuse)
       (one_may_come c.trees c.held, part_refused e h) tt (ap (λ z. refused_turn z) (sym (enough c.trees)))
-      ((false, k), refl, (c.held, subst (λ vs. Built outputs (Accumulated Pushes CanPush IsItem before vs) k) (sym c.held) built)))
+      ((false, k), refl, (c.held, subst (λ vs. Built outputs (Accumulated Pushes CanPush IsItem before vs) k) (sym c.held) built))
 
   pub first_found : {j : I} {x : Option T} (a : Accepts w IsItem outputs i (m.answers streaming i) j x) (k : Option K) →
       Built outputs (Accumulated Pushes CanPush IsItem before (a.tree ∷ [])) k → First (Ok (j, Some (true, k)))
   first_found a k built =
       let one = items_more l optional_limits {More = λ vs. vs ≡ a.tree ∷ []} c (one_may_come c.trees c.held) a (inl refl)
       (ap (λ vs. vs ++ a.tree ∷ []) c.held) in
-      accepted_anyway (ended (items_rule errs optional_limits Grows) (λ vs _. vs) (always m) {IsOutput = Found Pushes CanPush IsItem outputs before}
+      ended (items_rule errs optional_limits Grows) (λ vs _. vs) (always m) {IsOutput = Found Pushes CanPush IsItem outputs before}
       {mode = modes true errors streaming} one None (λ z. omega (arith, z, ap length one.held)) tt refl
-      ((true, k), refl, ((a.tree, one.held), subst (λ vs. Built outputs (Accumulated Pushes CanPush IsItem before vs) k) (sym one.held) built)))
-
-  -- what isn't accepted is told alike
-  first_stopped : {IsOutput : List V → K → Type 0} {f : Answer.Err E (Option E) Needed} →
-      ShowsMeaning w IsOutput (optional_meaning w errs Grows m) (modes outputs errors streaming) i (Err f) → First (Err f)
-  first_stopped {f = f} h = output_err {built = outputs} {mode = modes true errors streaming} {r = Err f} h (refl, refl)
-
-  pub first_failed : {f : Answer.Err E (Option E) Needed} {x : E} → f ≡ Failure x → ShowsMeaning w IsItem m (modes outputs false streaming) i (Err f) →
-      First (Err (Failure x))
-  first_failed e h = first_stopped {IsOutput = λ vs _. Unit {0}} (items_failed errs optional_limits Grows m c (one_may_come c.trees c.held) e h)
-
-  pub first_lacks : {f : Answer.Err E (Option E) Needed} {k : Needed} → f ≡ Incomplete k →
-      ShowsMeaning w IsItem m (modes outputs false streaming) i (Err f) → First (Err (Incomplete k))
-  first_lacks e h = first_stopped {IsOutput = λ vs _. Unit {0}} (items_lack errs optional_limits Grows m c (one_may_come c.trees c.held) e h)
+      ((true, k), refl, ((a.tree, one.held), subst (λ vs. Built outputs (Accumulated Pushes CanPush IsItem before vs) k) (sym one.held) built))
 
   pub first_lacks_room : {j : I} {x : Option T} (a : Accepts w IsItem outputs i (m.answers streaming i) j x) → outputs ≡ true → Grows → First (Err OutOfMemory)
-  first_lacks_room a o t = first_stopped {IsOutput = λ vs _. Unit {0}}
-      (items_lack_room errs optional_limits Grows m c (one_may_come c.trees c.held) a (inl refl) o t)
+  first_lacks_room a o t = output_err {IsOutput = λ vs (_ : K). Unit {0}} {built = outputs} {mode = modes true errors streaming} {r = Err OutOfMemory}
+      (items_lack_room errs optional_limits Grows m c (one_may_come c.trees c.held) a (inl refl) o t) (refl, refl)
+
+-- All else is passed on, whatever is told of the items.
+pub first_stopped : {I A V T O E : Type 0} {w : Model I A} (l : InputLaws w) (errs : Errors I E) {Grows : Type 0} (m : Meaning I V E)
+    {IsItem : V → T → Type 0} {IsOutput : List V → O → Type 0} {asked told : Modes} {outputs errors streaming : Bool} {i : I} → w.IsKnown i →
+    {f g : Answer.Err E (Option E) Needed} → f ≡ g → IsNoRefusal g →
+    ShowsAnswer w IsItem asked i (m.answers streaming i) (m.blames streaming i) (m.may_run_out (modes outputs false streaming) i) (Err f) →
+    ShowsAnswer w IsOutput told i ((optional_meaning w errs Grows m).answers streaming i) ((optional_meaning w errs Grows m).blames streaming i)
+    ((optional_meaning w errs Grows m).may_run_out (modes outputs errors streaming) i) (Err g)
+first_stopped l errs {Grows} m {outputs = outputs} {errors} {streaming} known is other h =
+    let none = nothing_yet l (m.answers streaming) known in
+    stopped (items_rule errs optional_limits Grows) (λ vs _. vs) (always m) {mode = modes outputs errors streaming} none
+    (record { ends = λ k why. refl; blames = λ i k j cause P e z. z }) (one_may_come none.trees none.held) is other h
 
 -- what was told of the first item
 pub told : {V T K : Type 0} (Pushes : K → T → K → Type 0) (CanPush : K → Type 0) (IsItem : V → T → Type 0) (builds : Bool) (before : Option K)

@@ -10,7 +10,7 @@ use Rattle.nom_run.proofs.JoinedLines.{lines-same}
 use Rattle.nom.specs.grammars.Grammar.{Parses}
 use Rattle.nom_settings_run.specs.Settings.{SectionTree, SettingTree, section_of, setting_of, settings_of}
 use Rattle.nom_located.specs.Located.{place}
-use Rattle.nom_settings_run.specs.Report.{IsReport, IsAnswerReport, IsBytesReport, OfText, place_of, SaysSections, Text, bytes_of, entry_line, seen_there}
+use Rattle.nom_settings_run.specs.Report.{IsReport, IsSettingsReport, IsBytesReport, OfText, place_of, SaysSections, Text, bytes_of, entry_line, seen_there}
 use Rattle.nom_settings_run.specs.Report.{section_text, section_tree_text, sections_text, setting_text, setting_tree_text, text_bytes, trees_text}
 
 same_bytes : (t : Slice seen_there) (o : Text) → IsModelledBy seen_there t o → text_bytes o ≡ bytes_of t
@@ -47,19 +47,19 @@ AnswerErr = Answer.Err (Error Text) (Error Text) Needed
 
 module _ {A : Type 0} (whole : Text) (answer : Result (Text × Vec (Text × Vec (Text × Text) A) A) AnswerErr) (text : List ℕ) (status : ℕ) where
   says : (Blames : Error Text → Type 0) (o : Outcome (List (SectionTree seen_there))) → ((k : Option ℕ) → o ≡ Stop (Needs k) → ⊥) →
-      ParsesOutcome seen_there (settings_of seen_there {M = A}).IsOutput whole Blames o answer → IsAnswerReport answer text status →
+      ParsesOutcome seen_there (settings_of seen_there {M = A}).IsOutput whole Blames o answer → IsSettingsReport answer text status →
       SaysSections Blames o text status
   says Blames (Accept n ts) never p t =
-      let told = subst (λ a. IsAnswerReport a text status) p.4 t in
+      let told = subst (λ a. IsSettingsReport a text status) p.4 t in
       (told.0 ∙ sections_same ts p.1 p.3, told.1)
-  says Blames Refuse never p t = let told = subst (λ a. IsAnswerReport a text status) p.2 t in (p.0, p.1, told.0, told.1)
-  says Blames (Stop (Fails cause)) never p t = let told = subst (λ a. IsAnswerReport a text status) p.2 t in (p.0, p.1, told.0, told.1)
+  says Blames Refuse never p t = let told = subst (λ a. IsSettingsReport a text status) p.2 t in (p.0, p.1, told.0, told.1)
+  says Blames (Stop (Fails cause)) never p t = let told = subst (λ a. IsSettingsReport a text status) p.2 t in (p.0, p.1, told.0, told.1)
   says Blames (Stop (Needs k)) never p t = never k refl
 
   pub of_text : (bytes : List ℕ) → IsUtf8 bytes → whole.fragment.now ≡ bytes → place_of whole ≡ place 0 1 1 →
-      Parses seen_there (settings_of seen_there {M = A}) false whole answer → IsAnswerReport answer text status →
+      Parses seen_there (settings_of seen_there {M = A}) false whole answer → IsSettingsReport answer text status →
       OfText bytes text status
-  of_text bytes u e b (ParseRanOut f h) t = absurd (subst (λ a. IsAnswerReport a text status) f t)
+  of_text bytes u e b (ParseRanOut f h) t = absurd (subst (λ a. IsSettingsReport a text status) f t)
   of_text bytes u e b (Parsed o a p) t = record {
     utf8 = u;
     whole = whole;
@@ -75,7 +75,7 @@ same_place o l c a b d = ap (λ x. place x l c) a ∙ (ap (λ x. place 0 x c) b 
 
 pub report_of_text : {A : Type 0} (bytes cuts : List ℕ) (whole : Text) (answer : Result (Text × Vec (Text × Vec (Text × Text) A) A) AnswerErr)
     (text : List ℕ) (status : ℕ) → IsUtf8 bytes → whole.fragment.now ≡ bytes → whole.offset ≡ 0 → whole.line ≡ 1 → whole.column ≡ 1 →
-    Parses seen_there (settings_of seen_there {M = A}) false whole answer → IsAnswerReport answer text status →
+    Parses seen_there (settings_of seen_there {M = A}) false whole answer → IsSettingsReport answer text status →
     IsReport bytes cuts text status
 unfolding IsReport
 report_of_text bytes cuts whole answer text status u e o l c p t =

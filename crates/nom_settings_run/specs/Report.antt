@@ -108,13 +108,13 @@ abbrev AnswerErr : Type 0
 AnswerErr = Answer.Err (Error Text) (Error Text) Needed
 
 -- the text and the status where a text isn't accepted
-abbrev pub IsStopReport : AnswerErr → List ℕ → ℕ → Type 0
-IsStopReport (Stop.Incomplete k) text status = Unit {0}
-IsStopReport (Stop.Error e) text status = (text ≡ refusal_text e.input.line e.input.column e.code) × (status ≡ 1)
-IsStopReport (Stop.Failure e) text status = (text ≡ refusal_text e.input.line e.input.column e.code) × (status ≡ 1)
-IsStopReport Stop.OutOfMemory text status = ⊥
+abbrev pub IsStopLine : AnswerErr → List ℕ → ℕ → Type 0
+IsStopLine (Stop.Incomplete k) text status = Unit {0}
+IsStopLine (Stop.Error e) text status = (text ≡ refusal_text e.input.line e.input.column e.code) × (status ≡ 1)
+IsStopLine (Stop.Failure e) text status = (text ≡ refusal_text e.input.line e.input.column e.code) × (status ≡ 1)
+IsStopLine Stop.OutOfMemory text status = ⊥
 
 -- the text and the status for an answer
-abbrev pub IsAnswerReport : {A : Type 0} → Result (Text × Vec (Text × Vec (Text × Text) A) A) AnswerErr → List ℕ → ℕ → Type 0
-IsAnswerReport (Ok a) text status = (text ≡ sections_text a.1.items) × (status ≡ 0)
-IsAnswerReport (Err e) text status = IsStopReport e text status
+abbrev pub IsSettingsReport : {A : Type 0} → Result (Text × Vec (Text × Vec (Text × Text) A) A) AnswerErr → List ℕ → ℕ → Type 0
+IsSettingsReport (Ok a) text status = (text ≡ sections_text a.1.items) × (status ≡ 0)
+IsSettingsReport (Err e) text status = IsStopLine e text status

@@ -2,7 +2,7 @@
 ghost use Rattle.std.specs.Prelude.{◌≡◌, ◌++◌, ◌≤◌, IfOk, decimal, length, string_bytes, take};
 ghost use Rattle.nom_run.specs.Pieces.{HasRoom, Puts};
 ghost use Rattle.nom_run.specs.Runs.{WritesText};
-ghost use Rattle.nom_settings_run.specs.Report.{IsReport, IsAnswerReport, IsBytesReport, IsStopReport, entry_text, refusal_text, entry_line};
+ghost use Rattle.nom_settings_run.specs.Report.{IsReport, IsSettingsReport, IsBytesReport, IsStopLine, entry_text, refusal_text, entry_line};
 ghost use Rattle.nom_settings_run.specs.Report.{section_text, sections_text, setting_text};
 
 use crate::settings::{Section, settings};
@@ -186,7 +186,7 @@ fn tell_stop<'a, A: Allocator + Copy>(
     alloc: A,
     stop: Err<Error<Text<'a>>>,
 ) -> Result<(String<A>, u8), OutOfMemory>
-    ensures { IfOk result (λ r. IsStopReport stop.entry (string_bytes r.0) r.1) }
+    ensures { IfOk result (λ r. IsStopLine stop.entry (string_bytes r.0) r.1) }
 {
     match stop {
         Err::Error(error) => {
@@ -207,7 +207,7 @@ fn write_answer<'a, A: Allocator + Copy, W: Sink>(
     answer: IResult<Text<'a>, Vec<Section<Text<'a>, A>, A>, Error<Text<'a>>>,
     sink: &mut W,
 ) -> Result<u8, RunError>
-    ensures { WritesText (IsAnswerReport answer.entry) (W.account sink.old) (W.account sink.new) (sink.new ≡ sink.old) result }
+    ensures { WritesText (IsSettingsReport answer.entry) (W.account sink.old) (W.account sink.new) (sink.new ≡ sink.old) result }
 {
     match answer {
         Ok((_rest, found)) => write_sections(alloc, &found, sink),

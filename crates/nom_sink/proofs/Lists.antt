@@ -5,7 +5,7 @@ use Rattle.std.proofs.Common.{take}
 use Rattle.std.proofs.Math.Seq.{take-append_seam}
 use Rattle.std.proofs.lemmas.List.{drop_all, drop_more}
 use Rattle.nom_sink.specs.declared.error.WriteError.{WriteError}
-use Rattle.nom_sink.specs.Lists.{Each, EachFail}
+use Rattle.nom_sink.specs.Lists.{EachForm, EachFail}
 use Rattle.nom_sink.specs.Written.{Lack, Space, space_at}
 
 module _ {O A : Type 0} (Form : O → List A → Type 0) (Fails : O → Space → WriteError → Type 0) (lack : Lack) (vs : List O) where
@@ -13,7 +13,7 @@ module _ {O A : Type 0} (Form : O → List A → Type 0) (Fails : O → Space �
   pub record SoFar (k : ℕ) (old new : List A) : Type 0 where
     pub added : List A
     pub whole : new ≡ old ++ added
-    pub forms : (ys : List A) → Each Form (drop k vs) ys → Each Form vs (added ++ ys)
+    pub forms : (ys : List A) → EachForm Form (drop k vs) ys → EachForm Form vs (added ++ ys)
     pub fails : (room : ℕ) (e : WriteError) → EachFail Form Fails (drop k vs) (space_at lack room new) e → EachFail Form Fails vs (space_at lack room old) e
 
   pub none_added : (old : List A) → SoFar 0 old old
@@ -31,8 +31,9 @@ module _ {O A : Type 0} (Form : O → List A → Type 0) (Fails : O → Space �
           added = a.added ++ b.0;
           whole = b.1 ∙ (ap (λ zs. zs ++ b.0) a.whole ∙ append_assoc old a.added b.0);
           forms = λ ys h.
-              let next : Each Form (v ∷ drop (k + 1) vs) (b.0 ++ ys) = record { front = b.0; back = ys; whole = refl; first = b.2; second = h } in
-              subst (λ zs. Each Form vs zs) (sym (append_assoc a.added b.0 ys)) (a.forms (b.0 ++ ys) (subst (λ us. Each Form us (b.0 ++ ys)) (sym here) next));
+              let next : EachForm Form (v ∷ drop (k + 1) vs) (b.0 ++ ys) = record { front = b.0; back = ys; whole = refl; first = b.2; second = h } in
+              subst (λ zs. EachForm Form vs zs) (sym (append_assoc a.added b.0 ys))
+              (a.forms (b.0 ++ ys) (subst (λ us. EachForm Form us (b.0 ++ ys)) (sym here) next));
           fails = λ room e h.
               a.fails room e (subst (λ us. EachFail Form Fails us (space_at lack room mid) e) (sym here)
               (inr (b.0, b.2, subst (λ n. EachFail Form Fails (drop (k + 1) vs) (record { lack = lack; room = room; start = n }) e) longer h)));
@@ -42,11 +43,11 @@ module _ {O A : Type 0} (Form : O → List A → Type 0) (Fails : O → Space �
         EachFail Form Fails vs (space_at lack room old) e
     one_fails old mid a room e h = a.fails room e (subst (λ us. EachFail Form Fails us (space_at lack room mid) e) (sym here) (inl h))
 
-  pub all_added : (k : ℕ) → length vs ≤ k → (old new : List A) → SoFar k old new → (xs : List A) × (new ≡ old ++ xs) × Each Form vs xs
+  pub all_added : (k : ℕ) → length vs ≤ k → (old new : List A) → SoFar k old new → (xs : List A) × (new ≡ old ++ xs) × EachForm Form vs xs
   all_added k end old new a = (
     a.added,
     a.whole,
-    subst (λ zs. Each Form vs zs) (append-nil a.added) (a.forms [] (subst (λ us. Each Form us []) (sym (drop_all k vs end)) refl)),
+    subst (λ zs. EachForm Form vs zs) (append-nil a.added) (a.forms [] (subst (λ us. EachForm Form us []) (sym (drop_all k vs end)) refl)),
   )
 
 -- what was added is taken back

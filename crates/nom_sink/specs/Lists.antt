@@ -6,9 +6,9 @@ use Rattle.nom_sink.specs.Parts.{Both, BothFail}
 use Rattle.nom_sink.specs.Written.{Space}
 
 -- forms of the values of a list, one after another
-abbrev pub Each : {O A : Type 0} → (O → List A → Type 0) → List O → List A → Type 0
-Each Form [] xs = xs ≡ []
-Each Form (v ∷ vs) xs = Both (Form v) (Each Form vs) xs
+abbrev pub EachForm : {O A : Type 0} → (O → List A → Type 0) → List O → List A → Type 0
+EachForm Form [] xs = xs ≡ []
+EachForm Form (v ∷ vs) xs = Both (Form v) (EachForm Form vs) xs
 
 -- one of them can't be written, after forms of those before it
 abbrev pub EachFail : {O A : Type 0} → (O → List A → Type 0) → (O → Space → WriteError → Type 0) → List O → Space → WriteError → Type 0

@@ -1,7 +1,7 @@
 -- Forms of parts in sequence.
 use Rattle.std.specs.Prelude.{◌≡◌, ℕ, List, ◌++◌, ◌⊎◌, length}
 use Rattle.nom_sink.specs.declared.error.WriteError.{WriteError}
-use Rattle.nom_sink.specs.Written.{Space, after, moved_back}
+use Rattle.nom_sink.specs.Written.{Space, space_after, moved_back}
 
 -- a form of the first part, and then one of the second
 pub record Both {A : Type 0} (First Second : List A → Type 0) (xs : List A) : Type 0 where
@@ -13,7 +13,7 @@ pub record Both {A : Type 0} (First Second : List A → Type 0) (xs : List A) : 
 
 -- the first part fails, or after a form of it the second
 abbrev pub BothFail : {A : Type 0} → (List A → Type 0) → (Space → WriteError → Type 0) → (Space → WriteError → Type 0) → Space → WriteError → Type 0
-BothFail {A} First FirstFails SecondFails s e = FirstFails s e ⊎ ((xs : List A) × First xs × SecondFails (after s xs) e)
+BothFail {A} First FirstFails SecondFails s e = FirstFails s e ⊎ ((xs : List A) × First xs × SecondFails (space_after s xs) e)
 
 -- what the second part writes, with all that may follow it, may follow the first
 abbrev pub Meets : {A : Type 0} → (First Second Next : List A → Type 0) → Type 0
@@ -35,4 +35,4 @@ pub record AfterLength {A : Type 0} (Size : ℕ → List A → Type 0) (Part : L
 abbrev pub AfterLengthFails : {A : Type 0} → (SizeFails : ℕ → Space → WriteError → Type 0) → (List A → Type 0) →
     (Space → WriteError → Type 0) → Space → WriteError → Type 0
 AfterLengthFails {A} SizeFails Part PartFails s e = PartFails s e ⊎
-    ((xs : List A) × Part xs × (f : WriteError) × SizeFails (length xs) (after s xs) f × (e ≡ moved_back (length xs) f))
+    ((xs : List A) × Part xs × (f : WriteError) × SizeFails (length xs) (space_after s xs) f × (e ≡ moved_back (length xs) f))

@@ -5,8 +5,8 @@ use Rattle.nom_sink.specs.Written.Lack.{OfSpace}
 use Rattle.nom_sink.specs.declared.sink.SliceSink.{SliceSink}
 
 -- the front of the slice
-abbrev pub held : {A : Type 0} → SliceSink A → List A
-held s = take s.used s.buffer.now
+abbrev pub written_front : {A : Type 0} → SliceSink A → List A
+written_front s = take s.used s.buffer.now
 
 -- as many items as the slice has
 abbrev pub room_of : {A : Type 0} → SliceSink A → ℕ
@@ -21,4 +21,4 @@ abbrev pub loan_of : {A : Type 0} → SliceSink A → ℕ
 loan_of s = s.buffer.ghost_name
 
 abbrev pub slice_model : {A : Type 0} → SinkModel (SliceSink A) A
-slice_model = record { items = held; room = room_of; lack = OfSpace; loan = loan_of }
+slice_model = record { items = written_front; room = room_of; lack = OfSpace; loan = loan_of }

@@ -36,8 +36,8 @@ pub record Space : Type 0 where
   pub start : ℕ
 
 -- the space after some items
-abbrev pub after : {A : Type 0} → Space → List A → Space
-after s xs = record { lack = s.lack; room = s.room; start = s.start + length xs }
+abbrev pub space_after : {A : Type 0} → Space → List A → Space
+space_after s xs = record { lack = s.lack; room = s.room; start = s.start + length xs }
 
 -- the space after what a sink holds
 abbrev pub space_at : {A : Type 0} (lack : Lack) (room : ℕ) (items : List A) → Space
@@ -56,11 +56,11 @@ abbrev pub LacksRoom : (count : ℕ) → Space → WriteError → Type 0
 LacksRoom count s e = (e ≡ lack_error s.lack) × (s.room < s.start + count)
 
 -- an error for want of room
-abbrev pub IsLack : WriteError → Type 0
-IsLack OutOfMemory = Unit {0}
-IsLack Full = Unit {0}
-IsLack (TooLong n) = ⊥
-IsLack (Mismatch n) = ⊥
+abbrev pub IsWantOfRoom : WriteError → Type 0
+IsWantOfRoom OutOfMemory = Unit {0}
+IsWantOfRoom Full = Unit {0}
+IsWantOfRoom (TooLong n) = ⊥
+IsWantOfRoom (Mismatch n) = ⊥
 
 -- the error, with its place that many items before
 abbrev pub moved_back : (count : ℕ) → WriteError → WriteError

@@ -1,6 +1,6 @@
 //! Why a value isn't written.
 ghost use Rattle.std.specs.Prelude.{false, IsTrue, ◌≡◌};
-ghost use Rattle.nom_sink.specs.Written.{IsLack, moved_back};
+ghost use Rattle.nom_sink.specs.Written.{IsWantOfRoom, moved_back};
 
 /// Why a value isn't written. A place is the length that the sink would have at the start of the part that can't be written.
 #[derive(Clone, Copy, Debug, PartialEq, Eq)]
@@ -19,8 +19,8 @@ impl WriteError {
     /// Returns whether the value can't be written, whatever the room.
     #[inline(always)]
     pub fn is_unfit(&self) -> bool
-        ensures unfit { IsTrue result → IsLack self.now → ⊥ }
-        ensures lack { result ≡ false → IsLack self.now }
+        ensures unfit { IsTrue result → IsWantOfRoom self.now → ⊥ }
+        ensures lack { result ≡ false → IsWantOfRoom self.now }
     {
         match self {
             WriteError::OutOfMemory => false,

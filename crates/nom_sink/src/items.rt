@@ -1,6 +1,6 @@
 //! Values of one kind, one after another, and pieces after their length.
 ghost use Rattle.std.specs.Prelude.{◌≤◌, ◌≡◌, List};
-ghost use Rattle.nom_sink.specs.Lists.{Each, EachFail, ItemFails, ItemForm};
+ghost use Rattle.nom_sink.specs.Lists.{EachForm, EachFail, ItemFails, ItemForm};
 ghost use Rattle.nom_sink.specs.Parts.{AfterLength, AfterLengthFails};
 ghost use Rattle.nom_sink.specs.Written.{Space, Written};
 
@@ -67,7 +67,7 @@ fn with_each<T, V, P: PutItem<T, Item = V>, S: Sink<T>>(
     args: (&P, &[V], bool),
 ) -> (S, Result<(), WriteError>)
     requires { P.CanPut args.0.now }
-    ensures written { Written (Each (ItemForm args.entry.2 (P.Form args.entry.0.now)) args.entry.1.now) (EachFail (ItemForm args.entry.2
+    ensures written { Written (EachForm (ItemForm args.entry.2 (P.Form args.entry.0.now)) args.entry.1.now) (EachFail (ItemForm args.entry.2
         (P.Form args.entry.0.now)) (ItemFails args.entry.2 (P.Form args.entry.0.now) (P.Fails args.entry.0.now)) args.entry.1.now) S.model
         out result.0 result.1 }
     ensures room { S.model.room out ≤ S.model.room result.0 }
@@ -98,7 +98,7 @@ pub fn put_each<T, P: PutItem<T>, S: Sink<T>>(
     out: &mut S,
 ) -> Result<(), WriteError>
     requires { P.CanPut by.now }
-    ensures written { Written (Each (ItemForm some (P.Form by.now)) items.now) (EachFail (ItemForm some
+    ensures written { Written (EachForm (ItemForm some (P.Form by.now)) items.now) (EachFail (ItemForm some
         (P.Form by.now)) (ItemFails some (P.Form by.now) (P.Fails by.now)) items.now) S.model out.old out.new result }
     ensures room { S.model.room out.old ≤ S.model.room out.new }
     ensures loan { S.model.loan out.new ≡ S.model.loan out.old }
@@ -115,7 +115,7 @@ pub fn put_each<T, P: PutItem<T>, S: Sink<T>>(
 pub struct EachOf<'a, P, V>(pub P, pub &'a [V], pub bool);
 
 impl<'a, T, V, P: PutItem<T, Item = V>> Piece<T> for EachOf<'a, P, V> {
-    ghost Form = { λ o. Each (ItemForm o.2 (P.Form o.0)) o.1.now };
+    ghost Form = { λ o. EachForm (ItemForm o.2 (P.Form o.0)) o.1.now };
 
     ghost Fails = { λ o. EachFail (ItemForm o.2 (P.Form o.0)) (ItemFails o.2 (P.Form o.0) (P.Fails o.0)) o.1.now };
 

@@ -1,6 +1,6 @@
 //! Places that items are written to.
 ghost use Rattle.std.specs.Prelude.{◌≡◌, ◌+◌, ◌<◌, ◌≤◌, ◌++◌, ◌⊎◌, [], OnErr, false, length, take, true, vec_capacity, vec_len};
-ghost use Rattle.nom_sink.specs.Slices.{behind, held, loan_of, room_of, slice_model};
+ghost use Rattle.nom_sink.specs.Slices.{behind, written_front, loan_of, room_of, slice_model};
 ghost use Rattle.nom_sink.specs.Vecs.{vec_model};
 ghost use Rattle.nom_sink.specs.Written.{LacksRoom, SinkModel, Written, moved_behind, no_loan};
 ghost use Rattle.nom_sink.specs.declared.error.WriteError.{WriteError};
@@ -119,7 +119,7 @@ pub struct SliceSink<'a, T> {
 /// If the slice has no room for a value, the answer is `Full`. What was written before stays.
 #[inline(always)]
 pub fn slice_sink<'a, T>(buffer: &'a mut [T]) -> SliceSink<'a, T>
-    ensures held { held result ≡ [] }
+    ensures held { written_front result ≡ [] }
     ensures room { room_of result ≡ length buffer.old }
     ensures loan { loan_of result ≡ buffer.entry.ghost_name }
 {
@@ -130,7 +130,7 @@ impl<'a, T> SliceSink<'a, T> {
     /// Returns the items that were written.
     #[inline(always)]
     pub fn written(&self) -> &[T]
-        ensures { result.now ≡ held self.now }
+        ensures { result.now ≡ written_front self.now }
     {
         &self.buffer[..self.used.min(self.buffer.len())]
     }
@@ -150,7 +150,7 @@ impl<'a, T: Copy> Sink<T> for SliceSink<'a, T> {
         ensures written { Written (λ xs. xs ≡ items.now) (LacksRoom (length items.now)) slice_model self.old self.new result }
         ensures room { room_of self.old ≤ room_of self.new }
         ensures loan { loan_of self.new ≡ loan_of self.old }
-        ensures rest { behind (length (held self.new)) self.new ≡ behind (length (held self.new)) self.old }
+        ensures rest { behind (length (written_front self.new)) self.new ≡ behind (length (written_front self.new)) self.old }
     {
         let used = self.used.min(self.buffer.len());
         if items.len() <= self.buffer.len() - used {
@@ -165,7 +165,7 @@ impl<'a, T: Copy> Sink<T> for SliceSink<'a, T> {
 
     #[inline(always)]
     fn truncate(&mut self, len: usize)
-        ensures items { held self.new ≡ take len (held self.old) }
+        ensures items { written_front self.new ≡ take len (written_front self.old) }
         ensures room { room_of self.old ≤ room_of self.new }
         ensures loan { loan_of self.new ≡ loan_of self.old }
         ensures rest { self.new.buffer.now ≡ self.old.buffer.now }
@@ -178,11 +178,11 @@ impl<'a, T: Copy> Sink<T> for SliceSink<'a, T> {
     #[inline]
     fn move_behind(&mut self, start: usize, middle: usize)
         requires start { start ≤ middle }
-        requires middle { middle ≤ length (held self.old) }
-        ensures items { held self.new ≡ moved_behind start middle (held self.old) }
+        requires middle { middle ≤ length (written_front self.old) }
+        ensures items { written_front self.new ≡ moved_behind start middle (written_front self.old) }
         ensures room { room_of self.old ≤ room_of self.new }
         ensures loan { loan_of self.new ≡ loan_of self.old }
-        ensures rest { behind (length (held self.old)) self.new ≡ behind (length (held self.old)) self.old }
+        ensures rest { behind (length (written_front self.old)) self.new ≡ behind (length (written_front self.old)) self.old }
     {
         let used = self.used.min(self.buffer.len());
         self.buffer[start..used].rotate_left(middle - start);

@@ -109,12 +109,12 @@ pub fn add_text<S: Sink<char>>(text: &str, out: &mut S) -> Result<(), WriteError
 }
 
 impl<A: Allocator> TextSink<A> {
-    ghost use Rattle.nom_sink.specs.Texts.{spelled};
+    ghost use Rattle.nom_sink.specs.Texts.{sink_characters};
     ghost use Rattle.std.specs.Prelude.{string_bytes};
 
     /// Returns a sink that adds to a text.
     pub fn new(text: String<A>) -> TextSink<A>
-        ensures { spelled result ≡ chars (string_bytes text) }
+        ensures { sink_characters result ≡ chars (string_bytes text) }
     {
         let count = count_chars(text.as_str());
         TextSink {
@@ -125,7 +125,7 @@ impl<A: Allocator> TextSink<A> {
 
     /// Returns the text.
     pub fn into_text(self) -> String<A>
-        ensures { chars (string_bytes result) ≡ spelled self }
+        ensures { chars (string_bytes result) ≡ sink_characters self }
     {
         match String::from_utf8(self.bytes) {
             Ok(text) => text,
@@ -136,11 +136,11 @@ impl<A: Allocator> TextSink<A> {
 
 /// It takes a character for each four bytes of its capacity. Its error is `OutOfMemory`.
 impl<A: Allocator> Sink<char> for TextSink<A> {
-    ghost use Rattle.nom_sink.specs.Texts.{space_of, spelled};
+    ghost use Rattle.nom_sink.specs.Texts.{space_of, sink_characters};
     ghost use Rattle.nom_sink.specs.Written.{no_loan};
     ghost use Rattle.nom_sink.specs.Written.Lack.{OfMemory};
 
-    ghost model = { record { items = spelled; room = space_of; lack = OfMemory; loan = no_loan } };
+    ghost model = { record { items = sink_characters; room = space_of; lack = OfMemory; loan = no_loan } };
 
     #[inline(always)]
     fn len(&self) -> usize {

@@ -4,7 +4,7 @@ use Rattle.nom_error.specs.declared.kind.ErrorKind.TheVariants as Kind
 use Rattle.nom_error.specs.declared.value.Error.{Error}
 use Rattle.nom_internal.specs.Prelude.{bytes_model, ErrorKind, Grammar, Slice}
 use Rattle.nom_stream.specs.Items.{Bytes}
-use Rattle.nom_stream.specs.Lines.{line_by, line_of}
+use Rattle.nom_stream.specs.ReaderLines.{line_by, line_of}
 
 pub line_by_parts : (P : Grammar Bytes (Option (Slice bytes_model)) ℕ (Error Bytes) → Type 0) (set text : List ℕ) (kind : ErrorKind) → set ≡ 10 ∷ [] →
     text ≡ 10 ∷ [] → kind ≡ Kind.IsNot → P (line_by set text kind) → P line_of

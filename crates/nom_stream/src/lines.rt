@@ -1,7 +1,7 @@
 //! The lines of a reader.
 ghost use Rattle.std.specs.Prelude.{◌≡◌, Option};
 ghost use Rattle.nom_internal.specs.Prelude.{bytes_model, Slice};
-ghost use Rattle.nom_stream.specs.Lines.{line_len, line_of};
+ghost use Rattle.nom_stream.specs.ReaderLines.{line_len, line_of};
 
 use crate::grammar::{Grammar, parse_item};
 use nom_bytes::{is_not, tag};

@@ -26,18 +26,18 @@ pub folded_form : IsForm str_to_ascii_lowercase
 folded_form = record { append = λ xs ys. map-append to_ascii_lowercase xs ys; size = λ xs. length-map xs to_ascii_lowercase }
 
 -- items are read as bytes, each as many as its length
-pub record AreBytes {I A : Type 0} (w : Model I A) (bytes : List A → List ℕ) : Type 0 where
+pub record ReadsAsBytes {I A : Type 0} (w : Model I A) (bytes : List A → List ℕ) : Type 0 where
   pub append : (xs ys : List A) → bytes (xs ++ ys) ≡ bytes xs ++ bytes ys
   pub size : (xs : List A) → items_len w.item_len xs ≡ length (bytes xs)
 
-pub bytes_are_bytes : AreBytes bytes_model (λ xs. xs)
+pub bytes_are_bytes : ReadsAsBytes bytes_model (λ xs. xs)
 bytes_are_bytes = record { append = λ _ _. refl; size = items_len-ones }
 
-pub text_is_bytes : AreBytes text_model encode_utf8_all
+pub text_is_bytes : ReadsAsBytes text_model encode_utf8_all
 text_is_bytes = record { append = encodes-append; size = items_len-text }
 
 -- of two lists in front of one, one is a front of the other
-one_longer : {A : Type 0} (t xs ys more : List A) → t ++ ys ≡ xs ++ more → ((rest : List A) × (xs ≡ t ++ rest)) ⊎
+pub one_longer : {A : Type 0} (t xs ys more : List A) → t ++ ys ≡ xs ++ more → ((rest : List A) × (xs ≡ t ++ rest)) ⊎
     ((x : A) × (rest : List A) × (t ≡ xs ++ (x ∷ rest)))
 one_longer [] xs ys more e = inl (xs, refl)
 one_longer (a ∷ t) [] ys more e = inr (a, t, refl)
@@ -46,15 +46,15 @@ one_longer (a ∷ t) (b ∷ xs) ys more e =
     let tails : t ++ ys ≡ xs ++ more = cc in
     elim (one_longer t xs ys more tails) [ inl h ↦ inl (h.0, cc (heads, h.1)) | inr h ↦ inr (h.0, h.1, cc (heads, h.2)) ]
 
-pub one_more : (ys : List ℕ) → 0 < length ys → (x : ℕ) × (rest : List ℕ) × (ys ≡ x ∷ rest)
-one_more [] h = absurd (omega arith)
-one_more (x ∷ rest) h = (x, rest, refl)
+pub first_of_some : (ys : List ℕ) → 0 < length ys → (x : ℕ) × (rest : List ℕ) × (ys ≡ x ∷ rest)
+first_of_some [] h = absurd (omega arith)
+first_of_some (x ∷ rest) h = (x, rest, refl)
 
 module _ {A : Type 0} (bytes : List A → List ℕ) (form : List ℕ → List ℕ) (t : List ℕ) (xs : List A) where
   pub begun_with : (ys : List ℕ) → 0 < length ys → form t ≡ form (bytes xs) ++ ys → IsBegun bytes form t xs
-  begun_with ys h e = let k = one_more ys h in record { byte = k.0; more = k.1; tag_is = e ∙ ap (λ zs. form (bytes xs) ++ zs) k.2 }
+  begun_with ys h e = let k = first_of_some ys h in record { byte = k.0; more = k.1; tag_is = e ∙ ap (λ zs. form (bytes xs) ++ zs) k.2 }
 
-module _ {I A : Type 0} (w : Model I A) (l : InputLaws w) (bytes : List A → List ℕ) (b : AreBytes w bytes) (form : List ℕ → List ℕ) (f : IsForm form)
+module _ {I A : Type 0} (w : Model I A) (l : InputLaws w) (bytes : List A → List ℕ) (b : ReadsAsBytes w bytes) (form : List ℕ → List ℕ) (f : IsForm form)
     (t : List ℕ) where
   found_size : (xs : List A) (k : IsFound bytes form t xs) → length (bytes k.front) ≡ length t
   found_size xs k = sym (f.size (bytes k.front)) ∙ (ap length k.tag_is ∙ f.size t)
@@ -100,7 +100,7 @@ module _ {I A : Type 0} (w : Model I A) (l : InputLaws w) (bytes : List A → Li
         (k.tag_is ∙ (ap (λ ys. ys ++ (k.byte ∷ k.more)) (form_parts xs more) ∙ append_assoc (form (bytes xs)) (form (bytes more)) (k.byte ∷ k.more)))),
   )
 
-module _ {I A : Type 0} (w : Model I A) (l : InputLaws w) (bytes : List A → List ℕ) (b : AreBytes w bytes) (form : List ℕ → List ℕ) (f : IsForm form) where
+module _ {I A : Type 0} (w : Model I A) (l : InputLaws w) (bytes : List A → List ℕ) (b : ReadsAsBytes w bytes) (form : List ℕ → List ℕ) (f : IsForm form) where
   comparing : CompareLaws {T = List ℕ} w length (ComparesAs bytes form)
   comparing = record {
     one = λ t i r s h j k. one_result w l bytes b form f t (w.elements i) r s j k;

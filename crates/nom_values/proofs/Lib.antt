@@ -1,4 +1,4 @@
-pub mod Lines
+pub mod DumpLines
 pub mod AsciiDumps
 mod ReadBytes
 mod Counting

@@ -11,8 +11,8 @@ pub record Apart {I A V E : Type 0} (w : Model I A) (m : Meaning I V E) (Kind : 
   pub refuses : (xs rest : List A) → Kind xs → NoItem w m (xs ++ rest)
 
 -- it refuses whatever begins with a form of a value
-abbrev pub Refuses : {I A V O R E : Type 0} → Model I A → Grammar I V O E → (R → List A → Type 0) → Type 0
-Refuses {R = R} w g Form = Apart w g.meaning (λ xs. (v : R) × Form v xs)
+abbrev pub RefusesForms : {I A V O R E : Type 0} → Model I A → Grammar I V O E → (R → List A → Type 0) → Type 0
+RefusesForms {R = R} w g Form = Apart w g.meaning (λ xs. (v : R) × Form v xs)
 
 -- some branches, of which the first that can write a value writes it: the forms of values, and why none is written
 pub record BranchForms (O A : Type 0) : Type 1 where

@@ -2,14 +2,14 @@
 use Rattle.std.specs.Prelude.{◌≡◌, true, List, [], ◌∷◌, length}
 use Rattle.nom_sink.specs.declared.error.WriteError.{WriteError}
 use Rattle.nom_sink.specs.declared.error.WriteError.TheVariants.{Mismatch}
-use Rattle.nom_sink.specs.Lists.{Each, EachFail, ItemFails, ItemForm}
+use Rattle.nom_sink.specs.Lists.{EachForm, EachFail, ItemFails, ItemForm}
 use Rattle.nom_sink.specs.Parts.{Both, BothFail}
 use Rattle.nom_sink.specs.Written.{LacksRoom, Space}
 
 -- a form of the first value, and then of each other one a further form, which isn't empty
 abbrev pub SomeForm : {O A : Type 0} → (First Further : O → List A → Type 0) → List O → List A → Type 0
 SomeForm First Further [] xs = ⊥
-SomeForm First Further (v ∷ vs) xs = Both (First v) (Each (ItemForm true Further) vs) xs
+SomeForm First Further (v ∷ vs) xs = Both (First v) (EachForm (ItemForm true Further) vs) xs
 
 -- the same, or nothing of no values
 abbrev pub AnyForm : {O A : Type 0} → (First Further : O → List A → Type 0) → List O → List A → Type 0

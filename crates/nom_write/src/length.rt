@@ -1,7 +1,7 @@
 //! Parts after their length.
 ghost use Rattle.std.specs.Prelude.{◌≡◌, ◌<◌, ℕ, false, List, [], MatchOption, length};
 ghost use Rattle.nom_write.specs.laws.FirstSetLaws.{no_first};
-ghost use Rattle.nom_sink.specs.Lists.{Each, EachFail, ItemFails, ItemForm};
+ghost use Rattle.nom_sink.specs.Lists.{EachForm, EachFail, ItemFails, ItemForm};
 ghost use Rattle.nom_sink.specs.Parts.{AfterLength, AfterLengthFails, Both, BothFail};
 ghost use Rattle.nom_write.specs.Reads.{Holds};
 ghost use Rattle.nom_write.specs.Lengths.{FormOfSize, SizeFails};
@@ -186,7 +186,7 @@ impl<
 > Writer<I> for LengthCount<M, F, G> {
     ghost use Rattle.nom_write.specs.laws.LengthReads.{length_count_reads};
 
-    ghost Form = { λ p v. Both (FormOfSize F.Output.size (F.Form p.length) (length v.items)) (Each (ItemForm false (G.Form p.parser)) v.items) };
+    ghost Form = { λ p v. Both (FormOfSize F.Output.size (F.Form p.length) (length v.items)) (EachForm (ItemForm false (G.Form p.parser)) v.items) };
 
     ghost Fails = { λ p v. BothFail (FormOfSize F.Output.size (F.Form p.length) (length v.items))
         (SizeFails F.Output.size F.Output.Exceeds (F.Fails p.length) (length v.items)) (EachFail (ItemForm false (G.Form p.parser))

@@ -3,7 +3,7 @@ ghost use Rattle.std.specs.Prelude.{◌≡◌, ◌≤◌, ◌⊎◌, ℕ, true, 
 ghost use Rattle.nom_sink.specs.Parts.{Both, BothFail};
 ghost use Rattle.nom_write.specs.FirstSets.{AreDisjoint};
 ghost use Rattle.nom_write.specs.laws.FirstSetLaws.{no_first};
-ghost use Rattle.nom_sink.specs.Lists.{Each, EachFail, ItemFails, ItemForm};
+ghost use Rattle.nom_sink.specs.Lists.{EachForm, EachFail, ItemFails, ItemForm};
 ghost use Rattle.nom_write.specs.Reads.{NoItem};
 ghost use Rattle.nom_write.specs.Separated.{SomeFails, SomeForm};
 ghost use Rattle.nom_sink.specs.Written.{Space, Written};
@@ -24,7 +24,7 @@ use std::marker::PhantomData;
 impl<I: Input, M: Allocator + Copy, G: Writer<I> + Drop> Writer<I> for Many0<M, G> {
     ghost use Rattle.nom_write.specs.laws.ListReads.{many0_reads};
 
-    ghost Form = { λ p v. Each (ItemForm true (G.Form p.parser)) v.items };
+    ghost Form = { λ p v. EachForm (ItemForm true (G.Form p.parser)) v.items };
 
     ghost Fails = { λ p v. EachFail (ItemForm true (G.Form p.parser)) (ItemFails true (G.Form p.parser) (G.Fails p.parser)) v.items };
 
@@ -88,7 +88,7 @@ impl<I: Input, M: Allocator + Copy, G: Writer<I> + Drop> Writer<I> for Many1<M, 
 impl<I: Items, M: Allocator + Copy, G: Writer<I> + Drop> Writer<I> for Count<M, G> {
     ghost use Rattle.nom_write.specs.laws.ListReads.{count_reads};
 
-    ghost Form = { λ p v xs. (length v.items ≡ p.count) × Each (ItemForm false (G.Form p.parser)) v.items xs };
+    ghost Form = { λ p v xs. (length v.items ≡ p.count) × EachForm (ItemForm false (G.Form p.parser)) v.items xs };
 
     ghost Fails = { λ p v s e. ((length v.items ≡ p.count → ⊥) × (e ≡ WriteError.Mismatch s.start)) ⊎
         EachFail (ItemForm false (G.Form p.parser)) (ItemFails false (G.Form p.parser) (G.Fails p.parser)) v.items s e };
@@ -128,9 +128,9 @@ impl<
 > Writer<I> for ManyTill<M, F, G> {
     ghost use Rattle.nom_write.specs.laws.TillReads.{end_apart, many_till_reads};
 
-    ghost Form = { λ p v. Both (Each (ItemForm true (F.Form p.parser)) v.0.items) (G.Form p.end v.1) };
+    ghost Form = { λ p v. Both (EachForm (ItemForm true (F.Form p.parser)) v.0.items) (G.Form p.end v.1) };
 
-    ghost Fails = { λ p v. BothFail (Each (ItemForm true (F.Form p.parser)) v.0.items) (EachFail (ItemForm true (F.Form p.parser))
+    ghost Fails = { λ p v. BothFail (EachForm (ItemForm true (F.Form p.parser)) v.0.items) (EachFail (ItemForm true (F.Form p.parser))
         (ItemFails true (F.Form p.parser) (F.Fails p.parser)) v.0.items) (G.Fails p.end v.1) };
 
     ghost Follow = { λ p. G.Follow p.end };

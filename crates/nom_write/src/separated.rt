@@ -1,7 +1,7 @@
 //! Lists with a separator.
 ghost use Rattle.std.specs.Prelude.{◌≡◌, ◌≤◌, ℕ, true, List, ◌++◌, length};
 ghost use Rattle.nom_sequence.specs.Sequences.{preceded_of};
-ghost use Rattle.nom_sink.specs.Lists.{Each, EachFail, ItemFails, ItemForm};
+ghost use Rattle.nom_sink.specs.Lists.{EachForm, EachFail, ItemFails, ItemForm};
 ghost use Rattle.nom_sink.specs.Parts.{BothFail};
 ghost use Rattle.nom_write.specs.Reads.{NoItem};
 ghost use Rattle.nom_write.specs.Separated.{AfterFails, AfterSeparator, AnyFails, AnyForm, SomeFails, SomeForm};

@@ -1,6 +1,6 @@
 //! The traits of parsers that also write.
 ghost use Rattle.std.specs.Prelude.{Option, None, ◌≡◌, ◌≤◌, List, length};
-ghost use Rattle.nom_write.specs.FirstSets.{HasFirst, StartsWith, Words};
+ghost use Rattle.nom_write.specs.FirstSets.{HasFirst, StartsWith, CodeWords};
 ghost use Rattle.nom_write.specs.Reads.{Reads, ReadsSome};
 ghost use Rattle.nom_sink.specs.Written.{LacksRoom, Space, Written};
 
@@ -30,7 +30,7 @@ pub trait Writer<I: Items>: StreamParser<I> {
     ///
     /// Branches are kept apart if their words differ. The code of a byte is the byte, that of a character its code point, and that of a
     /// bit 1 or 0.
-    ghost First: { Self → Option Words } = { λ _. None };
+    ghost First: { Self → Option CodeWords } = { λ _. None };
 
     /// Adds a form of a value to `out`. On an error, `out` is as it was.
     fn write<S: Sink<I::Item>>(&self, value: &Self::Output, out: &mut S) -> Result<(), WriteError>
@@ -53,7 +53,7 @@ pub trait Constant<I: Items>: StreamParser<I> {
     ghost items: { Self → List I.Item };
 
     /// What the items begin with, if it tells them apart: as for `First` of a `Writer`.
-    ghost Start: { Self → Option Words } = { λ _. None };
+    ghost Start: { Self → Option CodeWords } = { λ _. None };
 
     /// What a caller of `write_constant` must prove: that the parser accepts the items.
     ghost Fits: { Self → Type 0 } = { λ _. Unit {0} };

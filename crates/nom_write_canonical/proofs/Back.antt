@@ -2,7 +2,7 @@
 use Rattle.std.proofs.Common.{◌≡◌, ℕ, Bool, List, ◌++◌, Ok, sym, ◌∙◌, ap, subst}
 use Rattle.nom_internal.specs.Prelude.{Accept, AreValues, Grammar, InputLaws, IsSuffixOf, Model, Outcome, ParseRanOut, Parsed, ParsesOutcome}
 use Rattle.nom_internal.specs.Prelude.{Fails, Needs, Refuse, Stop}
-use Rattle.nom_write.specs.laws.SequenceReads.{follows}
+use Rattle.nom_write.specs.laws.SequenceReads.{rest_follows}
 use Rattle.nom_write_canonical.specs.Forms.{AcceptsForms, IsOneForm, WritesBack}
 use Rattle.nom_write_canonical.specs.laws.SequenceForms.{values_apart}
 
@@ -16,7 +16,7 @@ module _ {I A V O E : Type 0} (w : Model I A) (IsValue : A → Type 0) (l : Inpu
       let k = (accepts.accepts s).front i n t known a in
       let consumed = values_apart IsValue k.front k.rest (subst (AreValues IsValue) k.whole (known_values i known)) in
       let same : k.front ≡ xs = (one v).one k.front xs consumed.0 bytes (k.fact v output) form in
-      let rest : w.elements j ≡ k.rest = follows w l i j k.front k.rest k.whole (subst (λ m. IsSuffixOf w i m j) (sym k.length_is) suffix) in
+      let rest : w.elements j ≡ k.rest = rest_follows w l i j k.front k.rest k.whole (subst (λ m. IsSuffixOf w i m j) (sym k.length_is) suffix) in
       k.whole ∙ (ap (λ z. z ++ k.rest) same ∙ ap (λ z. xs ++ z) (sym rest))
 
   outcome_back : (s : Bool) (i j : I) (v : O) (xs : List A) → w.IsKnown i → (Blames : E → Type 0) (o : Outcome V) → g.meaning.answers s i o →

@@ -2,7 +2,7 @@
 ghost use Rattle.std.specs.Prelude.{◌∷◌, []};
 ghost use Rattle.nom_number.specs.Numbers.{binary_number};
 ghost use Rattle.nom_write_canonical.specs.laws.LeafForms.{number_accepts};
-ghost use Rattle.nom_write_canonical.specs.laws.NumberForms.{AreBitsOf, binary_one, byte_accepts, signed_bits};
+ghost use Rattle.nom_write_canonical.specs.laws.NumberForms.{BitsOfNumber, binary_one, byte_accepts, signed_bits};
 ghost use Rattle.nom_write_canonical.specs.laws.SequenceForms.{items_one};
 
 use crate::canonical::Canonical;
@@ -21,7 +21,7 @@ impl<I: Input<Item = u8>, E: ParseError<I>> Canonical<I> for BeU8<I, E> {
 /// A layout in which different bits are different numbers.
 pub trait CanonicalBits: ToBits {
     /// Bits of one number are the same.
-    ghost one_bits: { AreBitsOf Self.of_bits Self.BYTES };
+    ghost one_bits: { BitsOfNumber Self.of_bits Self.BYTES };
 }
 
 impl CanonicalBits for U8 {

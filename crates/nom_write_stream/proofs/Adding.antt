@@ -6,7 +6,7 @@ use Rattle.nom_sink.specs.declared.error.WriteError.{WriteError}
 use Rattle.nom_sink.specs.declared.error.WriteError.TheVariants as Write
 use Rattle.nom_sink.specs.Written.{Space}
 use Rattle.nom_sink.specs.Written.Lack.{OfSpace}
-use Rattle.nom_write_stream.specs.Outgoing.{AreBytes, IsItem, NoRoom}
+use Rattle.nom_write_stream.specs.Outgoing.{FitsInput, IsItem, NoRoom}
 use Rattle.nom_write_stream.specs.Reasons.{why_unwritten}
 use Rattle.nom_write_stream.proofs.Everywhere.{values_after}
 
@@ -26,7 +26,7 @@ module _ (Form : List ℕ → Type 0) (Fails : Space → WriteError → Type 0) 
   too_long over = inr (xs, form, omega (arith, over, longer, starts))
 
   -- there was
-  pub added_item : last ≤ most → (last ≡ start → ⊥) → AreBytes new → (ys : List ℕ) × IsItem Form most ys × (new ≡ old ++ ys)
+  pub added_item : last ≤ most → (last ≡ start → ⊥) → FitsInput new → (ys : List ℕ) × IsItem Form most ys × (new ≡ old ++ ys)
   added_item within some known = (
     xs,
     record {

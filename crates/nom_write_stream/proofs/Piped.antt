@@ -15,7 +15,7 @@ use Rattle.nom_stream.specs.Streams.Answers.{Decided, AtEnd, Full, Faulted, Lack
 use Rattle.nom_stream.specs.Streams.Ends.{Clean, Within, Completed}
 use Rattle.nom_stream.specs.Wholes.{Calls, HasLeft}
 use Rattle.nom_write_stream.proofs.Outcomes.{item_told, lacks, TellsOutcome, told}
-use Rattle.nom_sink.specs.Lists.{Each}
+use Rattle.nom_sink.specs.Lists.{EachForm}
 use Rattle.nom_write.specs.Reads.{IsTaken, Reads}
 use Rattle.nom_write_stream.specs.Outgoing.{IsItem}
 use Rattle.nom_write_stream.specs.Pipes.{HasOutcomes, ItemsOfForms, ItemsOfPipe, TellsItems}
@@ -268,7 +268,7 @@ module _ {V O : Type 0} (view : View O) (Pins : Type 0) (g : Grammar Bytes V O (
         (t.ended ≡ true → after ≡ []) → held_of t.held ++ after ≡ xs → HasLeft left t xs
     still_left u t after xs same there ends e = (after, ap (λ z. left z.inner) same ∙ there, sym e, ends)
 
-    tells : (vs : List O) (xs : List ℕ) (rs : List (ItemResult O)) (s t : Stream R A) → Each IsIt vs xs → HasLeft left s xs → Calls left g rs s t →
+    tells : (vs : List O) (xs : List ℕ) (rs : List (ItemResult O)) (s t : Stream R A) → EachForm IsIt vs xs → HasLeft left s xs → Calls left g rs s t →
         s.settings.most ≡ limit → TellingWithin limit vs rs
     tells [] xs [] s t h has c m = tt
     tells (v ∷ vs) xs [] s t h has c m = tt

@@ -3,7 +3,7 @@ use Rattle.std.proofs.Common.{◌≡◌, ℕ, zero, suc, ◌+◌, ◌<◌, ◌�
 use Rattle.std.proofs.Common.{refl, sym, ◌∙◌, ap, subst}
 use Rattle.std.proofs.Common.{add-one, append_assoc, append-nil, arith}
 use Rattle.nom_sink.specs.declared.error.WriteError.{WriteError}
-use Rattle.nom_sink.specs.Lists.{Each}
+use Rattle.nom_sink.specs.Lists.{EachForm}
 use Rattle.nom_sink.specs.Written.{Space}
 use Rattle.nom_write_stream.specs.declared.outgoing.Outgoing.{Outgoing}
 use Rattle.nom_write_stream.specs.declared.outgoing.Unwritten.{Unwritten}
@@ -15,8 +15,8 @@ use Rattle.nom_write_stream.proofs.Sending.{no_call, sends_none, sends_then}
 
 module _ {O : Type 0} (Form : O → List ℕ → Type 0) where
   -- a form of one value more
-  each_suc : (k : ℕ) (vs : List O) (v : O) → k < length vs → v ≡ get_or vs k v → (xs ys : List ℕ) → Each Form (take k vs) xs → Form v ys →
-      Each Form (take (suc k) vs) (xs ++ ys)
+  each_suc : (k : ℕ) (vs : List O) (v : O) → k < length vs → v ≡ get_or vs k v → (xs ys : List ℕ) → EachForm Form (take k vs) xs → Form v ys →
+      EachForm Form (take (suc k) vs) (xs ++ ys)
   each_suc k [] v below is xs ys h f = absurd (omega (arith, below))
   each_suc zero (w ∷ vs) v below is xs ys h f = record {
     front = ys;
@@ -33,9 +33,9 @@ module _ {O : Type 0} (Form : O → List ℕ → Type 0) where
     second = each_suc k vs v (omega (arith, below)) is h.back ys h.second f;
   }
 
-  each_more : (k : ℕ) (vs : List O) (v : O) → k < length vs → v ≡ get_or vs k v → (xs ys : List ℕ) → Each Form (take k vs) xs → Form v ys →
-      Each Form (take (k + 1) vs) (xs ++ ys)
-  each_more k vs v below is xs ys h f = subst (λ n. Each Form (take n vs) (xs ++ ys)) (sym (add-one k)) (each_suc k vs v below is xs ys h f)
+  each_more : (k : ℕ) (vs : List O) (v : O) → k < length vs → v ≡ get_or vs k v → (xs ys : List ℕ) → EachForm Form (take k vs) xs → Form v ys →
+      EachForm Form (take (k + 1) vs) (xs ++ ys)
+  each_more k vs v below is xs ys h f = subst (λ n. EachForm Form (take n vs) (xs ++ ys)) (sym (add-one k)) (each_suc k vs v below is xs ys h f)
 
 take_all : {O : Type 0} (k : ℕ) (vs : List O) → length vs ≤ k → take k vs ≡ vs
 take_all zero [] h = refl
@@ -57,7 +57,7 @@ module _ {W A O : Type 0} (contents : W → Option (List ℕ)) (Form : O → Lis
   -- the first items were added
   pub record Added (k : ℕ) (a b : Outgoing W A) : Type 0 where
     pub bytes : List ℕ
-    pub forms : Each (λ v. IsItem (Form v) a.most) (take k vs) bytes
+    pub forms : EachForm (λ v. IsItem (Form v) a.most) (take k vs) bytes
     pub sends : Sends contents a b bytes
     pub faults : NoFault a.target.faults b.target.faults
 
@@ -87,7 +87,7 @@ module _ {W A O : Type 0} (contents : W → Option (List ℕ)) (Form : O → Lis
   pub all_added : (k : ℕ) → length vs ≤ k → (a b : Outgoing W A) → Added k a b → (x : Unit {0}) → WritesItems contents a b Form Fails vs (Ok x)
   all_added k end a b h x = (
     h.bytes,
-    subst (λ us. Each (λ v. IsItem (Form v) a.most) us h.bytes) (take_all k vs end) h.forms,
+    subst (λ us. EachForm (λ v. IsItem (Form v) a.most) us h.bytes) (take_all k vs end) h.forms,
     h.sends,
     h.faults,
   )

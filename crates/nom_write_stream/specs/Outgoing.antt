@@ -7,7 +7,7 @@ use Rattle.std_io.specs.declared.io.error.Error.{Error}
 use Rattle.nom_internal.specs.Prelude.{AreValues}
 use Rattle.nom_sink.specs.declared.error.WriteError.{WriteError}
 use Rattle.nom_sink.specs.declared.error.WriteError.TheVariants as Write
-use Rattle.nom_sink.specs.Lists.{Each}
+use Rattle.nom_sink.specs.Lists.{EachForm}
 use Rattle.nom_sink.specs.Written.{Space}
 use Rattle.nom_sink.specs.Written.Lack.{OfSpace}
 use Rattle.nom_write_stream.specs.declared.outgoing.Halted.{Halted}
@@ -22,15 +22,15 @@ abbrev pub held_of : {W A : Type 0} → Outgoing W A → List ℕ
 held_of o = o.held.bytes.items
 
 -- they are bytes, and not more than an input can have
-abbrev pub AreBytes : List ℕ → Type 0
-AreBytes xs = AreValues (λ b. b < 256) xs × (length xs < 2 ^ 63)
+abbrev pub FitsInput : List ℕ → Type 0
+FitsInput xs = AreValues (λ b. b < 256) xs × (length xs < 2 ^ 63)
 
 -- a form of an item that can be sent: some bytes, and not more than may be held
 pub record IsItem (Form : List ℕ → Type 0) (most : ℕ) (xs : List ℕ) : Type 0 where
   pub form : Form xs
   pub some : 0 < length xs
   pub fits : length xs ≤ most
-  pub known : AreBytes xs
+  pub known : FitsInput xs
 
 -- What was held, and then these bytes, is what was written and then what is held: nothing is lost, nothing comes twice.
 abbrev pub Sends : {W A : Type 0} → (W → Option (List ℕ)) → (a b : Outgoing W A) → (xs : List ℕ) → Type 0
@@ -87,7 +87,8 @@ module _ {W A : Type 0} (contents : W → Option (List ℕ)) (a b : Outgoing W A
   -- what `write_items` does: forms of the items, one after another; or of those before one, and a reason of that one
   abbrev pub WritesItems : {O : Type 0} → (O → List ℕ → Type 0) → (O → Space → WriteError → Type 0) → List O → Result (Unit {0}) Halted →
       Type 0
-  WritesItems Form Fails vs (Ok _) = (xs : List ℕ) × Each (λ v. IsItem (Form v) a.most) vs xs × Sends contents a b xs × NoFault a.target.faults b.target.faults
+  WritesItems Form Fails vs (Ok _) = (xs : List ℕ) × EachForm (λ v. IsItem (Form v) a.most) vs xs × Sends contents a b xs ×
+      NoFault a.target.faults b.target.faults
   WritesItems {O} Form Fails vs (Err h) =
-      (xs : List ℕ) × Each (λ v. IsItem (Form v) a.most) (take h.count vs) xs × Sends contents a b xs × (h.count < length vs) ×
+      (xs : List ℕ) × EachForm (λ v. IsItem (Form v) a.most) (take h.count vs) xs × Sends contents a b xs × (h.count < length vs) ×
       ((v : O) × (v ≡ get_or vs h.count v) × WhyNot (Form v) (Fails v) a.most h.why) × CountsUnwritten a b h.why

@@ -7,7 +7,7 @@ use Rattle.nom_stream.specs.declared.stream.Stream.{Stream}
 use Rattle.nom_stream.specs.Items.{Bytes}
 use Rattle.nom_stream.specs.Streams.{ItemResult}
 use Rattle.nom_stream.specs.Wholes.{Calls, HasLeft}
-use Rattle.nom_sink.specs.Lists.{Each}
+use Rattle.nom_sink.specs.Lists.{EachForm}
 use Rattle.nom_write_stream.specs.declared.outgoing.Outgoing.{Outgoing}
 use Rattle.nom_write_stream.specs.Outgoing.{held_of, IsItem, Sends}
 
@@ -41,14 +41,14 @@ module _ (A : Type 0) {R V O : Type 0} (left : R → Option (List ℕ)) (view : 
   -- that no item is where there are no bytes.
   abbrev pub ItemsOfForms : Type 0
   ItemsOfForms = (most : ℕ) (first : O) (form : List ℕ) → IsItem (Form first) most form → (vs : List O) (xs : List ℕ) →
-      Each (λ v. IsItem (Form v) most) vs xs → (s t : Stream R A) (rs : List (ItemResult O)) → HasLeft left s xs → Calls left g rs s t →
+      EachForm (λ v. IsItem (Form v) most) vs xs → (s t : Stream R A) (rs : List (ItemResult O)) → HasLeft left s xs → Calls left g rs s t →
       TellsItems view Pins (s.settings.most < most) vs rs
 
 -- Items were written, and then all that was held; a stream reads just what the writer took. Its answers tell these items.
 abbrev pub ItemsOfPipe : (A B : Type 0) {R W V O : Type 0} → (R → Option (List ℕ)) → (W → Option (List ℕ)) → View O → (Pins : Type 0) →
     Grammar Bytes V O (Error Bytes) → (O → List ℕ → Type 0) → Type 0
 ItemsOfPipe A B {R} {W} {V} {O} left contents view Pins g Form =
-    (a b : Outgoing W B) (v : O) (vs : List O) (xs before taken : List ℕ) → Each (λ v. IsItem (Form v) a.most) (v ∷ vs) xs →
+    (a b : Outgoing W B) (v : O) (vs : List O) (xs before taken : List ℕ) → EachForm (λ v. IsItem (Form v) a.most) (v ∷ vs) xs →
     held_of a ≡ [] → Sends contents a b xs → held_of b ≡ [] → contents a.target.inner ≡ Some before → contents b.target.inner ≡ Some
     (before ++ taken) →
     (s t : Stream R A) (rs : List (ItemResult O)) → HasLeft left s taken → Calls left g rs s t →

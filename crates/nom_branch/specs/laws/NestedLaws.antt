@@ -7,7 +7,7 @@ use Rattle.nom_internal.specs.declared.flat.One.{One}
 use Rattle.nom_branch.specs.Members.{Member, member, EachMember, AllRun, AreSound, AreLawful, AreSteady, Choice, IsOver, or_waiting, or_members, tried}
 use Rattle.nom_branch.specs.Members.{among_more, with_last}
 use Rattle.nom_branch.specs.Members.Choice.{NoChoice, Among}
-use Rattle.nom_branch.specs.Left.{is_left, left, here, LeavesOneFewer}
+use Rattle.nom_branch.specs.Left.{count_of_left, left, here, LeavesOneFewer}
 use Rattle.nom_branch.specs.laws.MemberLaws.{applied_pinned}
 use Rattle.nom_branch.specs.Rounds.{SlotHolds, IsApplied, waits}
 use Rattle.nom_branch.specs.laws.RoundLaws.{step_over}
@@ -44,7 +44,7 @@ module _ {I T P E : Type 0} (m : Meaning I P E) where
   last_sound : (ms : List (Member I T E)) → AreSound (with_last ms m) → m.IsSound
   last_sound = the_last (λ V x. x.IsSound) m
 
-  left_last : (ms : List (Member I T E)) (t : T × Option P) → left (with_last ms m) t ≡ left ms t.0 + is_left t.1
+  left_last : (ms : List (Member I T E)) (t : T × Option P) → left (with_last ms m) t ≡ left ms t.0 + count_of_left t.1
   left_last [] t = omega arith
   left_last (x ∷ xs) t = omega (arith, left_last xs t)
 
@@ -53,7 +53,7 @@ module _ {I T P E : Type 0} (m : Meaning I P E) where
       let all = with_last {T = T} ms m in
       each_last (LeavesOneFewer ms) (LeavesOneFewer all)
       (λ x f t v e. omega (arith, left_last ms t, left_last ms (x.put t.0 v, t.1), f t.0 v e)) ms h
-      (λ t v e. omega (arith, left_last ms t, left_last ms (t.0, Some v), ap is_left e))
+      (λ t v e. omega (arith, left_last ms t, left_last ms (t.0, Some v), ap count_of_left e))
 
 -- where they are sound, members are lawful; of `none` no member is applied; to apply one leaves one fewer of these
 pub record AreGood {I A T E : Type 0} (w : Model I A) (ms : List (Member I T E)) (none : T) : Type 0 where
@@ -106,10 +106,10 @@ module _ {I P O E : Type 0} {view : View O} (m : Meaning I P E) (IsOutput : P �
     }
 
 -- outputs made flat are equal as viewed where those that they are made of are
-pub flat_pinned : {I T O U E : Type 0} {nested : View O} {view : View U} {ms : List (Member I T E)} {Pins : Type 0} {AreOutputs : T → O → Type 0} →
+pub flat_members_pinned : {I T O U E : Type 0} {nested : View O} {view : View U} {ms : List (Member I T E)} {Pins : Type 0} {AreOutputs : T → O → Type 0} →
     ArePinned nested ms Pins AreOutputs → (form : nested.Value → view.Value) (pairs : U → O) → ((o : U) → form (nested.value (pairs o)) ≡ view.value o) →
     ArePinned view ms Pins (λ t o. AreOutputs t (pairs o))
-flat_pinned k form pairs same = record {
+flat_members_pinned k form pairs same = record {
   pinned = λ h p. record { one_view = λ t o q i j. sym (same o) ∙ (ap form ((k.pinned h p).one_view t (pairs o) (pairs q) i j) ∙ same q) };
 }
 

@@ -7,7 +7,7 @@ use Rattle.nom_error.specs.declared.kind.ErrorKind.TheVariants as Kind
 use Rattle.nom_internal.specs.laws.RecognizedLaws.{recognized_lawful, recognized_steady}
 use Rattle.nom_repeat.specs.Repeat.{Ran}
 use Rattle.nom_repeat.specs.Repeat.Turn.{Ends}
-use Rattle.nom_repeat.specs.laws.RepeatLaws.{KeepsTurn, KeepsReply, EndsAt, RuleLaws, repeat_lawful, repeat_steady}
+use Rattle.nom_repeat.specs.laws.RepeatLaws.{KeepsTurn, KeepsReply, EndsTurn, RuleLaws, repeat_lawful, repeat_steady}
 use Rattle.nom_bytes_escaped.specs.declared.next_piece.NextPiece.{NextPiece}
 use Rattle.nom_bytes_escaped.specs.declared.next_piece.NextPiece.TheVariants.{Found, Other, Dangling, Done}
 use Rattle.nom_bytes_escaped.specs.NextPieces.{next_piece_meaning}
@@ -28,7 +28,7 @@ next_piece_ends Other (suc k) m n t e = cc
 next_piece_ends Dangling k m n t e = absurd (cc)
 next_piece_ends Done k m n t e = cc
 
-escape_ends : {V : Type 0} (k : ℕ) (a : Option (Outcome (NextPiece V))) (n : ℕ) (t : Option V) → Ends (Accept n t) ≡ escape_turn k a → EndsAt n a
+escape_ends : {V : Type 0} (k : ℕ) (a : Option (Outcome (NextPiece V))) (n : ℕ) (t : Option V) → Ends (Accept n t) ≡ escape_turn k a → EndsTurn n a
 escape_ends k (Some (Accept m v)) n t e = inl (next_piece_ends v k m n t e)
 escape_ends k (Some Refuse) n t e = absurd (cc)
 escape_ends k (Some (Stop why)) n t e = absurd (cc)

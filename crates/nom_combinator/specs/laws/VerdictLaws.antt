@@ -15,7 +15,7 @@ abbrev AcceptsOrNone : {P : Type 0} → ℕ → Outcome P → Type 0
 AcceptsOrNone {P} n a = (n ≡ 0) ⊎ ((u : P) × (a ≡ Accept n u))
 
 -- what becomes of an outcome: it is decided as the part is, accepts no more, and fails as the part fails, where that is said
-record IsVerdict {P T : Type 0} (becomes : Outcome P → Outcome T) (Never : (Cause → Type 0) → Cause → Type 0) : Type 1 where
+record IsVerdictCase {P T : Type 0} (becomes : Outcome P → Outcome T) (Never : (Cause → Type 0) → Cause → Type 0) : Type 1 where
   keeps : (a : Outcome P) → IsDecided (becomes a) → IsDecided a
   accepts : (a : Outcome P) (n : ℕ) (t : T) → Accept n t ≡ becomes a → AcceptsOrNone n a
   never : (Part : Cause → Type 0) (cause : Cause) (a : Outcome P) → Never Part cause → Stop (Fails cause) ≡ becomes a → Part cause × (a ≡ Stop (Fails cause))
@@ -25,7 +25,8 @@ module _ {I A P : Type 0} (w : Model I A) where
   accepted_place i j a n e place (inl z) = subst (λ k. IsBoundary w i k) (sym z) (no_place w i)
   accepted_place i j a n e place (inr k) = here_place w i j n e (place n k.0 k.1)
 
-module _ {I A P T : Type 0} (w : Model I A) (becomes : Outcome P → Outcome T) (Never : (Cause → Type 0) → Cause → Type 0) (is : IsVerdict becomes Never) where
+module _ {I A P T : Type 0} (w : Model I A) (becomes : Outcome P → Outcome T) (Never : (Cause → Type 0) → Cause → Type 0)
+    (is : IsVerdictCase becomes Never) where
   verdict_keeps : (a : Outcome P) (o : Outcome T) → o ≡ becomes a → IsDecided o → IsDecided a
   verdict_keeps a o e d = is.keeps a (subst (λ z. IsDecided z) e d)
 
@@ -45,7 +46,7 @@ module _ {I A P T : Type 0} (w : Model I A) (becomes : Outcome P → Outcome T) 
   }
 
 module _ {P : Type 0} where
-  cut_is : IsVerdict {P = P} cut_outcome NeverCut
+  cut_is : IsVerdictCase {P = P} cut_outcome NeverCut
   cut_is = record { keeps = keeps; accepts = accepts; never = never }
     where
       keeps : (a : Outcome P) → IsDecided (cut_outcome a) → IsDecided a
@@ -69,7 +70,7 @@ module _ {P : Type 0} where
       never Part Outright a g e = absurd g
 
 module _ {P : Type 0} where
-  opt_is : IsVerdict {P = P} opt_outcome (λ Part. Part)
+  opt_is : IsVerdictCase {P = P} opt_outcome (λ Part. Part)
   opt_is = record { keeps = keeps; accepts = accepts; never = λ Part cause a g e. (g, fails cause a e) }
     where
       keeps : (a : Outcome P) → IsDecided (opt_outcome a) → IsDecided a
@@ -87,7 +88,7 @@ module _ {P : Type 0} where
       fails cause Refuse e = cc
       fails cause (Stop why) e = cc (e)
 
-  not_is : IsVerdict {P = P} not_outcome (λ Part. Part)
+  not_is : IsVerdictCase {P = P} not_outcome (λ Part. Part)
   not_is = record { keeps = keeps; accepts = accepts; never = λ Part cause a g e. (g, fails cause a e) }
     where
       keeps : (a : Outcome P) → IsDecided (not_outcome a) → IsDecided a

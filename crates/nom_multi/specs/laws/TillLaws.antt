@@ -7,7 +7,7 @@ use Rattle.nom_internal.specs.laws.CaseLaws.{labelled_lawful, labelled_steady}
 use Rattle.nom_internal.specs.laws.ChoiceLaws.{otherwise_lawful, otherwise_steady}
 use Rattle.nom_repeat.specs.Repeat.{Ran}
 use Rattle.nom_repeat.specs.Repeat.Turn.{Ends}
-use Rattle.nom_repeat.specs.laws.RepeatLaws.{KeepsTurn, KeepsReply, EndsAt, RuleLaws, repeat_lawful, repeat_steady}
+use Rattle.nom_repeat.specs.laws.RepeatLaws.{KeepsTurn, KeepsReply, EndsTurn, RuleLaws, repeat_lawful, repeat_steady}
 use Rattle.nom_multi.specs.Till.{end_or_item, step_turn, till_turn, OnItem, TillBlames, TillAsks, till_rule, many_till_meaning}
 
 till_decided : {T V : Type 0} (a : Option (Outcome (T ⊎ V))) → KeepsTurn true (till_turn a) → KeepsReply true a
@@ -21,7 +21,7 @@ step_ends (inl x) m n t e = cc (e)
 step_ends (inr v) zero n t e = absurd (cc (e))
 step_ends (inr v) (suc m) n t e = absurd (cc (e))
 
-till_ends : {T V : Type 0} (a : Option (Outcome (T ⊎ V))) (n : ℕ) (t : T) → Ends (Accept n t) ≡ till_turn a → EndsAt n a
+till_ends : {T V : Type 0} (a : Option (Outcome (T ⊎ V))) (n : ℕ) (t : T) → Ends (Accept n t) ≡ till_turn a → EndsTurn n a
 till_ends (Some (Accept m u)) n t e = inr (step_ends u m n t e)
 till_ends (Some Refuse) n t e = absurd (cc (e))
 till_ends (Some (Stop why)) n t e = absurd (cc (e))
@@ -35,14 +35,14 @@ till_blames errs j (Some (Stop (Fails cause))) X Y e f h = f tt e h
 till_blames errs j (Some (Stop (Needs n))) X Y e f h = h
 till_blames errs j None X Y e f h = h
 
-item_asks_none : {T V : Type 0} (Refused Accumulated : Type 0) (u : T ⊎ V) (n : ℕ) → (Refused → ⊥) → (Accumulated → ⊥) → OnItem Refused Accumulated u n → ⊥
-item_asks_none Refused Accumulated (inl t) n f g h = h
-item_asks_none Refused Accumulated (inr v) zero f g h = f h
-item_asks_none Refused Accumulated (inr v) (suc n) f g h = g h
+till_item_asks_none : {T V : Type 0} (Refused Accumulated : Type 0) (u : T ⊎ V) (n : ℕ) → (Refused → ⊥) → (Accumulated → ⊥) → OnItem Refused Accumulated u n → ⊥
+till_item_asks_none Refused Accumulated (inl t) n f g h = h
+till_item_asks_none Refused Accumulated (inr v) zero f g h = f h
+till_item_asks_none Refused Accumulated (inr v) (suc n) f g h = g h
 
 till_asks_none : {T V : Type 0} (Refused Accumulated : Type 0) (a : Option (Outcome (T ⊎ V))) → (Refused → ⊥) → (Accumulated → ⊥) →
     TillAsks Refused Accumulated a → ⊥
-till_asks_none Refused Accumulated (Some (Accept n u)) f g h = item_asks_none Refused Accumulated u n f g h
+till_asks_none Refused Accumulated (Some (Accept n u)) f g h = till_item_asks_none Refused Accumulated u n f g h
 till_asks_none Refused Accumulated (Some Refuse) f g h = f h
 till_asks_none Refused Accumulated (Some (Stop why)) f g h = h
 till_asks_none Refused Accumulated None f g h = h

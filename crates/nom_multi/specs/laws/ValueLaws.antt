@@ -4,7 +4,6 @@ use Rattle.std.proofs.Common.{arith, inl, inr, sym, ◌∙◌, ap, subst}
 use Rattle.nom_internal.specs.Prelude.{Errors, Modes, Model, InputLaws, items_len, input_len, IsBoundary, Related, items_len-append, IsModelledBy, first_place}
 use Rattle.nom_internal.specs.Prelude.{first_related, same_length, Outcome, Cause, Accept, Refuse, Stop, Fails, Needs, Meaning, IsLawful, IsSteady}
 use Rattle.nom_internal.specs.Prelude.{IsLawfulFamily, IsOne, LeafLaws, leaf_lawful, leaf_steady}
-use Rattle.nom_error.specs.declared.kind.ErrorKind.TheVariants as Kind
 use Rattle.nom_internal.specs.Bounded.{AreConsistent}
 use Rattle.nom_internal.specs.laws.BoundedLaws.{and_then_lawful, and_then_steady}
 use Rattle.nom_internal.specs.laws.CaseLaws.{fixed_lawful, fixed_steady}

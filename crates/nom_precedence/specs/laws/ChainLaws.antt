@@ -4,7 +4,7 @@ use Rattle.std.proofs.Common.{inl, inr}
 use Rattle.nom.specs.Prelude.{Model, InputLaws, Outcome, Cause, Accept, Refuse, Stop, Fails, Meaning, IsLawful, IsSteady, always, always_lawful}
 use Rattle.nom.specs.Repeat.{Turn, Ran}
 use Rattle.nom.specs.Repeat.Turn.{Takes, Ends}
-use Rattle.nom.specs.RepeatLaws.{KeepsTurn, KeepsReply, EndsAt, RuleLaws, repeat_lawful, repeat_steady}
+use Rattle.nom.specs.RepeatLaws.{KeepsTurn, KeepsReply, EndsTurn, RuleLaws, repeat_lawful, repeat_steady}
 use Rattle.nom_precedence.specs.declared.read.Read.{Read}
 use Rattle.nom_precedence.specs.declared.read.Read.TheVariants.{Whole, Stuck}
 use Rattle.nom_precedence.specs.Chains.{read_turn, chain_turn, ChainBlames, IfTakes, chain_rule, chain_meaning}
@@ -20,7 +20,7 @@ read_ends Stuck m n t e = inr (cc (e))
 read_ends (Whole v) zero n t e = inl (cc (e))
 read_ends (Whole v) (suc m) n t e = absurd (cc (e))
 
-chain_ends : {V : Type 0} (a : Option (Outcome (Read V))) (n : ℕ) (t : Read (Unit {0})) → Ends (Accept n t) ≡ chain_turn a → EndsAt n a
+chain_ends : {V : Type 0} (a : Option (Outcome (Read V))) (n : ℕ) (t : Read (Unit {0})) → Ends (Accept n t) ≡ chain_turn a → EndsTurn n a
 chain_ends (Some (Accept m u)) n t e = read_ends u m n t e
 chain_ends (Some Refuse) n t e = cc (e)
 chain_ends (Some (Stop why)) n t e = absurd (cc (e))

@@ -4,7 +4,7 @@ use Rattle.nom_internal.specs.Prelude.{Errors, ErrorKind, Model, InputLaws, Outc
 use Rattle.nom_internal.specs.Prelude.{IsLawful, IsSteady, always, always_lawful}
 use Rattle.nom_repeat.specs.Repeat.{Ran}
 use Rattle.nom_repeat.specs.Repeat.Turn.{Ends}
-use Rattle.nom_repeat.specs.laws.RepeatLaws.{KeepsTurn, KeepsReply, EndsAt, RuleLaws, repeat_lawful, repeat_steady}
+use Rattle.nom_repeat.specs.laws.RepeatLaws.{KeepsTurn, KeepsReply, EndsTurn, RuleLaws, repeat_lawful, repeat_steady}
 use Rattle.nom_repeat.specs.Items.{empty_turn, refused_turn, item_turn, FewBlames, ItemBlames, EmptyAsks, ItemAsks, items_rule, items_meaning}
 use Rattle.nom_repeat.specs.declared.items.Limits.{Limits}
 use Rattle.nom_repeat.specs.declared.items.TooFew.{TooFew}
@@ -24,7 +24,7 @@ refused_consumes_nothing : {V : Type 0} (few : Bool) (n : ℕ) (t : Unit {0}) �
 refused_consumes_nothing true n t e = absurd (cc (e))
 refused_consumes_nothing false n t e = cc (e)
 
-item_ends : {V : Type 0} (b : Limits) (k : ℕ) (a : Option (Outcome V)) (n : ℕ) (t : Unit {0}) → Ends (Accept n t) ≡ item_turn b k a → EndsAt n a
+item_ends : {V : Type 0} (b : Limits) (k : ℕ) (a : Option (Outcome V)) (n : ℕ) (t : Unit {0}) → Ends (Accept n t) ≡ item_turn b k a → EndsTurn n a
 item_ends b k (Some (Accept zero v)) n t e = absurd (empty_never_ends b.empty v n t e)
 item_ends b k (Some (Accept (suc m) v)) n t e = absurd (cc (e))
 item_ends b k (Some Refuse) n t e = refused_consumes_nothing (ltb k b.least) n t e

@@ -19,11 +19,11 @@ KeepsReply longer (Some o) = Keeps longer o
 KeepsReply longer None = Unit {0}
 
 -- an end after n items of the input consumes nothing, or what the part accepted
-abbrev pub EndsAt : {P : Type 0} → ℕ → Option (Outcome P) → Type 0
-EndsAt n (Some (Accept m u)) = (n ≡ 0) ⊎ (n ≡ m)
-EndsAt n (Some Refuse) = n ≡ 0
-EndsAt n (Some (Stop why)) = n ≡ 0
-EndsAt n None = n ≡ 0
+abbrev pub EndsTurn : {P : Type 0} → ℕ → Option (Outcome P) → Type 0
+EndsTurn n (Some (Accept m u)) = (n ≡ 0) ⊎ (n ≡ m)
+EndsTurn n (Some Refuse) = n ≡ 0
+EndsTurn n (Some (Stop why)) = n ≡ 0
+EndsTurn n None = n ≡ 0
 
 -- two lists of items that end alike
 pub record EndConsistent {V T : Type 0} (vs us : List V) (n m : ℕ) (p q : Outcome T) : Type 0 where
@@ -172,7 +172,7 @@ pub record RuleLaws {I P V T E : Type 0} (r : Rule I P V T E) : Type 1 where
   -- a decided turn comes of a decided outcome
   pub decided : (k : ℕ) (a : Option (Outcome P)) → KeepsTurn true (r.turn k a) → KeepsReply true a
   -- an end with success consumes nothing of its own, or what the part accepted
-  pub ends : (k : ℕ) (a : Option (Outcome P)) (n : ℕ) (t : T) → Ends (Accept n t) ≡ r.turn k a → EndsAt n a
+  pub ends : (k : ℕ) (a : Option (Outcome P)) (n : ℕ) (t : T) → Ends (Accept n t) ≡ r.turn k a → EndsTurn n a
   -- the errors of the part, where it ran, stand for themselves
   pub blames : (i : I) (k : ℕ) (j : I) (a : Option (Outcome P)) (X Y : E → Type 0) (e : E) → (Ran a → (f : E) → X f → Y f) → r.Blames i k j a X e →
       r.Blames i k j a Y e
@@ -236,7 +236,7 @@ module _ {I A P V T R E : Type 0} (w : Model I A) (l : InputLaws w) (r : Rule I 
 
   -- an end with success is within the input
   end_place : (s : Bool) → ((k : ℕ) → Within w (Part s k)) → (k : ℕ) (j : I) (n : ℕ) (a : Option (Outcome P)) → w.IsKnown j →
-      Replies r.bound (Part s) k j a → EndsAt n a → IsBoundary w j n
+      Replies r.bound (Part s) k j a → EndsTurn n a → IsBoundary w j n
   end_place s g k j n (Some (Accept x u)) h p (inl e) = place_zero w j n e
   end_place s g k j n (Some (Accept x u)) h p (inr e) = subst (λ z. IsBoundary w j z) (sym e) (g k j x u h p.1)
   end_place s g k j n (Some Refuse) h p e = place_zero w j n e

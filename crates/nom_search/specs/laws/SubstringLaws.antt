@@ -6,18 +6,9 @@ use Rattle.std.proofs.Common.{arith, sym, ◌∙◌, ap, subst, inl, inr, append
 use Rattle.nom_traits.specs.Input.{Model, items_len}
 use Rattle.nom_traits.specs.Rests.{items_len-append}
 use Rattle.nom_traits.specs.Bytes.{bytes_model}
+use Rattle.nom_traits.specs.CompareTags.{one_longer}
 use Rattle.nom_traits.specs.Text.{text_model}
 use Rattle.nom_search.specs.Substrings.{FindLaws, IsFoundAt, FindsFirst, FindsBytes}
-
--- of two lists in front of one, one is a front of the other
-one_longer : {A : Type 0} (t xs ys more : List A) → t ++ ys ≡ xs ++ more → ((rest : List A) × (xs ≡ t ++ rest)) ⊎
-    ((x : A) × (rest : List A) × (t ≡ xs ++ (x ∷ rest)))
-one_longer [] xs ys more e = inl (xs, refl)
-one_longer (a ∷ t) [] ys more e = inr (a, t, refl)
-one_longer (a ∷ t) (b ∷ xs) ys more e =
-    let heads : a ≡ b = cc in
-    let tails : t ++ ys ≡ xs ++ more = cc in
-    elim (one_longer t xs ys more tails) [ inl h ↦ inl (h.0, cc (heads, h.1)) | inr h ↦ inr (h.0, h.1, cc (heads, h.2)) ]
 
 module _ {A : Type 0} (item_len : A → ℕ) (t : List A) where
   one_result : (xs : List A) (r s : Option ℕ) → FindsFirst item_len t xs r → FindsFirst item_len t xs s → r ≡ s

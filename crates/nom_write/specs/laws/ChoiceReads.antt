@@ -10,7 +10,7 @@ use Rattle.nom_error.specs.Errors.{Contexts}
 use Rattle.nom_combinator.specs.Verdicts.{OptOutput, cut_of, opt_of, opt_outcome}
 use Rattle.nom_sink.specs.declared.error.WriteError.{WriteError}
 use Rattle.nom_sink.specs.Choices.{Either}
-use Rattle.nom_write.specs.Choices.{Apart, Refuses}
+use Rattle.nom_write.specs.Choices.{Apart, RefusesForms}
 use Rattle.nom_write.specs.Options.{CondForm, OptForm, WhereRun}
 use Rattle.nom_write.specs.Reads.{Anything, IsEnd, NoItem, NoItemIn, Reads, ReadsAtEnd, ReadsBefore}
 use Rattle.nom_write.specs.laws.LeafReads.{success_reads}
@@ -39,7 +39,7 @@ become_refused w becomes F xs i o known e none a =
 module _ {I A P Q O E : Type 0} {w : Model I A} (errs : Errors I E) {g : Grammar I P O E} {h : Grammar I Q O E} where
   -- one of two
   pub either_reads : {FirstForm SecondForm : O → List A → Type 0} {FirstFails : O → Space → WriteError → Type 0} {First Second : List A → Type 0} →
-      Refuses w g SecondForm → Reads w g FirstForm First → Reads w h SecondForm Second →
+      RefusesForms w g SecondForm → Reads w g FirstForm First → Reads w h SecondForm Second →
       Reads w (either_of errs.joined errs.grows g h) (λ v. Either (FirstForm v) (FirstFails v) (SecondForm v)) (λ rest. First rest × Second rest)
   either_reads {FirstForm} {SecondForm} {FirstFails} {First} {Second} apart p q = record { reads = reads }
     where

@@ -15,7 +15,7 @@ use Rattle.nom_sink.specs.declared.error.WriteError.{WriteError}
 use Rattle.nom_sink.specs.Choices.{Either}
 use Rattle.nom_write.specs.Choices.{Apart}
 use Rattle.nom_write.specs.laws.ChoiceReads.{become_refused}
-use Rattle.nom_write.specs.FirstSets.{BeginsWith, Differ, IsAmong, HasFirst, RefusesOthers, StartsWith, Words}
+use Rattle.nom_write.specs.FirstSets.{BeginsWith, Differ, IsAmong, HasFirst, RefusesOthers, StartsWith, CodeWords}
 use Rattle.nom_write.specs.FirstSets.{are_others, are_unlike, or_first, is_unlike, first_of, whole_first}
 use Rattle.nom_sink.specs.Parts.{Both}
 use Rattle.nom_write.specs.Reads.{NoItem}
@@ -30,13 +30,13 @@ pub no_start : {I A V E : Type 0} {w : Model I A} {code : A → ℕ} {m : Meanin
 no_start = record { begins = λ bs e. absurd (cc (e)); others = record { refuses = λ bs e. absurd (cc (e)) } }
 
 -- one of the others is none of the first
-is_other : (bs cs : Words) (c : List ℕ) → are_others bs cs ≡ true → IsAmong cs c → are_unlike bs c ≡ true
+is_other : (bs cs : CodeWords) (c : List ℕ) → are_others bs cs ≡ true → IsAmong cs c → are_unlike bs c ≡ true
 is_other bs [] c o h = absurd h
 is_other bs (d ∷ cs) c o (inl e) = subst (λ z. are_unlike bs z ≡ true) e (and_parts (are_unlike bs d) (are_others bs cs) o).0
 is_other bs (d ∷ cs) c o (inr h) = is_other bs cs c (and_parts (are_unlike bs d) (are_others bs cs) o).1 h
 
 module _ {I A V U O E : Type 0} {w : Model I A} {code : A → ℕ} {g : Grammar I V O E} {h : Grammar I U O E} {First Second : O → List A → Type 0} where
-  told_apart : (bs cs : Words) → HasFirst w code g First (Some bs) → HasFirst w code h Second (Some cs) → are_others bs cs ≡ true →
+  told_apart : (bs cs : CodeWords) → HasFirst w code g First (Some bs) → HasFirst w code h Second (Some cs) → are_others bs cs ≡ true →
       Apart w g.meaning (λ xs. (v : O) × Second v xs)
   told_apart bs cs p q o = record {
     refuses = λ xs rest k.
@@ -46,12 +46,12 @@ module _ {I A V U O E : Type 0} {w : Model I A} {code : A → ℕ} {g : Grammar 
   }
 
   -- what begins with a word of the second's the first refuses
-  pub differ_apart : {a b : Option Words} → HasFirst w code g First a → HasFirst w code h Second b → Differ a b (Apart w g.meaning (λ xs. (v : O) ×
+  pub differ_apart : {a b : Option CodeWords} → HasFirst w code g First a → HasFirst w code h Second b → Differ a b (Apart w g.meaning (λ xs. (v : O) ×
       Second v xs)) →
       Apart w g.meaning (λ xs. (v : O) × Second v xs)
   differ_apart {a} {b} p q d = by a b p q d
     where
-      by : (a b : Option Words) → HasFirst w code g First a → HasFirst w code h Second b → Differ a b (Apart w g.meaning (λ xs. (v : O) × Second v xs)) →
+      by : (a b : Option CodeWords) → HasFirst w code g First a → HasFirst w code h Second b → Differ a b (Apart w g.meaning (λ xs. (v : O) × Second v xs)) →
           Apart w g.meaning (λ xs. (v : O) × Second v xs)
       by (Some bs) (Some cs) p q d = told_apart bs cs p q d
       by (Some bs) None p q d = d
@@ -70,7 +70,7 @@ first_starts {A = A} {w = w} code m (a ∷ more) f = record {
   others = record { refuses = λ bs e front rest h. other front rest (subst (λ z. are_unlike z (map code front) ≡ true) {x = bs} {y = one} (cc (e)) h) };
 }
   where
-    one : Words
+    one : CodeWords
     one = (code a ∷ []) ∷ []
 
     differs : (b : Bool) → (cond b false true && true) ≡ true → b ≡ false
@@ -122,10 +122,10 @@ module _ {E : Type 0} (errs : Errors (Bor (List ℕ)) E) where
   tag_starts tag = first_starts (λ x. x) (tag_meaning bytes_model errs length ComparesBytes tag) tag (tag_refuses tag)
 
 module _ {A : Type 0} (code : A → ℕ) where
-  pub begins_as : (bs : Words) (xs ys : List A) → xs ≡ ys → BeginsWith code bs ys → BeginsWith code bs xs
+  pub begins_as : (bs : CodeWords) (xs ys : List A) → xs ≡ ys → BeginsWith code bs ys → BeginsWith code bs xs
   begins_as bs xs ys e b = subst (BeginsWith code bs) (sym e) b
 
-  pub begins_before : (bs : Words) (front back : List A) → BeginsWith code bs front → BeginsWith code bs (front ++ back)
+  pub begins_before : (bs : CodeWords) (front back : List A) → BeginsWith code bs front → BeginsWith code bs (front ++ back)
   begins_before bs front back b = record {
     front = b.front;
     more = b.more ++ back;
@@ -134,13 +134,13 @@ module _ {A : Type 0} (code : A → ℕ) where
   }
 
   -- forms that are some items
-  pub fixed_begins : {I V O E : Type 0} {w : Model I A} {g : Grammar I V O E} {Form : O → List A → Type 0} {words : Option Words} (items : List A) →
+  pub fixed_begins : {I V O E : Type 0} {w : Model I A} {g : Grammar I V O E} {Form : O → List A → Type 0} {words : Option CodeWords} (items : List A) →
       ((v : O) (xs : List A) → Form v xs → xs ≡ items) → StartsWith w code g.meaning items words → HasFirst w code g Form words
   fixed_begins items is p = record { begins = λ bs e v xs f. begins_as bs xs items (is v xs f) (p.begins bs e); others = p.others }
 
 -- a part, and then what its tree says, refuses what the part refuses
 pub then_refuses : {I A P Q T E : Type 0} (w : Model I A) (code : A → ℕ) (tree : P → Q → T) (first next : Modes → Modes) (m : Meaning I P E)
-    (f : Family P I Q E) (words : Option Words) → RefusesOthers w code m words → RefusesOthers w code (then_meaning w tree first next m f) words
+    (f : Family P I Q E) (words : Option CodeWords) → RefusesOthers w code m words → RefusesOthers w code (then_meaning w tree first next m f) words
 then_refuses w code tree first next m f words p = record {
   refuses = λ bs e front rest h s i o known el a. subst (λ z. GoesOn w tree (λ u. (f.at u).answers s) i z o)
       (p.refuses bs e front rest h s i a.first known el a.answered) a.goes_on;
@@ -152,7 +152,7 @@ pub then_first : {I A P Q T : Type 0} {w : Model I A} {tree : P → Q → T} {F 
 then_first {w = w} {tree} {N = N} {i} {o} a = (a.first, a.answered, λ e. subst (λ z. GoesOn w tree N i z o) e a.goes_on)
 
 -- a part whose refusals stay refusals
-pub case_refuses : {I A P T E F : Type 0} (w : Model I A) (code : A → ℕ) (m : Meaning I P E) (n : Meaning I T F) (words : Option Words)
+pub case_refuses : {I A P T E F : Type 0} (w : Model I A) (code : A → ℕ) (m : Meaning I P E) (n : Meaning I T F) (words : Option CodeWords)
     (stays : (s : Bool) (i : I) (o : Outcome T) → n.answers s i o → (a : Outcome P) × m.answers s i a × (a ≡ Refuse → o ≡ Refuse)) →
     RefusesOthers w code m words → RefusesOthers w code n words
 case_refuses w code m n words stays p = record {
@@ -161,8 +161,8 @@ case_refuses w code m n words stays p = record {
 }
 
 -- a part whose outcome becomes another, as its refusal becomes a refusal
-pub become_refuses : {I A P T E F : Type 0} {w : Model I A} {code : A → ℕ} {m : Meaning I P E} {words : Option Words} (Becomes : Outcome P → Outcome T → Type 0)
-    (n : Meaning I T F) → ((o : Outcome T) → Becomes Refuse o → o ≡ Refuse) →
+pub become_refuses : {I A P T E F : Type 0} {w : Model I A} {code : A → ℕ} {m : Meaning I P E} {words : Option CodeWords}
+    (Becomes : Outcome P → Outcome T → Type 0) (n : Meaning I T F) → ((o : Outcome T) → Becomes Refuse o → o ≡ Refuse) →
     ((s : Bool) (i : I) (o : Outcome T) → n.answers s i o → OnPart (λ (x y : I). x ≡ y) (m.answers s) (λ _ a. Becomes a o) i) →
     RefusesOthers w code m words → RefusesOthers w code n words
 become_refuses {w = w} {code} {m} {words} Becomes n stays part p = case_refuses w code m n words (λ s i o a. let b = part s i o a in (
@@ -171,7 +171,7 @@ become_refuses {w = w} {code} {m} {words} Becomes n stays part p = case_refuses 
   λ e. stays o (subst (λ z. Becomes z o) e b.fact),
 )) p
 
-module _ {I A V O E : Type 0} {w : Model I A} {code : A → ℕ} {g : Grammar I V O E} {Form : O → List A → Type 0} {words : Option Words}
+module _ {I A V O E : Type 0} {w : Model I A} {code : A → ℕ} {g : Grammar I V O E} {Form : O → List A → Type 0} {words : Option CodeWords}
     (p : HasFirst w code g Form words) where
   -- what stands before other items
   pub both_begins : {Next : O → List A → Type 0} → HasFirst w code g (λ v. Both (Form v) (Next v)) words
@@ -218,7 +218,7 @@ module _ {I A V O E : Type 0} {w : Model I A} {code : A → ℕ} {g : Grammar I 
 
 -- items, and then a form
 pub preceded_begins : {I A V U O P E : Type 0} {w : Model I A} (code : A → ℕ) (g : Grammar I V O E) {h : Grammar I U P E} {NextForm : P → List A → Type 0}
-    {words : Option Words} (items : List A) → StartsWith w code g.meaning items words →
+    {words : Option CodeWords} (items : List A) → StartsWith w code g.meaning items words →
     HasFirst w code (preceded_of w g h) (λ v. Both (λ ys. ys ≡ items) (NextForm v)) words
 preceded_begins {w = w} code g {h} {words = words} items p = record {
   begins = λ bs e v xs f. begins_as code bs xs (f.front ++ f.back) f.whole
@@ -226,17 +226,17 @@ preceded_begins {w = w} code g {h} {words = words} items p = record {
   others = then_refuses w code (λ u v. v) (with_outputs false) (λ o. o) g.meaning (always h.meaning) words p.others;
 }
 
-among_left : (bs cs : Words) (c : List ℕ) → IsAmong bs c → IsAmong (bs ++ cs) c
-among_left [] cs c h = absurd h
-among_left (b ∷ bs) cs c (inl e) = inl e
-among_left (b ∷ bs) cs c (inr h) = inr (among_left bs cs c h)
+among_front : (bs cs : CodeWords) (c : List ℕ) → IsAmong bs c → IsAmong (bs ++ cs) c
+among_front [] cs c h = absurd h
+among_front (b ∷ bs) cs c (inl e) = inl e
+among_front (b ∷ bs) cs c (inr h) = inr (among_front bs cs c h)
 
-among_right : (bs cs : Words) (c : List ℕ) → IsAmong cs c → IsAmong (bs ++ cs) c
-among_right [] cs c h = h
-among_right (b ∷ bs) cs c h = inr (among_right bs cs c h)
+among_back : (bs cs : CodeWords) (c : List ℕ) → IsAmong cs c → IsAmong (bs ++ cs) c
+among_back [] cs c h = h
+among_back (b ∷ bs) cs c h = inr (among_back bs cs c h)
 
 -- unlike words of both
-unlike_both : (bs cs : Words) (c : List ℕ) → are_unlike (bs ++ cs) c ≡ true → (are_unlike bs c ≡ true) × (are_unlike cs c ≡ true)
+unlike_both : (bs cs : CodeWords) (c : List ℕ) → are_unlike (bs ++ cs) c ≡ true → (are_unlike bs c ≡ true) × (are_unlike cs c ≡ true)
 unlike_both [] cs c h = (refl, h)
 unlike_both (b ∷ bs) cs c h =
     let here = and_parts (is_unlike b c) (are_unlike (bs ++ cs) c) h in
@@ -244,7 +244,7 @@ unlike_both (b ∷ bs) cs c h =
 
 module _ {I A P Q O E : Type 0} {w : Model I A} {code : A → ℕ} (errs : Errors I E) {g : Grammar I P O E} {h : Grammar I Q O E}
     {First Second : O → List A → Type 0} {FirstFails : O → Space → WriteError → Type 0} where
-  both_told : (bs cs : Words) → HasFirst w code g First (Some bs) → HasFirst w code h Second (Some cs) →
+  both_told : (bs cs : CodeWords) → HasFirst w code g First (Some bs) → HasFirst w code h Second (Some cs) →
       HasFirst w code (either_of errs.joined errs.grows g h) (λ v. Either (First v) (FirstFails v) (Second v)) (Some (bs ++ cs))
   both_told bs cs p q = record {
     begins = λ ds e v xs f. subst (λ z. BeginsWith code z xs) {x = bs ++ cs} {y = ds} (cc (e)) (begins v xs f);
@@ -256,16 +256,16 @@ module _ {I A P Q O E : Type 0} {w : Model I A} {code : A → ℕ} (errs : Error
         front = b.front;
         more = b.more;
         whole = b.whole;
-        is_one = among_left bs cs (map code b.front) b.is_one;
+        is_one = among_front bs cs (map code b.front) b.is_one;
       }
       begins v xs (inr f) = let b = q.begins cs refl v xs f.1 in record {
         front = b.front;
         more = b.more;
         whole = b.whole;
-        is_one = among_right bs cs (map code b.front) b.is_one;
+        is_one = among_back bs cs (map code b.front) b.is_one;
       }
 
-      others : (ds : Words) → Some (bs ++ cs) ≡ Some ds → (front rest : List A) → are_unlike ds (map code front) ≡ true →
+      others : (ds : CodeWords) → Some (bs ++ cs) ≡ Some ds → (front rest : List A) → are_unlike ds (map code front) ≡ true →
           NoItem w (either_of errs.joined errs.grows g h).meaning (front ++ rest)
       others ds e front rest unlike s i o known el r =
           let parts = unlike_both bs cs (map code front) (subst (λ z. are_unlike z (map code front) ≡ true) {x = ds} {y = bs ++ cs} (cc (e)) unlike) in
@@ -275,17 +275,17 @@ module _ {I A P Q O E : Type 0} {w : Model I A} {code : A → ℕ} (errs : Error
           (subst (λ z. GoesOnRefused (λ o. OnPart (λ (x y : I). x ≡ y) (h.meaning.answers s) (λ _ a. o ≡ labelled inr a) i) z o) first r.goes_on)
 
   -- one of two
-  pub or_begins : {a b : Option Words} → HasFirst w code g First a → HasFirst w code h Second b →
+  pub or_begins : {a b : Option CodeWords} → HasFirst w code g First a → HasFirst w code h Second b →
       HasFirst w code (either_of errs.joined errs.grows g h) (λ v. Either (First v) (FirstFails v) (Second v)) (or_first a b)
   or_begins {a} {b} p q = by a b p q
     where
-      by : (a b : Option Words) → HasFirst w code g First a → HasFirst w code h Second b →
+      by : (a b : Option CodeWords) → HasFirst w code g First a → HasFirst w code h Second b →
           HasFirst w code (either_of errs.joined errs.grows g h) (λ v. Either (First v) (FirstFails v) (Second v)) (or_first a b)
       by (Some bs) (Some cs) p q = both_told bs cs p q
       by (Some bs) None p q = no_first
       by None b p q = no_first
 
   -- the last branch of a choice
-  pub last_begins : {a b : Option Words} → HasFirst w code g First a → HasFirst w code h Second b →
+  pub last_begins : {a b : Option CodeWords} → HasFirst w code g First a → HasFirst w code h Second b →
       HasFirst w code (alt_of errs (either_of errs.joined errs.grows g h)) (λ v. Either (First v) (FirstFails v) (Second v)) (or_first a b)
   last_begins p q = alt_begins (or_begins p q) errs

@@ -6,7 +6,7 @@ use Rattle.nom_internal.specs.Prelude.{Model, InputLaws, Grammar, labelled}
 use Rattle.nom_internal.specs.FlatMap.{GivesState, IsGiven, Maker, MakesOne, flat_map_by, given_family, states_family}
 use Rattle.nom_sink.specs.Parts.{Meets}
 use Rattle.nom_write.specs.FlatMaps.{FlatMapForm, OfEachSecond}
-use Rattle.nom_write.specs.FirstSets.{HasFirst, Words}
+use Rattle.nom_write.specs.FirstSets.{HasFirst, CodeWords}
 use Rattle.nom_write.specs.Reads.{Reads, ReadsBefore}
 use Rattle.nom_write.specs.laws.ChoiceReads.{become_reads}
 use Rattle.nom_write.specs.laws.FirstSetLaws.{begins_as, begins_before, then_refuses}
@@ -55,7 +55,7 @@ module _ {I A P O H S Q R E : Type 0} {w : Model I A} (give : Maker O H S) {g : 
             }) ((q parser (k.sound u x parser is given) owed.0).reads v parts.back parts.second.2 s))))
 
   -- it begins as the first value does
-  pub flat_map_begins : (code : A → ℕ) {words : Option Words} → HasFirst w code g FirstForm words →
+  pub flat_map_begins : (code : A → ℕ) {words : Option CodeWords} → HasFirst w code g FirstForm words →
       HasFirst w code (flat_map_by w give g h) (FlatMapForm Back give.Gives FirstForm SecondForm) words
   flat_map_begins code {words} p = record {
     begins = λ bs e v xs f.

@@ -16,11 +16,11 @@ use Rattle.nom_write.specs.Runs.{BeginsOther}
 use Rattle.nom_write.specs.laws.RunReads.{run_items}
 
 -- the codes of digits, and their values
-digit : (d : ℕ) → d < 16 → has_code Class.HexDigit (digit_code d) ≡ true
-digit d h = grind (arith, h)
+hex_code : (d : ℕ) → d < 16 → has_code Class.HexDigit (digit_code d) ≡ true
+hex_code d h = grind (arith, h)
 
-digit_value : (d : ℕ) → d < 16 → hex_value (digit_code d) ≡ d
-digit_value d h = grind (arith, h)
+hex_code_value : (d : ℕ) → d < 16 → hex_value (digit_code d) ≡ d
+hex_code_value d h = grind (arith, h)
 
 -- a number that digits follow, each of which makes it sixteen times as large
 abbrev sixteen_times : (count : ℕ) → ℕ → ℕ
@@ -54,12 +54,12 @@ module _ {A : Type 0} (code : A → ℕ) (item_of : ℕ → A) (coded : (n : ℕ
   all_digits : (ds : List ℕ) → All (λ d. d < 16) ds → All (λ x. IsHex x true) (items ds)
   all_digits [] h = All-nil (λ x. IsHex x true)
   all_digits (d ∷ ds) h = All-cons (λ x. IsHex x true) (item_of (digit_code d)) (items ds)
-      (ap (λ n. has_code Class.HexDigit n) (coded (digit_code d)) ∙ digit d (All-head (λ d. d < 16) d ds h)) (all_digits ds (All-tail (λ d. d < 16) d ds h))
+      (ap (λ n. has_code Class.HexDigit n) (coded (digit_code d)) ∙ hex_code d (All-head (λ d. d < 16) d ds h)) (all_digits ds (All-tail (λ d. d < 16) d ds h))
 
   values : (ds : List ℕ) → All (λ d. d < 16) ds → map (λ x. hex_value (code x)) (items ds) ≡ ds
   values [] h = refl
   values (d ∷ ds) h = ap (λ z. z ∷ map (λ x. hex_value (code x)) (items ds))
-      (ap hex_value (coded (digit_code d)) ∙ digit_value d (All-head (λ d. d < 16) d ds h)) ∙
+      (ap hex_value (coded (digit_code d)) ∙ hex_code_value d (All-head (λ d. d < 16) d ds h)) ∙
       ap (λ zs. d ∷ zs) (values ds (All-tail (λ d. d < 16) d ds h))
 
   pub hex_reads : {I E : Type 0} (w : Model I A) (IsValue : A → Type 0) → ((i : I) → w.IsKnown i → AreValues IsValue (w.elements i)) →

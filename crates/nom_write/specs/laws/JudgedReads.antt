@@ -4,7 +4,7 @@ use Rattle.std.proofs.Common.{sym, ◌∙◌, ap, subst}
 use Rattle.nom_error.specs.Errors.{Externals}
 use Rattle.nom_internal.specs.Judged.{map_opt_by, map_res_by}
 use Rattle.nom_internal.specs.Prelude.{Accept, Errors, GivesFor, Grammar, IsJudge, Judged, Model, Passes, items_len, judged_meaning, kept_if}
-use Rattle.nom_write.specs.FirstSets.{HasFirst, Words}
+use Rattle.nom_write.specs.FirstSets.{HasFirst, CodeWords}
 use Rattle.nom_write.specs.Reads.{Reads}
 use Rattle.nom_write.specs.laws.FirstSetLaws.{become_refuses}
 
@@ -37,7 +37,7 @@ module _ {I A V O R P E : Type 0} {w : Model I A} {g : Grammar I V O E} {Form : 
   }
 
   -- and it begins as the part does
-  judged_back_begins : {code : A → ℕ} {words : Option Words} → HasFirst w code g Form words →
+  judged_back_begins : {code : A → ℕ} {words : Option CodeWords} → HasFirst w code g Form words →
       HasFirst w code (judged_by Takes Gives fits Makes Grows fit g) (λ v xs. (x : O) × Back v x × Form x xs) words
   judged_back_begins {code} {words} p = record {
     begins = λ bs e v xs f. p.begins bs e f.0 xs f.2;
@@ -50,7 +50,7 @@ module _ {I A V O P E : Type 0} {w : Model I A} {g : Grammar I V O E} {Form : O 
         Reads w g Form Follow → Reads w (map_opt_by errs Takes Gives g) (λ v xs. (x : O) × Back v x × Form x xs) Follow
     map_opt_back_reads judge again p = judged_back_reads Takes Gives is_some _ errs.grows Some Back (λ v. refl) judge again p
 
-    pub map_opt_back_begins : {code : A → ℕ} {words : Option Words} → HasFirst w code g Form words →
+    pub map_opt_back_begins : {code : A → ℕ} {words : Option CodeWords} → HasFirst w code g Form words →
         HasFirst w code (map_opt_by errs Takes Gives g) (λ v xs. (x : O) × Back v x × Form x xs) words
     map_opt_back_begins p = judged_back_begins Takes Gives is_some _ errs.grows Some Back p
 
@@ -59,6 +59,6 @@ module _ {I A V O P E : Type 0} {w : Model I A} {g : Grammar I V O E} {Form : O 
         Reads w g Form Follow → Reads w (map_res_by externals Takes Gives g) (λ v xs. (x : O) × Back v x × Form x xs) Follow
     map_res_back_reads judge again p = judged_back_reads Takes Gives is_ok _ externals.grows Ok Back (λ v. refl) judge again p
 
-    pub map_res_back_begins : {code : A → ℕ} {words : Option Words} → HasFirst w code g Form words →
+    pub map_res_back_begins : {code : A → ℕ} {words : Option CodeWords} → HasFirst w code g Form words →
         HasFirst w code (map_res_by externals Takes Gives g) (λ v xs. (x : O) × Back v x × Form x xs) words
     map_res_back_begins p = judged_back_begins Takes Gives is_ok _ externals.grows Ok Back p

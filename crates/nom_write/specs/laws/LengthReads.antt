@@ -12,7 +12,7 @@ use Rattle.nom_repeat.specs.Bounds.{exact_limits}
 use Rattle.nom_multi.specs.Lengths.{HasSize, length_count_of, length_data_of}
 use Rattle.nom_multi.specs.Values.{cuts, length_value_of, settled, settled_meaning, values_by_length, window_meaning}
 use Rattle.nom_write.specs.Lengths.{FormOfSize}
-use Rattle.nom_sink.specs.Lists.{Each, ItemForm}
+use Rattle.nom_sink.specs.Lists.{EachForm, ItemForm}
 use Rattle.nom_sink.specs.Parts.{AfterLength, Both}
 use Rattle.nom_write.specs.Reads.{Anything, Holds, Reads, ReadsBefore}
 use Rattle.nom_write.specs.laws.LeafReads.{no_errors, take_reads}
@@ -54,10 +54,11 @@ module _ {I A P O E : Type 0} {w : Model I A} (l : InputLaws w) (errs : Errors I
   -- a number, and as many items of another grammar
   pub length_count_reads : {U X M : Type 0} {h : Grammar I U X E} {NextForm : X → List A → Type 0} {NextFollow : List A → Type 0} →
       ((rest : List A) → NextFollow rest) → Reads w h NextForm NextFollow →
-      Reads w (length_count_of {M = M} w errs size g h) (λ v. Both (FormOfSize size Form (length v.items)) (Each (ItemForm false NextForm) v.items)) Anything
+      Reads w (length_count_of {M = M} w errs size g h)
+      (λ v. Both (FormOfSize size Form (length v.items)) (EachForm (ItemForm false NextForm) v.items)) Anything
   length_count_reads {U} {X} {M} {h} {NextForm} {NextFollow} next_all q = record { reads = reads }
     where
-      reads : (v : Vec X M) (xs : List A) → Both (FormOfSize size Form (length v.items)) (Each (ItemForm false NextForm) v.items) xs → (s : Bool) →
+      reads : (v : Vec X M) (xs : List A) → Both (FormOfSize size Form (length v.items)) (EachForm (ItemForm false NextForm) v.items) xs → (s : Bool) →
           ReadsBefore w ((length_count_of {M = M} w errs size g h).meaning.answers s) (λ ts. AllZip h.IsOutput ts v.items) Anything xs
       reads v xs f s =
           let n = f.first.0 in

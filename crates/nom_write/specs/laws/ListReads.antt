@@ -13,15 +13,15 @@ use Rattle.nom_repeat.specs.Repeat.Turn.{Takes, Ends}
 use Rattle.nom_repeat.specs.declared.items.Limits.{Limits}
 use Rattle.nom_repeat.specs.Items.{item_turn, items_meaning, refused_turn}
 use Rattle.nom_repeat.specs.Bounds.{any_limits, exact_limits}
-use Rattle.nom_sink.specs.Lists.{Each, ItemForm}
+use Rattle.nom_sink.specs.Lists.{EachForm, ItemForm}
 use Rattle.nom_write.specs.Reads.{Anything, NoItem, NoItemIn, Reads, ReadsAtEnd, ReadsBefore}
-use Rattle.nom_write.specs.laws.SequenceReads.{before_others, follows}
+use Rattle.nom_write.specs.laws.SequenceReads.{before_others, rest_follows}
 
 -- Items of a grammar within limits. Of as many values as `total` says each form is an item that is taken, and after them the items end,
 -- where what follows is of a kind.
 module _ {I A V O E : Type 0} (w : Model I A) (l : InputLaws w) (g : Grammar I V O E) (limits : Limits) (Form : O → List A → Type 0) (Follow : List A → Type 0)
     (After : List A → Type 0) (total : ℕ)
-    (meets : (vs : List O) (xs rest : List A) → length vs < total → Each Form vs xs → After rest → Follow (xs ++ rest))
+    (meets : (vs : List O) (xs rest : List A) → length vs < total → EachForm Form vs xs → After rest → Follow (xs ++ rest))
     (reads : Reads w g Form Follow)
     (s : Bool)
     (runs : (k : ℕ) (i : I) → k < total → Replies limits.most (λ k. g.meaning.answers s) k i None → ⊥)
@@ -44,7 +44,7 @@ module _ {I A V O E : Type 0} (w : Model I A) (l : InputLaws w) (g : Grammar I V
           (q.0, f ∙ (ap (λ z. item_turn limits k (Some z)) q.1 ∙ takes k v front q.0 p), q.2)
 
   items_read : (vs : List O) (xs rest : List A) (k : ℕ) (i : I) (ts : List V) (taken : ℕ) (ending : Outcome (Unit {0})) → w.IsKnown i →
-      w.elements i ≡ xs ++ rest → Each Form vs xs → After rest → k + length vs ≡ total → Pieces w Turns (λ k j. Turns k j (Ends ending)) k i ts taken →
+      w.elements i ≡ xs ++ rest → EachForm Form vs xs → After rest → k + length vs ≡ total → Pieces w Turns (λ k j. Turns k j (Ends ending)) k i ts taken →
       (taken ≡ items_len w.item_len xs) × AllZip g.IsOutput ts vs × (ending ≡ Accept 0 tt)
   items_read [] xs rest k i [] taken ending known e h after c p =
       let here : k ≡ total = omega (arith, c) in
@@ -70,14 +70,14 @@ module _ {I A V O E : Type 0} (w : Model I A) (l : InputLaws w) (g : Grammar I V
       let tree : t ≡ q.0 = cc (turn) in
       let j = p.2 in
       let j_is : IsSuffixOf w i (items_len w.item_len h.front) j = subst (λ z. IsSuffixOf w i z j) size p.4 in
-      let r = items_read vs h.back rest (k + 1) j ts p.1 ending j_is.known (follows w l i j h.front (h.back ++ rest) first j_is) h.second after
+      let r = items_read vs h.back rest (k + 1) j ts p.1 ending j_is.known (rest_follows w l i j h.front (h.back ++ rest) first j_is) h.second after
       (omega (arith, c)) p.5 in (
         omega (arith, p.6, size, r.0, ap (λ zs. items_len w.item_len zs) h.whole, items_len-append w.item_len h.front h.back),
         (subst (λ z. g.IsOutput z v) (sym tree) q.2, r.1),
         r.2,
       )
 
-  pub list_read : (errs : Errors I E) (vs : List O) (xs : List A) → length vs ≡ total → Each Form vs xs →
+  pub list_read : (errs : Errors I E) (vs : List O) (xs : List A) → length vs ≡ total → EachForm Form vs xs →
       ReadsBefore w ((items_meaning w errs limits (Unit {0}) g.meaning).answers s) (λ ts. AllZip g.IsOutput ts vs) After xs
   list_read errs vs xs count h = record {
     read = λ i rest o known e f a.
@@ -110,7 +110,7 @@ item_reads w g some Form Follow p = record { reads = λ v xs f. p.reads v xs f.0
 module _ {I A V O E : Type 0} (w : Model I A) (l : InputLaws w) (errs : Errors I E) (g : Grammar I V O E) (Form : O → List A → Type 0)
     (Follow : List A → Type 0) (all : (rest : List A) → Follow rest) (p : Reads w g Form Follow) (s : Bool) where
   -- just as many items as there are values
-  pub exact_reads : (vs : List O) (xs : List A) → Each (ItemForm false Form) vs xs →
+  pub exact_reads : (vs : List O) (xs : List A) → EachForm (ItemForm false Form) vs xs →
       ReadsBefore w ((items_meaning w errs (exact_limits (length vs)) (Unit {0}) g.meaning).answers s) (λ ts. AllZip g.IsOutput ts vs) Anything xs
   exact_reads vs xs h = list_read w l g (exact_limits (length vs)) (ItemForm false Form) Follow Anything (length vs) (λ us xs rest b h k. all (xs ++ rest))
       (item_reads w g false Form Follow p) s
@@ -126,7 +126,7 @@ module _ {I A V O E : Type 0} (w : Model I A) (l : InputLaws w) (errs : Errors I
           of_reply (Some o) h f = absurd (omega (arith, h.0))
 
   -- any number of items that aren't empty, before what begins with none
-  any_items_reads : (kind : ErrorKind) (vs : List O) (xs : List A) → Each (ItemForm true Form) vs xs →
+  any_items_reads : (kind : ErrorKind) (vs : List O) (xs : List A) → EachForm (ItemForm true Form) vs xs →
       ReadsBefore w ((items_meaning w errs (any_limits kind) (Unit {0}) g.meaning).answers s) (λ ts. AllZip g.IsOutput ts vs) (NoItemIn w g.meaning s) xs
   any_items_reads kind vs xs h = list_read w l g (any_limits kind) (ItemForm true Form) Follow (NoItemIn w g.meaning s) (length vs)
       (λ us xs rest b h k. all (xs ++ rest)) (item_reads w g true Form Follow p) s
@@ -146,20 +146,20 @@ module _ {I A V O E : Type 0} {w : Model I A} (l : InputLaws w) (errs : Errors I
     {Follow : List A → Type 0} (all : (rest : List A) → Follow rest) (p : Reads w g Form Follow) where
   -- just that many items
   pub count_reads : {M : Type 0} (count : ℕ) → Reads w (count_of {M = M} w errs count g)
-      (λ v xs. (length v.items ≡ count) × Each (ItemForm false Form) v.items xs) Anything
+      (λ v xs. (length v.items ≡ count) × EachForm (ItemForm false Form) v.items xs) Anything
   count_reads count = record {
     reads = λ v xs h s. subst (λ n. ReadsBefore w ((items_meaning w errs (exact_limits n) (Unit {0}) g.meaning).answers s)
         (λ ts. AllZip g.IsOutput ts v.items) Anything xs) h.0 (exact_reads w l errs g Form Follow all p s v.items xs h.1);
   }
 
   -- any number of items
-  pub many0_reads : {M : Type 0} → Reads w (many0_of {M = M} w errs g) (λ v. Each (ItemForm true Form) v.items) (NoItem w g.meaning)
+  pub many0_reads : {M : Type 0} → Reads w (many0_of {M = M} w errs g) (λ v. EachForm (ItemForm true Form) v.items) (NoItem w g.meaning)
   many0_reads = record {
     reads = λ v xs h s. before_others (λ rest k. k s) (any_items_reads w l errs g Form Follow all p s Kind.Many0 v.items xs h);
   }
 
   -- and at the end of a complete input
-  pub many0_ends : {M : Type 0} → NoItemIn w g.meaning false [] → ReadsAtEnd w (many0_of {M = M} w errs g) (λ v. Each (ItemForm true Form) v.items)
+  pub many0_ends : {M : Type 0} → NoItemIn w g.meaning false [] → ReadsAtEnd w (many0_of {M = M} w errs g) (λ v. EachForm (ItemForm true Form) v.items)
   many0_ends none = record {
     reads = λ v xs h. before_others (λ rest k. subst (NoItemIn w g.meaning false) (sym k) none)
         (any_items_reads w l errs g Form Follow all p false Kind.Many0 v.items xs h);

@@ -3,7 +3,7 @@ use Rattle.std.specs.Prelude.{◌≡◌, ℕ, Bool, true, List, ◌++◌, Option
 use Rattle.std.proofs.Common.{sym, ◌∙◌, ap, subst}
 use Rattle.nom_internal.specs.Prelude.{Accept, Errors, GivesFor, Grammar, IsJudge, Model, Passes, items_len, Judged, kept_if}
 use Rattle.nom_combinator.specs.Outputs.{GivesValue, value_by, verify_by}
-use Rattle.nom_write.specs.FirstSets.{HasFirst, StartsWith, Words}
+use Rattle.nom_write.specs.FirstSets.{HasFirst, StartsWith, CodeWords}
 use Rattle.nom_write.specs.Reads.{Anything, Reads, ReadsSome}
 use Rattle.nom_write.specs.laws.FirstSetLaws.{become_refuses, fixed_begins}
 
@@ -23,7 +23,7 @@ module _ {I A V O R E : Type 0} {w : Model I A} (g : Grammar I V O E) (value : R
     };
   }
 
-  pub value_begins : (code : A → ℕ) {words : Option Words} → StartsWith w code g.meaning items words →
+  pub value_begins : (code : A → ℕ) {words : Option CodeWords} → StartsWith w code g.meaning items words →
       HasFirst w code (value_by value IsSure IsClone g) (λ v xs. IsClone v × (xs ≡ items)) words
   value_begins code {words} p = fixed_begins code items (λ v xs f. f.1) (record {
     begins = p.begins;
@@ -45,7 +45,7 @@ module _ {I A V O E : Type 0} {w : Model I A} (errs : Errors I E) {g : Grammar I
     };
   }
 
-  pub verify_begins : {code : A → ℕ} {words : Option Words} → HasFirst w code g Form words →
+  pub verify_begins : {code : A → ℕ} {words : Option CodeWords} → HasFirst w code g Form words →
       HasFirst w code (verify_by errs Takes Says g) (λ v xs. Says v true × Form v xs) words
   verify_begins {code} {words} p = record {
     begins = λ bs e v xs f. p.begins bs e v xs f.1;

@@ -16,7 +16,7 @@ use Rattle.nom_repeat.specs.Repeat.Turn.{Ends, Takes}
 use Rattle.nom_repeat.specs.Items.{item_turn, items_meaning, refused_turn}
 use Rattle.nom_repeat.specs.Bounds.{any_limits}
 use Rattle.nom_sequence.specs.Sequences.{preceded_of}
-use Rattle.nom_sink.specs.Lists.{Each, ItemForm}
+use Rattle.nom_sink.specs.Lists.{EachForm, ItemForm}
 use Rattle.nom_write.specs.Reads.{NoItem, NoItemIn, Reads, ReadsAtEnd, ReadsBefore, ReadsSome}
 use Rattle.nom_write.specs.Separated.{AfterSeparator, AnyForm, SomeForm}
 use Rattle.nom_write.specs.laws.LeafReads.{success_reads}
@@ -57,7 +57,7 @@ module _ {I A V O E : Type 0} (w : Model I A) (l : InputLaws w) (errs : Errors I
           second = refl;
         })
       where
-        meets : (vs : List O) (xs rest : List A) → length vs < 1 → Each Form vs xs → Follow rest → Follow (xs ++ rest)
+        meets : (vs : List O) (xs rest : List A) → length vs < 1 → EachForm Form vs xs → Follow rest → Follow (xs ++ rest)
         meets [] xs rest b e h = subst (λ z. Follow (z ++ rest)) (sym e) h
         meets (u ∷ us) xs rest b e h = absurd (omega (arith, b))
 
@@ -89,13 +89,14 @@ module _ {I A V O E : Type 0} (w : Model I A) (l : InputLaws w) (errs : Errors I
 
   -- any number of items that aren't empty, where one may follow another, before what begins with none
   more_reads : (kind : ErrorKind) → ((v : O) (xs rest : List A) → Form v xs → Follow (xs ++ rest)) → (vs : List O) (xs : List A) →
-      Each (ItemForm true Form) vs xs → ReadsBefore w ((items_meaning w errs (any_limits kind) (Unit {0}) g.meaning).answers s)
+      EachForm (ItemForm true Form) vs xs → ReadsBefore w ((items_meaning w errs (any_limits kind) (Unit {0}) g.meaning).answers s)
       (λ ts. AllZip g.IsOutput ts vs) (After w g.meaning s Follow) xs
   more_reads kind one_after vs xs h = list_read w l g (any_limits kind) (ItemForm true Form) Follow (After w g.meaning s Follow) (length vs) meets
       (item_reads w g true Form Follow p) s
       (λ k i below none. none tt) (λ k v xs t f. some_taken kind k (items_len w.item_len xs) t (some_len w l xs (f.1 refl))) ends errs vs xs refl h
     where
-      meets : (us : List O) (xs rest : List A) → length us < length vs → Each (ItemForm true Form) us xs → After w g.meaning s Follow rest → Follow (xs ++ rest)
+      meets : (us : List O) (xs rest : List A) → length us < length vs → EachForm (ItemForm true Form) us xs → After w g.meaning s Follow rest →
+          Follow (xs ++ rest)
       meets [] xs rest b e h = subst (λ z. Follow (z ++ rest)) (sym e) h.0
       meets (u ∷ us) xs rest b e h = subst Follow (sym (ap (λ z. z ++ rest) e.whole ∙ append_assoc e.front e.back rest))
           (one_after u e.front (e.back ++ rest) e.first.0)
@@ -115,14 +116,14 @@ module _ {I A V O E : Type 0} {w : Model I A} (l : InputLaws w) (errs : Errors I
     {First Further : O → List A → Type 0} {Follow : List A → Type 0} (p : Reads w g First Follow)
     (q : Reads w (record { meaning = m; IsOutput = g.IsOutput }) Further Follow) (one_after : (v : O) (xs rest : List A) → Further v xs → Follow (xs ++ rest))
     (kind : ErrorKind) (s : Bool) where
-  next : (vs : List O) (ys rest : List A) → Each (ItemForm true Further) vs ys → After w m s Follow rest → Follow (ys ++ rest)
+  next : (vs : List O) (ys rest : List A) → EachForm (ItemForm true Further) vs ys → After w m s Follow rest → Follow (ys ++ rest)
   next [] ys rest e k = subst (λ z. Follow (z ++ rest)) (sym e) k.0
   next (v ∷ vs) ys rest e k = subst Follow (sym (ap (λ z. z ++ rest) e.whole ∙ append_assoc e.front e.back rest))
       (one_after v e.front (e.back ++ rest) e.first.0)
 
   -- by what follows a first item, whose tree is alone in its list
   first_then : (least : ℕ) (few : TooFew) (at_start : Bool) (N : List V → I → Outcome (List V) → Type 0) →
-      ((t : V) (us : List O) (ys : List A) → Each (ItemForm true Further) us ys → ReadsBefore w (N (t ∷ [])) (λ ts. AllZip g.IsOutput ts us) (After w m s
+      ((t : V) (us : List O) (ys : List A) → EachForm (ItemForm true Further) us ys → ReadsBefore w (N (t ∷ [])) (λ ts. AllZip g.IsOutput ts us) (After w m s
       Follow) ys) →
       (v : O) (vs : List O) (xs : List A) → SomeForm First Further (v ∷ vs) xs →
       ReadsBefore w (Then w (λ ts us. ts ++ us) ((items_meaning w errs (single_limits least few at_start) (Unit {0}) g.meaning).answers s) N)
@@ -138,7 +139,7 @@ module _ {I A V O E : Type 0} {w : Model I A} (l : InputLaws w) (errs : Errors I
       alone (t ∷ []) a = more t vs f.back f.second
       alone (t ∷ u ∷ ts) a = absurd a.1
 
-  further : (t : V) (us : List O) (ys : List A) → Each (ItemForm true Further) us ys →
+  further : (t : V) (us : List O) (ys : List A) → EachForm (ItemForm true Further) us ys →
       ReadsBefore w ((items_meaning w errs (any_limits kind) (Unit {0}) m).answers s) (λ ts. AllZip g.IsOutput ts us) (After w m s Follow) ys
   further t us ys e = more_reads w l errs (record { meaning = m; IsOutput = g.IsOutput }) Further Follow q s kind one_after us ys e
 

@@ -10,9 +10,9 @@ use Rattle.nom_sink.specs.Parts.{Both, MeetsForms}
 use Rattle.nom_write.specs.Reads.{Anything, IsEnd, IsTaken, Reads, ReadsAtEnd, ReadsBefore, ReadsSome}
 
 -- what follows items of a front, by the front's length
-pub follows : {I A : Type 0} (w : Model I A) → InputLaws w → (i j : I) (xs rest : List A) → w.elements i ≡ xs ++ rest →
+pub rest_follows : {I A : Type 0} (w : Model I A) → InputLaws w → (i j : I) (xs rest : List A) → w.elements i ≡ xs ++ rest →
     IsSuffixOf w i (items_len w.item_len xs) j → w.elements j ≡ rest
-follows w l i j xs rest e s = (same_cut w.item_len l.positive s.front (w.elements j) xs rest (sym s.whole ∙ e) s.length_is).1
+rest_follows w l i j xs rest e s = (same_cut w.item_len l.positive s.front (w.elements j) xs rest (sym s.whole ∙ e) s.length_is).1
 
 -- by an equation of the items
 pub as_whole : {I A V : Type 0} (w : Model I A) {P : I → Outcome V → Type 0} {Fact : V → Type 0} {Follow : List A → Type 0} {xs ys : List A} → xs ≡ ys →
@@ -52,7 +52,7 @@ module _ {I A P Q T : Type 0} (w : Model I A) (l : InputLaws w) (tree : P → Q 
       second : (u : P) → IsFirst u → (i : I) (rest : List A) (o : Outcome T) → w.elements i ≡ xs ++ (ys ++ rest) → Next rest →
           GoesOn w tree N i (Accept n u) o → IsTaken w IsTree (items_len w.item_len (xs ++ ys)) o
       second u is i rest o e next g = joined u is g.1 o g.4
-          ((q u is).read g.0 rest g.1 g.2.known (follows w l i g.0 xs (ys ++ rest) e g.2) next g.3)
+          ((q u is).read g.0 rest g.1 g.2.known (rest_follows w l i g.0 xs (ys ++ rest) e g.2) next g.3)
 
       reads : (i : I) (rest : List A) (o : Outcome T) → w.IsKnown i → w.elements i ≡ (xs ++ ys) ++ rest → Next rest → Then w tree F N i o →
           IsTaken w IsTree (items_len w.item_len (xs ++ ys)) o

@@ -64,9 +64,9 @@ valid_items bs valid = by (list_all (λ b. nat_lt b 128) bs) refl
     by true a = let s = ascii_spelled bs a in sym (ap chars (sym s.1) ∙ chars-encodes bs s.0)
     by false a = ap (λ u. cond u (chars bs) (chars bs ++ 55296 ∷ [])) (is_utf8-from_IsUtf8 bs valid)
 
-tag_items : (tag : List ℕ) (s : Bool) (IsTree : Slice text_model → Type 0) → ((t : Slice text_model) → t.items ≡ text_items tag → IsTree t) →
+text_tag_items : (tag : List ℕ) (s : Bool) (IsTree : Slice text_model → Type 0) → ((t : Slice text_model) → t.items ≡ text_items tag → IsTree t) →
     ReadsBefore text_model ((tag_meaning text_model no_errors length ComparesText tag).answers s) IsTree Anything (text_items tag)
-tag_items tag s IsTree stands = elim (viewed tag) [
+text_tag_items tag s IsTree stands = elim (viewed tag) [
   | inl v ↦ as_whole text_model v.1 (lawful_reads text_model (tag_meaning text_model no_errors length ComparesText tag)
       (tag_lawful text_model text_lawful no_errors length ComparesText text_comparing tag) s IsTree (chars tag) (λ i rest known e.
       let t : Slice text_model = record { items = chars tag; mark = tt } in
@@ -95,12 +95,12 @@ other_lead tag zs a c more is head = elim (viewed tag) [
 
 module _ {E : Type 0} (errs : Errors (Bor (List ℕ)) E) (tag : List ℕ) where
   pub text_tag_reads_some : ReadsSome text_model (sliced text_model (tag_meaning text_model errs length ComparesText tag)) (text_items tag)
-  text_tag_reads_some = record { reads = λ s. tag_items tag s (λ _. Unit {0}) (λ t h. tt) }
+  text_tag_reads_some = record { reads = λ s. text_tag_items tag s (λ _. Unit {0}) (λ t h. tt) }
 
   pub text_tag_reads : Reads text_model (sliced text_model (tag_meaning text_model errs length ComparesText tag)) (λ v xs.
       (xs ≡ text_items tag) × Holds text_model v (text_items tag)) Anything
   text_tag_reads = record {
-    reads = λ v xs f s. as_whole text_model f.0 (tag_items tag s (λ t. IsModelledBy text_model t v)
+    reads = λ v xs f s. as_whole text_model f.0 (text_tag_items tag s (λ t. IsModelledBy text_model t v)
         (λ t h. record { known = f.1.known; elements_are = f.1.elements_are ∙ sym h; mark_is = refl }));
   }
 

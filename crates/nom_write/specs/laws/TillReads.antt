@@ -7,21 +7,21 @@ use Rattle.nom_internal.specs.Prelude.{items_len-append, labelled}
 use Rattle.nom_multi.specs.Till.{end_or_item, many_till_of, step_turn, till_turn, with_end}
 use Rattle.nom_repeat.specs.Repeat.{Turn, Pieces, Replies, TurnsBy}
 use Rattle.nom_repeat.specs.Repeat.Turn.{Takes, Ends}
-use Rattle.nom_sink.specs.Lists.{Each, ItemForm}
+use Rattle.nom_sink.specs.Lists.{EachForm, ItemForm}
 use Rattle.nom_sink.specs.Parts.{Both}
-use Rattle.nom_write.specs.Choices.{Refuses}
-use Rattle.nom_write.specs.FirstSets.{AreDisjoint, HasFirst, Words}
+use Rattle.nom_write.specs.Choices.{RefusesForms}
+use Rattle.nom_write.specs.FirstSets.{AreDisjoint, HasFirst, CodeWords}
 use Rattle.nom_write.specs.Reads.{IsTaken, Reads}
 use Rattle.nom_write.specs.laws.ChoiceReads.{become_reads, become_refused}
 use Rattle.nom_write.specs.laws.FirstSetLaws.{differ_apart}
 use Rattle.nom_write.specs.laws.ListReads.{some_len}
-use Rattle.nom_write.specs.laws.SequenceReads.{follows}
+use Rattle.nom_write.specs.laws.SequenceReads.{rest_follows}
 
 -- the end refuses what begins with an item: of the end no form matters
 pub end_apart : {I A T V P O E : Type 0} {w : Model I A} {end : Grammar I T P E} {g : Grammar I V O E} {EndForm : P → List A → Type 0}
-    {Form : O → List A → Type 0} {code : A → ℕ} {words other : Option Words} →
+    {Form : O → List A → Type 0} {code : A → ℕ} {words other : Option CodeWords} →
     HasFirst w code end EndForm words → HasFirst w code g Form other → AreDisjoint w end words Form other →
-    Refuses w end Form
+    RefusesForms w end Form
 end_apart {T = T} {O = O} {end = end} p q d = differ_apart {g = record { meaning = end.meaning; IsOutput = λ (t : T) (v : O). ⊥ }} {First = λ v xs. ⊥}
     (record { begins = λ bs e v xs f. absurd f; others = p.others }) q d
 
@@ -32,7 +32,7 @@ step_taken (suc n) v h = refl
 
 module _ {I A V O T P E : Type 0} {w : Model I A} (l : InputLaws w) (errs : Errors I E) {g : Grammar I V O E} {end : Grammar I T P E}
     {Form : O → List A → Type 0} {EndForm : P → List A → Type 0} {Follow After : List A → Type 0} (all : (rest : List A) → Follow rest)
-    (apart : Refuses w end Form) (p : Reads w g Form Follow) (q : Reads w end EndForm After) where
+    (apart : RefusesForms w end Form) (p : Reads w g Form Follow) (q : Reads w end EndForm After) where
   module _ (s : Bool) where
     abbrev Step : I → Outcome (T ⊎ V) → Type 0
     Step = (end_or_item end.meaning g.meaning).answers s
@@ -86,7 +86,7 @@ module _ {I A V O T P E : Type 0} {w : Model I A} (l : InputLaws w) (errs : Erro
         (h.0, a.2 ∙ (ap (λ z. till_turn (Some z)) h.1 ∙ step_taken (items_len w.item_len front) h.0 (some_len w l front (f.1 refl))), h.2)
 
     pieces_read : (vs : List O) (v : P) (ys zs rest : List A) (k : ℕ) (i : I) (ts : List V) (taken : ℕ) (ending : Outcome T) → w.IsKnown i →
-        w.elements i ≡ ys ++ (zs ++ rest) → Each (ItemForm true Form) vs ys → EndForm v zs → After rest →
+        w.elements i ≡ ys ++ (zs ++ rest) → EachForm (ItemForm true Form) vs ys → EndForm v zs → After rest →
         Pieces w Turns (λ k j. Turns k j (Ends ending)) k i ts taken →
         (taken ≡ items_len w.item_len ys) × AllZip g.IsOutput ts vs × IsTaken w (λ t. end.IsOutput t v) (items_len w.item_len zs) ending
     pieces_read [] v ys zs rest k i [] taken ending known e h f next a =
@@ -106,14 +106,14 @@ module _ {I A V O T P E : Type 0} {w : Model I A} (l : InputLaws w) (errs : Erro
         let size : a.0 ≡ items_len w.item_len h.front = cc (turn) in
         let tree : t ≡ r.0 = cc (turn) in
         let j_is : IsSuffixOf w i (items_len w.item_len h.front) a.2 = subst (λ z. IsSuffixOf w i z a.2) size a.4 in
-        let m = pieces_read us v h.back zs rest (k + 1) a.2 ts a.1 ending j_is.known (follows w l i a.2 h.front (h.back ++ (zs ++ rest)) first j_is)
+        let m = pieces_read us v h.back zs rest (k + 1) a.2 ts a.1 ending j_is.known (rest_follows w l i a.2 h.front (h.back ++ (zs ++ rest)) first j_is)
         h.second f next a.5 in (
           omega (arith, a.6, size, m.0, ap (λ z. items_len w.item_len z) h.whole, items_len-append w.item_len h.front h.back),
           (subst (λ z. g.IsOutput z u) (sym tree) r.2, m.1),
           m.2,
         )
 
-  pub many_till_reads : {M : Type 0} → Reads w (many_till_of {M = M} w errs g end) (λ v. Both (Each (ItemForm true Form) v.0.items) (EndForm v.1)) After
+  pub many_till_reads : {M : Type 0} → Reads w (many_till_of {M = M} w errs g end) (λ v. Both (EachForm (ItemForm true Form) v.0.items) (EndForm v.1)) After
   many_till_reads = record {
     reads = λ v xs f s. record {
       read = λ i rest o known e next a.

@@ -55,15 +55,15 @@ complete_only Refuse n t e = absurd (cc (e))
 complete_only (Stop (Fails cause)) n t e = absurd (cc (e))
 complete_only (Stop (Needs k)) n t e = absurd (cc (e))
 
-kept_accepts : {V : Type 0} (b : Bool) (m n : ℕ) (t u : V) → Accept n t ≡ kept_if b (Accept m u) → (m ≡ n) × (u ≡ t)
-kept_accepts true m n t u e = (cc (e), cc (e))
-kept_accepts false m n t u e = absurd (cc (e))
+kept_accepts_tree : {V : Type 0} (b : Bool) (m n : ℕ) (t u : V) → Accept n t ≡ kept_if b (Accept m u) → (m ≡ n) × (u ≡ t)
+kept_accepts_tree true m n t u e = (cc (e), cc (e))
+kept_accepts_tree false m n t u e = absurd (cc (e))
 
 -- what is accepted by a judge the part accepts
 judged : {I V R : Type 0} (F : I → Outcome V → Type 0) (Says : V → R → Type 0) (fits : R → Bool) (i : I) (n : ℕ) (t : V) (o : Outcome V) → F i o →
     Passes (Judged Says fits) o (Accept n t) → F i (Accept n t)
 judged F Says fits i n t (Accept m u) h k =
-    let r = kept_accepts (fits k.0) m n t u k.2 in subst (λ z. F i (Accept n z)) r.1 (subst (λ z. F i (Accept z u)) r.0 h)
+    let r = kept_accepts_tree (fits k.0) m n t u k.2 in subst (λ z. F i (Accept n z)) r.1 (subst (λ z. F i (Accept z u)) r.0 h)
 judged F Says fits i n t Refuse h k = absurd (cc (k))
 judged F Says fits i n t (Stop why) h k = absurd (cc (k))
 

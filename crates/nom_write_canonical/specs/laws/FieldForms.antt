@@ -14,11 +14,11 @@ use Rattle.nom_write_canonical.specs.laws.CaseForms.{become_accepts, labelled_on
 field_below : (bs : List Bool) (count width : ℕ) → length bs ≡ count → count ≤ width → spelled bs < 2 ^ width
 field_below bs count width e h = omega (arith, spelled_below 0 bs, ap (λ n. 2 ^ n) e, pow_mono {i = count} {j = width} h)
 
-one_bit : (bs : List Bool) → length bs ≡ 1 → bs ≡ nat_eq (spelled bs) 1 ∷ []
-one_bit [] e = absurd (omega (arith, e))
-one_bit (true ∷ []) e = refl
-one_bit (false ∷ []) e = refl
-one_bit (b ∷ c ∷ bs) e = absurd (omega (arith, e))
+one_bit_form : (bs : List Bool) → length bs ≡ 1 → bs ≡ nat_eq (spelled bs) 1 ∷ []
+one_bit_form [] e = absurd (omega (arith, e))
+one_bit_form (true ∷ []) e = refl
+one_bit_form (false ∷ []) e = refl
+one_bit_form (b ∷ c ∷ bs) e = absurd (omega (arith, e))
 
 module _ {I : Type 0} (w : Model I ℕ) where
   -- a field that is accepted, with its bits
@@ -44,7 +44,7 @@ module _ {I : Type 0} (w : Model I ℕ) where
       accepts = λ s. become_accepts (bits_model w) (labelled (λ number. nat_eq number 1)) (λ number. nat_eq number 1)
           (labelled_only (λ number. nat_eq number 1)) ((take_meaning w errs 1 1).answers s)
           (λ number bs. (length bs ≡ 1) × (spelled bs ≡ number)) (λ b bs. (v : Bool) → v ≡ b → bs ≡ v ∷ [])
-          (λ number bs f v e. one_bit bs f.0 ∙ ap (λ b. b ∷ []) (ap (λ m. nat_eq m 1) f.1 ∙ sym e)) (field_only 1 1 s);
+          (λ number bs f v e. one_bit_form bs f.0 ∙ ap (λ b. b ∷ []) (ap (λ m. nat_eq m 1) f.1 ∙ sym e)) (field_only 1 1 s);
     }
 
     -- of a type whose values are those of their numbers

@@ -4,9 +4,8 @@ use Rattle.std.proofs.Common.{arith, sym, ◌∙◌, ap, subst, append-nil, leng
 use Rattle.std.proofs.lemmas.List.{length-replicate}
 use Rattle.nom_internal.specs.Prelude.{Accept, AreBytes, AreValues, Fails, Grammar, Model, Needs, Outcome, Refuse, Stop}
 use Rattle.nom_internal.specs.Prelude.{all_bits, bits_model, items_len-ones, same_cut}
-use Rattle.nom_traits.specs.BitLists.{length-all_bits, whole-all_bits}
-use Rattle.nom_traits.specs.Bits.{whole_bytes}
-use Rattle.nom_bits.specs.BitRests.{all_bits-append, no_bytes}
+use Rattle.nom_traits.specs.BitLists.{length-all_bits}
+use Rattle.nom_bits.specs.BitRests.{all_bits-append, same_bytes}
 use Rattle.nom_bits.specs.Bridges.{BitsBecome, bits_of, rounded_up}
 use Rattle.nom_write.specs.BitForms.{InWholeBytes}
 use Rattle.nom_write_canonical.specs.Forms.{AcceptsForms, HasFront, IsOneForm}
@@ -66,13 +65,6 @@ module _ {I V O E F : Type 0} (w : Model I ℕ) (Converts : E → F → Type 0) 
 bit_values : (bs : List Bool) → AreValues (λ _. Unit {0}) bs
 bit_values [] = tt
 bit_values (b ∷ bs) = (tt, bit_values bs)
-
--- bytes are told by their bits
-same_bytes : (xs ys : List ℕ) → AreBytes xs → AreBytes ys → all_bits xs ≡ all_bits ys → xs ≡ ys
-same_bytes xs ys h k e = sym (back xs h) ∙ (ap (λ bs. whole_bytes (bs ++ [])) e ∙ back ys k)
-  where
-    back : (zs : List ℕ) → AreBytes zs → whole_bytes (all_bits zs ++ []) ≡ zs
-    back zs h = whole-all_bits zs [] h ∙ (ap (λ m. zs ++ m) no_bytes ∙ append-nil zs)
 
 -- one form in bits is one in whole bytes
 pub group_one : {Form : List Bool → Type 0} → IsOneForm (λ _. Unit {0}) Form → IsOneForm (λ b. b < 256) (InWholeBytes Form)

@@ -16,7 +16,7 @@ use Rattle.nom_repeat.specs.Items.{items_meaning}
 use Rattle.nom_repeat.specs.Repeat.{Pieces}
 use Rattle.nom_repeat.proofs.AcceptedItems.{accepted_in_turn}
 use Rattle.nom_write.specs.Lengths.{FormOfSize}
-use Rattle.nom_sink.specs.Lists.{Each, ItemForm}
+use Rattle.nom_sink.specs.Lists.{EachForm, ItemForm}
 use Rattle.nom_sink.specs.Parts.{Both}
 use Rattle.nom_write.specs.Reads.{Holds}
 use Rattle.nom_write_canonical.specs.Forms.{AcceptsForms, AcceptsOnly, FormOf, HasFront, IsOneForm}
@@ -37,7 +37,7 @@ measured p = record { front = p.front; rest = p.rest; whole = p.whole; length_is
 module _ {I A V O E : Type 0} (w : Model I A) (l : InputLaws w) (g : Grammar I V O E) (Form : O → List A → Type 0) (p : AcceptsForms w g Form) (s : Bool)
     (May : ℕ → Type 0) (some : Bool) (long : (n : ℕ) → May n → some ≡ true → 0 < n) (least : ℕ) (most : Option ℕ) where
   abbrev Forms : List V → List A → Type 0
-  Forms ts xs = (vs : List O) → AllZip g.IsOutput ts vs → Each (ItemForm some Form) vs xs
+  Forms ts xs = (vs : List O) → AllZip g.IsOutput ts vs → EachForm (ItemForm some Form) vs xs
 
   -- an item, and those after it
   item_first : (n : ℕ) → May n → (t : V) (ts : List V) (xs ys : List A) → FormOf g Form t xs × (items_len w.item_len xs ≡ n) → Forms ts ys →
@@ -51,7 +51,7 @@ module _ {I A V O E : Type 0} (w : Model I A) (l : InputLaws w) (g : Grammar I V
     second = more vs z.1;
   }
 
-  none_left : (vs : List O) → AllZip g.IsOutput [] vs → Each (ItemForm some Form) vs []
+  none_left : (vs : List O) → AllZip g.IsOutput [] vs → EachForm (ItemForm some Form) vs []
   none_left [] z = refl
   none_left (v ∷ vs) z = absurd z
 
@@ -77,7 +77,7 @@ exactly w Item May most k i (t ∷ ts) n h q = omega (arith, exactly w Item May 
 module _ {I A V O E : Type 0} {w : Model I A} (l : InputLaws w) (errs : Errors I E) {g : Grammar I V O E} {Form : O → List A → Type 0}
     (p : AcceptsForms w g Form) where
   -- any number of items
-  pub many0_accepts : {M : Type 0} → AcceptsForms w (many0_of {M = M} w errs g) (λ v. Each (ItemForm true Form) v.items)
+  pub many0_accepts : {M : Type 0} → AcceptsForms w (many0_of {M = M} w errs g) (λ v. EachForm (ItemForm true Form) v.items)
   many0_accepts = record {
     accepts = λ s. record {
       front = λ i n ts known a. front_by (λ xs k v z. k v.items z) (items_front w l g Form p s (λ a. 0 < a) true (λ n h e. h) 0 None 0 i ts n known
@@ -87,7 +87,7 @@ module _ {I A V O E : Type 0} {w : Model I A} (l : InputLaws w) (errs : Errors I
 
   -- just that many
   pub exact_accepts : (s : Bool) (count : ℕ) → AcceptsOnly w ((items_meaning w errs (exact_limits count) (Unit {0}) g.meaning).answers s)
-      (λ ts xs. (length ts ≡ count) × ((vs : List O) → AllZip g.IsOutput ts vs → Each (ItemForm false Form) vs xs))
+      (λ ts xs. (length ts ≡ count) × ((vs : List O) → AllZip g.IsOutput ts vs → EachForm (ItemForm false Form) vs xs))
   exact_accepts s count = record {
     front = λ i n ts known a.
         let q = accepted_in_turn w errs (exact_limits count) (Unit {0}) g.meaning s i n ts a in
@@ -97,7 +97,7 @@ module _ {I A V O E : Type 0} {w : Model I A} (l : InputLaws w) (errs : Errors I
   }
 
   pub count_accepts : {M : Type 0} (count : ℕ) → AcceptsForms w (count_of {M = M} w errs count g)
-      (λ v xs. (length v.items ≡ count) × Each (ItemForm false Form) v.items xs)
+      (λ v xs. (length v.items ≡ count) × EachForm (ItemForm false Form) v.items xs)
   count_accepts count = record {
     accepts = λ s. record {
       front = λ i n ts known a. front_by (λ xs k v z. (AllZip-long g.IsOutput ts v.items z ∙ k.0, k.1 v.items z)) ((exact_accepts s count).front i n ts
@@ -140,14 +140,15 @@ module _ {I A P O E : Type 0} {w : Model I A} (l : InputLaws w) (errs : Errors I
 
   -- a number, and as many items of another grammar
   pub length_count_accepts : {U X M : Type 0} {h : Grammar I U X E} {Next : X → List A → Type 0} → AcceptsForms w h Next →
-      AcceptsForms w (length_count_of {M = M} w errs size g h) (λ v. Both (FormOfSize size Form (length v.items)) (Each (ItemForm false Next) v.items))
+      AcceptsForms w (length_count_of {M = M} w errs size g h) (λ v. Both (FormOfSize size Form (length v.items)) (EachForm (ItemForm false Next) v.items))
   length_count_accepts {U} {X} {M} {h} {Next} q = record { accepts = accepts }
     where
       Counted : P → List U → List A → Type 0
-      Counted u ts ys = (n : ℕ) × HasSize g.IsOutput size u n × (length ts ≡ n) × ((vs : List X) → AllZip h.IsOutput ts vs → Each (ItemForm false Next) vs ys)
+      Counted u ts ys = (n : ℕ) × HasSize g.IsOutput size u n × (length ts ≡ n) ×
+          ((vs : List X) → AllZip h.IsOutput ts vs → EachForm (ItemForm false Next) vs ys)
 
       Whole : List U → List A → Type 0
-      Whole ts xs = (v : Vec X M) → AllZip h.IsOutput ts v.items → Both (FormOfSize size Form (length v.items)) (Each (ItemForm false Next) v.items) xs
+      Whole ts xs = (v : Vec X M) → AllZip h.IsOutput ts v.items → Both (FormOfSize size Form (length v.items)) (EachForm (ItemForm false Next) v.items) xs
 
       counted : (s : Bool) (u : P) → AcceptsOnly w (λ j o. OfValue (HasSize g.IsOutput size u) (λ k. (items_meaning w errs (exact_limits k) (Unit {0})
           h.meaning).answers s j o)) (Counted u)
@@ -176,7 +177,7 @@ size_one {Form = Form} same p n = record {
 }
 
 pub each_one : {A O : Type 0} {IsValue : A → Type 0} (some : Bool) {Form : O → List A → Type 0} → ((v : O) → IsOneForm IsValue (Form v)) → (vs : List O) →
-    IsOneForm IsValue (Each (ItemForm some Form) vs)
+    IsOneForm IsValue (EachForm (ItemForm some Form) vs)
 each_one some p [] = items_one []
 each_one some p (v ∷ vs) = both_one (one_beside (λ xs f. f.0) (p v)) (each_one some p vs)
 

@@ -59,10 +59,10 @@ below_in_order false xs h = subst (λ n. value_of 256 (reverse xs) < 2 ^ (8 * n)
     (omega (arith, digits_below 0 1 (reverse xs) (bytes_reversed xs h) (omega arith)))
 
 -- bits of a number are told by it
-abbrev pub AreBitsOf : {N : Type 0} → (ℕ → N) → ℕ → Type 0
-AreBitsOf of_bits count = (a b : ℕ) → a < 2 ^ (8 * count) → b < 2 ^ (8 * count) → of_bits a ≡ of_bits b → a ≡ b
+abbrev pub BitsOfNumber : {N : Type 0} → (ℕ → N) → ℕ → Type 0
+BitsOfNumber of_bits count = (a b : ℕ) → a < 2 ^ (8 * count) → b < 2 ^ (8 * count) → of_bits a ≡ of_bits b → a ≡ b
 
-pub binary_one : {N : Type 0} (of_bits : ℕ → N) (endian : Endianness) (count : ℕ) → AreBitsOf of_bits count → (v : N) →
+pub binary_one : {N : Type 0} (of_bits : ℕ → N) (endian : Endianness) (count : ℕ) → BitsOfNumber of_bits count → (v : N) →
     IsOneForm (λ b. b < 256) (λ xs. (length xs ≡ count) × (of_bits (binary_number endian xs) ≡ v))
 binary_one of_bits endian count same v = record {
   one = λ xs ys h k a b.

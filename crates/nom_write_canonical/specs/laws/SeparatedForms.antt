@@ -6,7 +6,7 @@ use Rattle.nom_internal.specs.Prelude.{Accept, Errors, Grammar, InputLaws, Model
 use Rattle.nom_separated.proofs.SeparatedAccepting.{separated1_accepts_more}
 use Rattle.nom_separated.specs.Separated.{separated_list1_of}
 use Rattle.nom_sequence.specs.Sequences.{preceded_of}
-use Rattle.nom_sink.specs.Lists.{Each, ItemForm}
+use Rattle.nom_sink.specs.Lists.{EachForm, ItemForm}
 use Rattle.nom_write.specs.Separated.{AfterSeparator, SomeForm}
 use Rattle.nom_write_canonical.specs.Forms.{AcceptsForms, AcceptsItems, FormOf, HasFront, IsOneForm}
 use Rattle.nom_write_canonical.specs.laws.CaseForms.{front_by}
@@ -15,7 +15,7 @@ use Rattle.nom_write_canonical.specs.laws.SequenceForms.{both_one, items_one, fr
 
 module _ {A V O : Type 0} (IsOutput : V → O → Type 0) (items : List A) (Form : O → List A → Type 0) where
   abbrev Further : List V → List A → Type 0
-  Further ts xs = (vs : List O) → AllZip IsOutput ts vs → Each (ItemForm true (AfterSeparator items Form)) vs xs
+  Further ts xs = (vs : List O) → AllZip IsOutput ts vs → EachForm (ItemForm true (AfterSeparator items Form)) vs xs
 
   abbrev Separated : List V → List A → Type 0
   Separated ts xs = (vs : List O) → AllZip IsOutput ts vs → SomeForm Form (AfterSeparator items Form) vs xs

@@ -6,7 +6,7 @@ use Rattle.nom_internal.specs.Tuples.{tuple_of}
 use Rattle.nom_repeat.proofs.AcceptedMore.{first_accepts}
 use Rattle.nom_sequence.specs.Sequences.{preceded_of, terminated_of}
 use Rattle.nom_sink.specs.Parts.{Both}
-use Rattle.nom_write.specs.laws.SequenceReads.{follows}
+use Rattle.nom_write.specs.laws.SequenceReads.{rest_follows}
 use Rattle.nom_write_canonical.specs.Forms.{AcceptsForms, AcceptsItems, AcceptsOnly, FormOf, HasFront, IsOneForm}
 use Rattle.nom_write_canonical.specs.laws.CaseForms.{front_by}
 
@@ -15,7 +15,7 @@ pub front_joined : {I A : Type 0} (w : Model I A) → InputLaws w → (i j : I) 
     ((xs ys : List A) → First xs → Next ys → Whole (xs ++ ys)) → HasFront w First i a → IsSuffixOf w i a j → HasFront w Next j c →
     HasFront w Whole i (a + c)
 front_joined w l i j a c First Next Whole joins p s q =
-    let rest : w.elements j ≡ p.rest = follows w l i j p.front p.rest p.whole (subst (λ n. IsSuffixOf w i n j) (sym p.length_is) s) in
+    let rest : w.elements j ≡ p.rest = rest_follows w l i j p.front p.rest p.whole (subst (λ n. IsSuffixOf w i n j) (sym p.length_is) s) in
     record {
       front = p.front ++ q.front;
       rest = q.rest;

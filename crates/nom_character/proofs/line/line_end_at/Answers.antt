@@ -1,4 +1,4 @@
-use Rattle.nom_character.proofs.Lines.{other_code, return_stands, return_absent, return_begins}
+use Rattle.nom_character.proofs.LineMatching.{other_code, return_stands, return_absent, return_begins}
 use Rattle.nom_character.proofs.line.line_end_at.Goals as goal
 
 pub returns-in-Full : goal.returns-in-Full

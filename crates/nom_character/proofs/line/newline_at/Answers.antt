@@ -1,5 +1,5 @@
 use Rattle.std.proofs.Common.{sym, ◌∙◌}
-use Rattle.nom_character.proofs.Lines.{newline_stands, newline_absent, newline_ends, newline_begins, is_code, other_code}
+use Rattle.nom_character.proofs.LineMatching.{newline_stands, newline_absent, newline_ends, newline_begins, is_code, other_code}
 use Rattle.nom_character.proofs.line.newline_at.Goals as goal
 
 pub returns-in-Some : goal.returns-in-Some

@@ -1,8 +1,8 @@
 use Rattle.std.proofs.Common.{arith, ◌≡◌, ◌+◌, Err, Ok, ap, subst}
 use Rattle.nom_stream.specs.Streams.{Decides}
-use Rattle.nom_stream.specs.Lines.{line_of}
+use Rattle.nom_stream.specs.ReaderLines.{line_of}
 use Rattle.nom_run.specs.Runs.{WritesText}
-use Rattle.nom_json_run.specs.Lines.{IsLine}
+use Rattle.nom_json_run.specs.JsonLines.{IsLine}
 use Rattle.nom_json_run.proofs.Listed.{ended, going_none, going_on, no_more, on_line, on_stop}
 use Rattle.nom_json_run.proofs.lines.tell_lines.Goals as goal
 

@@ -1,4 +1,4 @@
-use Rattle.nom_json_run.specs.Lines.{Going}
+use Rattle.nom_json_run.specs.JsonLines.{Going}
 use Rattle.nom_json_run.proofs.lines.tell_lines.Given as goal
 
 abbrev pub invariant-loop-turn : goal.invariant-loop-turn

@@ -1,36 +1,18 @@
-use Rattle.std.proofs.Common.{ℕ, List, Option, Ok, Err, sym, ap}
-use Rattle.nom_json_run.specs.Json.{after_exponent, after_fraction, after_integer, after_number, after_unsigned, and_then}
-use Rattle.nom_json_run.proofs.Alike.{leaves_map, then_fails, then_reads}
+use Rattle.std.proofs.Common.{arith}
+use Rattle.nom_json_run.specs.Json.{Leaves, after_number}
+use Rattle.nom_json_run.proofs.Decisions.{decides_finds}
+use Rattle.nom_json_run.proofs.Grammars.{number_reads}
+use Rattle.nom_json_run.proofs.Scanned.{placed, scans}
+use Rattle.nom_json_run.proofs.Wanted.{all_after}
 use Rattle.nom_json_run.proofs.scan.number.Goals as goal
 
-abbrev whole : List ℕ → Option (List ℕ)
-whole bs = and_then (after_integer bs) after_fraction
+pub place-requires : goal.place-requires
+place-requires c = placed number_reads c.args.bytes.now c.args.start _ c.number_of.result (all_after c.args.bytes.now c.args.start) c.number_of.ensures
 
-pub returns-in-Err-clause-scans : goal.returns-in-Err-clause-scans
-returns-in-Err-clause-scans c =
-    let bytes = c.args.bytes.now in
-    let unsigned = c.skip_one-unsigned in
-    let fault = c.in-Err.fault in
-    leaves_map bytes after_unsigned after_number c.args.start unsigned.result (Err fault) unsigned.ensures.begins
-    (λ bs s. ap after_unsigned (sym (unsigned.ensures.follows bs s)))
-    (then_fails bytes whole after_exponent unsigned.result fault (then_fails bytes after_integer after_fraction unsigned.result fault c.in-Err.ensures.scans))
-
-pub returns-in-Err-fraction-clause-scans : goal.returns-in-Err-fraction-clause-scans
-returns-in-Err-fraction-clause-scans c =
-    let bytes = c.args.bytes.now in
-    let unsigned = c.skip_one-unsigned in
-    let fault = c.in-Err-fraction.fault in
-    leaves_map bytes after_unsigned after_number c.args.start unsigned.result (Err fault) unsigned.ensures.begins
-    (λ bs s. ap after_unsigned (sym (unsigned.ensures.follows bs s)))
-    (then_fails bytes whole after_exponent unsigned.result fault
-    (then_reads bytes after_integer after_fraction unsigned.result c.in-Ok.at (Err fault) c.in-Ok.ensures.scans c.in-Err-fraction.ensures))
+pub returns-clause-some : goal.returns-clause-some
+returns-clause-some c = (scans (Leaves after_number) c.args.bytes.now c.args.start c.requires number_reads (λ t xs n h. decides_finds h) _ c.number_of.result
+    (all_after c.args.bytes.now c.args.start) c.number_of.ensures c.place.result c.place.ensures).1 (omega arith)
 
 pub returns-clause-scans : goal.returns-clause-scans
-returns-clause-scans c =
-    let bytes = c.args.bytes.now in
-    let unsigned = c.skip_one-unsigned in
-    let part = c.in-Ok-fraction.at in
-    leaves_map bytes after_unsigned after_number c.args.start unsigned.result c.exponent.result unsigned.ensures.begins
-    (λ bs s. ap after_unsigned (sym (unsigned.ensures.follows bs s)))
-    (then_reads bytes whole after_exponent unsigned.result part c.exponent.result
-    (then_reads bytes after_integer after_fraction unsigned.result c.in-Ok.at (Ok part) c.in-Ok.ensures.scans c.in-Ok-fraction.ensures) c.exponent.ensures)
+returns-clause-scans c = (scans (Leaves after_number) c.args.bytes.now c.args.start c.requires number_reads (λ t xs n h. decides_finds h) _ c.number_of.result
+    (all_after c.args.bytes.now c.args.start) c.number_of.ensures c.place.result c.place.ensures).0

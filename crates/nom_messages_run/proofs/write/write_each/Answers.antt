@@ -1,10 +1,10 @@
 use Rattle.std.proofs.Common.{arith, ◌∙◌, ◌+◌, Ok, ap, refl, subst, sym, take}
 use Rattle.std.specs.Prelude.{vec_capacity}
-use Rattle.nom_stream.specs.Lines.{line_of}
+use Rattle.nom_stream.specs.ReaderLines.{line_of}
 use Rattle.nom_stream.specs.Streams.{Decides}
 use Rattle.nom_write_stream.proofs.Sending.{sends_none}
 use Rattle.nom_messages_run.specs.Sent.{HaltsAt, HaltsLine, halt_by}
-use Rattle.nom_messages_run.proofs.Lines.{none_yet, one_more}
+use Rattle.nom_messages_run.proofs.SentLines.{none_yet, one_more}
 use Rattle.nom_messages_run.proofs.write.write_each.Goals as goal
 
 pub loop-turn-init : goal.loop-turn-init

@@ -1,5 +1,5 @@
 use Rattle.std.specs.Prelude.{◌≡◌, vec_capacity}
-use Rattle.nom_messages_run.proofs.Lines.{Going}
+use Rattle.nom_messages_run.proofs.SentLines.{Going}
 use Rattle.nom_messages_run.proofs.write.write_each.Given as goal
 
 abbrev pub invariant-loop-turn : goal.invariant-loop-turn

@@ -1,4 +1,4 @@
-use Rattle.std.proofs.Common.{refl, length}
+use Rattle.std.proofs.Common.{Err, ap, refl, length}
 use Rattle.std.proofs.lemmas.Bool.{lt-ltb}
 use Rattle.nom_error.specs.declared.kind.ErrorKind.TheVariants as Kind
 use Rattle.nom_repeat.specs.declared.items.TooFew.TheVariants.{Added}
@@ -6,9 +6,9 @@ use Rattle.nom_internal.proofs.Shown.{accepts}
 use Rattle.std.proofs.Common.{inl}
 use Rattle.nom_repeat.proofs.Parts.{shown_at}
 use Rattle.nom_repeat.proofs.Repeated.{collected_none}
-use Rattle.nom_repeat.proofs.ItemsShown.{items_full, items_too_few, items_failed, items_lack, items_part_ran_out, items_more}
-use Rattle.nom_multi.proofs.FillShown.{one_longer, holds_none, holds_more, still_long, fits, is_over, stops_full, stops_refused, stops_failed}
-use Rattle.nom_multi.proofs.FillShown.{stops_undecided, stops_without_memory, filled}
+use Rattle.nom_repeat.proofs.ItemsShown.{items_full, items_too_few, items_stopped, items_more}
+use Rattle.nom_multi.proofs.FillShown.{one_longer, holds_none, holds_more, still_long, fits, is_over, stops_full, stops_refused, stops_else}
+use Rattle.nom_multi.proofs.FillShown.{filled}
 use Rattle.nom_multi.proofs.buffer.fill_buffer.Goals as goal
 use Rattle.nom_repeat.specs.Bounds.{exact_limits}
 
@@ -57,49 +57,44 @@ returns-in-Err-Error-clause-filled g c =
 pub returns-in-Err-Failure-clause-shown : goal.returns-in-Err-Failure-clause-shown
 returns-in-Err-Failure-clause-shown g c =
     let i = c.loop-count.invariant in
-    let part = shown_at g.F.Parser.grammar i.state_kept c.in-Err-Failure.ensures.shown in
-    let below = fits c.loop-count-test.true i.length_kept i.collected.held.1 in
-    items_failed g.F.Error.ParseError.errors (exact_limits (length c.args.buffer.now)) ⊥ (g.F.Parser.grammar (g.F.Parser.state c.args.parser.now)).meaning
-    i.collected below c.in-Err-Failure.field-0-is part
+    items_stopped g.F.Error.ParseError.errors (exact_limits (length c.args.buffer.now)) (g.F.Parser.grammar (g.F.Parser.state c.args.parser.now)).meaning
+    i.collected (fits c.loop-count-test.true i.length_kept i.collected.held.1) c.in-Err-Failure.field-0-is tt
+    (shown_at g.F.Parser.grammar i.state_kept c.in-Err-Failure.ensures.shown)
 
 pub returns-in-Err-Failure-clause-filled : goal.returns-in-Err-Failure-clause-filled
 returns-in-Err-Failure-clause-filled g c =
     let i = c.loop-count.invariant in
-    let part = shown_at g.F.Parser.grammar i.state_kept c.in-Err-Failure.ensures.shown in
-    let below = fits c.loop-count-test.true i.length_kept i.collected.held.1 in
-    filled i.collected (stops_failed (g.F.Parser.grammar (g.F.Parser.state c.args.parser.now)).meaning _ _ i.collected below c.in-Err-Failure.field-0-is part)
+    filled i.collected (stops_else (g.F.Parser.grammar (g.F.Parser.state c.args.parser.now)).meaning _ _ i.collected
+    (fits c.loop-count-test.true i.length_kept i.collected.held.1) c.in-Err-Failure.field-0-is tt
+    (shown_at g.F.Parser.grammar i.state_kept c.in-Err-Failure.ensures.shown) (ap Err))
 
 pub returns-in-Err-Incomplete-clause-shown : goal.returns-in-Err-Incomplete-clause-shown
 returns-in-Err-Incomplete-clause-shown g c =
     let i = c.loop-count.invariant in
-    let part = shown_at g.F.Parser.grammar i.state_kept c.in-Err-Incomplete.ensures.shown in
-    let below = fits c.loop-count-test.true i.length_kept i.collected.held.1 in
-    items_lack g.F.Error.ParseError.errors (exact_limits (length c.args.buffer.now)) ⊥ (g.F.Parser.grammar (g.F.Parser.state c.args.parser.now)).meaning
-    i.collected below c.in-Err-Incomplete.field-0-is part
+    items_stopped g.F.Error.ParseError.errors (exact_limits (length c.args.buffer.now)) (g.F.Parser.grammar (g.F.Parser.state c.args.parser.now)).meaning
+    i.collected (fits c.loop-count-test.true i.length_kept i.collected.held.1) c.in-Err-Incomplete.field-0-is tt
+    (shown_at g.F.Parser.grammar i.state_kept c.in-Err-Incomplete.ensures.shown)
 
 pub returns-in-Err-Incomplete-clause-filled : goal.returns-in-Err-Incomplete-clause-filled
 returns-in-Err-Incomplete-clause-filled g c =
     let i = c.loop-count.invariant in
-    let part = shown_at g.F.Parser.grammar i.state_kept c.in-Err-Incomplete.ensures.shown in
-    let below = fits c.loop-count-test.true i.length_kept i.collected.held.1 in
-    filled i.collected (stops_undecided (g.F.Parser.grammar (g.F.Parser.state c.args.parser.now)).meaning
-    _ _ i.collected below c.in-Err-Incomplete.field-0-is part)
+    filled i.collected (stops_else (g.F.Parser.grammar (g.F.Parser.state c.args.parser.now)).meaning _ _ i.collected
+    (fits c.loop-count-test.true i.length_kept i.collected.held.1) c.in-Err-Incomplete.field-0-is tt
+    (shown_at g.F.Parser.grammar i.state_kept c.in-Err-Incomplete.ensures.shown) (ap Err))
 
 pub returns-in-Err-OutOfMemory-clause-shown : goal.returns-in-Err-OutOfMemory-clause-shown
 returns-in-Err-OutOfMemory-clause-shown g c =
     let i = c.loop-count.invariant in
-    let part = shown_at g.F.Parser.grammar i.state_kept c.in-Err-OutOfMemory.ensures.shown in
-    let below = fits c.loop-count-test.true i.length_kept i.collected.held.1 in
-    items_part_ran_out g.F.Error.ParseError.errors (exact_limits (length c.args.buffer.now)) ⊥ (g.F.Parser.grammar (g.F.Parser.state c.args.parser.now)).meaning
-    i.collected below c.in-Err-OutOfMemory.field-0-is part
+    items_stopped g.F.Error.ParseError.errors (exact_limits (length c.args.buffer.now)) (g.F.Parser.grammar (g.F.Parser.state c.args.parser.now)).meaning
+    i.collected (fits c.loop-count-test.true i.length_kept i.collected.held.1) c.in-Err-OutOfMemory.field-0-is tt
+    (shown_at g.F.Parser.grammar i.state_kept c.in-Err-OutOfMemory.ensures.shown)
 
 pub returns-in-Err-OutOfMemory-clause-filled : goal.returns-in-Err-OutOfMemory-clause-filled
 returns-in-Err-OutOfMemory-clause-filled g c =
     let i = c.loop-count.invariant in
-    let part = shown_at g.F.Parser.grammar i.state_kept c.in-Err-OutOfMemory.ensures.shown in
-    let below = fits c.loop-count-test.true i.length_kept i.collected.held.1 in
-    filled i.collected (stops_without_memory (g.F.Parser.grammar (g.F.Parser.state c.args.parser.now)).meaning _ _ i.collected below
-    c.in-Err-OutOfMemory.field-0-is part refl)
+    filled i.collected (stops_else (g.F.Parser.grammar (g.F.Parser.state c.args.parser.now)).meaning _ _ i.collected
+    (fits c.loop-count-test.true i.length_kept i.collected.held.1) c.in-Err-OutOfMemory.field-0-is tt
+    (shown_at g.F.Parser.grammar i.state_kept c.in-Err-OutOfMemory.ensures.shown) (ap Err))
 
 pub returns-clause-shown : goal.returns-clause-shown
 returns-clause-shown g c =

@@ -4,7 +4,7 @@ use Rattle.nom_repeat.specs.Bounds.{any_limits}
 use Rattle.nom_repeat.specs.Items.{item_turn}
 use Rattle.nom_repeat.specs.Repeat.{TurnsBy}
 use Rattle.nom_repeat.proofs.Repeated.{Collected}
-use Rattle.nom_multi_fold.specs.FoldAlloc.{IsValue}
+use Rattle.nom_multi_fold.specs.FoldAlloc.{IsPresent}
 use Rattle.nom_multi_fold.proofs.FoldsAllocShown.{Reached}
 use Rattle.nom_multi_fold.proofs.alloc_folds.fold_items.Given as goal
 
@@ -14,7 +14,7 @@ invariant-loop-next g l = record {
   collected : Collected g.I.Items.model
       (TurnsBy None (item_turn (any_limits l.fn.kind))
       (λ _. (g.F.Parser.grammar (g.F.Parser.state l.fn.parser)).meaning.answers g.OM.Incomplete.IsStreaming.STREAMING))
-      (λ vs. Built g.OM.Output.Mode.BUILDS (Reached (g.F.Parser.grammar (g.F.Parser.state l.fn.parser)).IsOutput (IsValue l.fn.first)
+      (λ vs. Built g.OM.Output.Mode.BUILDS (Reached (g.F.Parser.grammar (g.F.Parser.state l.fn.parser)).IsOutput (IsPresent l.fn.first)
       (λ r x q. g.G.Fn.post l.fn.fold (r, (x, tt)) q) vs) l.value) l.fn.input l.rest;
 }
 

@@ -1,8 +1,7 @@
 use Rattle.std.proofs.Common.{refl, length}
 use Rattle.nom.proofs.Repeated.{collected_none, consumes, is_shorter}
 use Rattle.nom.proofs.Shown.{accepts}
-use Rattle.nom_precedence.proofs.ChainShown.{chain_ended, chain_failed, chain_lacks, chain_lacks_room, chain_more, chain_ran_out, chain_stuck}
-use Rattle.nom_precedence.proofs.ChainShown.{chain_stuck_within}
+use Rattle.nom_precedence.proofs.ChainShown.{chain_ended, chain_lacks_room, chain_more, chain_stopped, chain_stuck, chain_stuck_within}
 use Rattle.nom_precedence.proofs.HeldShown.{held_built, run_none, run_nested, run_more, run_made}
 use Rattle.nom_precedence.proofs.ReadShown.{at_states, item_of, kept_more, told_ok}
 use Rattle.nom_precedence.proofs.pairs.pairs.Invariants.{pair_at}
@@ -64,16 +63,16 @@ pub returns-in-Err-Failure-clause-shown : goal.returns-in-Err-Failure-clause-sho
 returns-in-Err-Failure-clause-shown g c =
     let i = c.loop-next.invariant in
     let shown = at_states (pair_at g c.args.fold.now (length c.args.levels.now)) i.kept c.in-Err-Failure.ensures.shown in
-    rw c.in-Err-Failure.field-0-is (chain_failed i.collected c.in-Err-Failure.field-0-is shown)
+    rw c.in-Err-Failure.field-0-is (chain_stopped i.collected c.in-Err-Failure.field-0-is tt shown)
 
 pub returns-in-Err-Incomplete-clause-shown : goal.returns-in-Err-Incomplete-clause-shown
 returns-in-Err-Incomplete-clause-shown g c =
     let i = c.loop-next.invariant in
     let shown = at_states (pair_at g c.args.fold.now (length c.args.levels.now)) i.kept c.in-Err-Incomplete.ensures.shown in
-    rw c.in-Err-Incomplete.field-0-is (chain_lacks i.collected c.in-Err-Incomplete.field-0-is shown)
+    rw c.in-Err-Incomplete.field-0-is (chain_stopped i.collected c.in-Err-Incomplete.field-0-is tt shown)
 
 pub returns-in-Err-OutOfMemory-clause-shown : goal.returns-in-Err-OutOfMemory-clause-shown
 returns-in-Err-OutOfMemory-clause-shown g c =
     let i = c.loop-next.invariant in
     let shown = at_states (pair_at g c.args.fold.now (length c.args.levels.now)) i.kept c.in-Err-OutOfMemory.ensures.shown in
-    chain_ran_out i.collected c.in-Err-OutOfMemory.field-0-is shown
+    chain_stopped i.collected c.in-Err-OutOfMemory.field-0-is tt shown

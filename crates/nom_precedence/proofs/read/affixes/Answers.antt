@@ -3,7 +3,7 @@ use Rattle.nom.proofs.Accumulating.{kept_none, kept_ready, built_any, pushed, ro
 use Rattle.nom.proofs.Parts.{shown_at}
 use Rattle.nom.proofs.Repeated.{collected_none, consumes, is_shorter}
 use Rattle.nom.proofs.Shown.{accepts, err_from_residual}
-use Rattle.nom_precedence.proofs.ChainShown.{chain_ended, chain_failed, chain_lacks, chain_lacks_room, chain_more, chain_ran_out, chain_stuck}
+use Rattle.nom_precedence.proofs.ChainShown.{chain_ended, chain_lacks_room, chain_more, chain_stopped, chain_stuck}
 use Rattle.nom_precedence.proofs.ReadShown.{whole_err, whole_item}
 use Rattle.nom_precedence.proofs.read.affixes.Goals as goal
 
@@ -57,14 +57,14 @@ returns-in-Err-Error-clause-shown g c =
 pub returns-in-Err-Failure-clause-shown : goal.returns-in-Err-Failure-clause-shown
 returns-in-Err-Failure-clause-shown g c =
     let i = c.loop-next.invariant in
-    chain_failed i.collected c.in-Err-Failure.field-0-is (whole_err (shown_at g.F.Parser.grammar i.state_kept c.in-Err-Failure.ensures.shown))
+    chain_stopped i.collected c.in-Err-Failure.field-0-is tt (whole_err (shown_at g.F.Parser.grammar i.state_kept c.in-Err-Failure.ensures.shown))
 
 pub returns-in-Err-Incomplete-clause-shown : goal.returns-in-Err-Incomplete-clause-shown
 returns-in-Err-Incomplete-clause-shown g c =
     let i = c.loop-next.invariant in
-    chain_lacks i.collected c.in-Err-Incomplete.field-0-is (whole_err (shown_at g.F.Parser.grammar i.state_kept c.in-Err-Incomplete.ensures.shown))
+    chain_stopped i.collected c.in-Err-Incomplete.field-0-is tt (whole_err (shown_at g.F.Parser.grammar i.state_kept c.in-Err-Incomplete.ensures.shown))
 
 pub returns-in-Err-OutOfMemory-clause-shown : goal.returns-in-Err-OutOfMemory-clause-shown
 returns-in-Err-OutOfMemory-clause-shown g c =
     let i = c.loop-next.invariant in
-    chain_ran_out i.collected c.in-Err-OutOfMemory.field-0-is (whole_err (shown_at g.F.Parser.grammar i.state_kept c.in-Err-OutOfMemory.ensures.shown))
+    chain_stopped i.collected c.in-Err-OutOfMemory.field-0-is tt (whole_err (shown_at g.F.Parser.grammar i.state_kept c.in-Err-OutOfMemory.ensures.shown))

@@ -3,7 +3,7 @@ use Rattle.nom_internal.proofs.Shown.{accepts}
 use Rattle.nom_repeat.specs.Accumulated.{HasRoomFor}
 use Rattle.nom_repeat.specs.Bounds.{exact_limits}
 use Rattle.nom_repeat.specs.Certain.{AreCertain}
-use Rattle.nom_repeat.proofs.Accumulating.{kept_none, kept_ready, built_any, pushed}
+use Rattle.nom_repeat.proofs.Accumulating.{kept_none, kept_ready, pushed}
 use Rattle.nom_repeat.proofs.CertainShown.{certain_given, certain_moves, certain_next}
 use Rattle.nom_repeat.proofs.ItemsShown.{items_more}
 use Rattle.nom_repeat.proofs.Parts.{shown_at}

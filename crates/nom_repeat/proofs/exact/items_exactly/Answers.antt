@@ -6,7 +6,7 @@ use Rattle.nom_repeat.specs.Bounds.{exact_limits}
 use Rattle.nom_repeat.specs.declared.items.TooFew.TheVariants.{Added}
 use Rattle.nom_repeat.proofs.Parts.{shown_at}
 use Rattle.nom_repeat.proofs.Accumulating.{kept_ready, built_any, pushed, room_built, room_grows}
-use Rattle.nom_repeat.proofs.ItemsShown.{items_full, items_too_few, items_failed, items_lack, items_part_ran_out, items_lack_room, items_more}
+use Rattle.nom_repeat.proofs.ItemsShown.{items_full, items_too_few, items_stopped, items_lack_room, items_more}
 use Rattle.nom_repeat.proofs.Places.{is_below, is_over, one_longer}
 use Rattle.nom_repeat.proofs.exact.items_exactly.Goals as goal
 
@@ -66,27 +66,22 @@ returns-in-Err-Error-clause-shown g c =
 pub returns-in-Err-Failure-clause-shown : goal.returns-in-Err-Failure-clause-shown
 returns-in-Err-Failure-clause-shown g c =
     let i = c.loop-done.invariant in
-    let part = shown_at g.F.Parser.grammar i.state_kept c.in-Err-Failure.ensures.shown in
-    items_failed g.F.Error.ParseError.errors (exact_limits c.args.count) g.K.Accumulator.Grows (g.F.Parser.grammar (g.F.Parser.state c.args.parser.now)).meaning
-    i.collected
-    (is_below c.loop-done-test.true i.collected.held.1) c.in-Err-Failure.field-0-is part
+    items_stopped g.F.Error.ParseError.errors (exact_limits c.args.count) (g.F.Parser.grammar (g.F.Parser.state c.args.parser.now)).meaning i.collected
+    (is_below c.loop-done-test.true i.collected.held.1) c.in-Err-Failure.field-0-is tt (shown_at g.F.Parser.grammar i.state_kept c.in-Err-Failure.ensures.shown)
 
 pub returns-in-Err-Incomplete-clause-shown : goal.returns-in-Err-Incomplete-clause-shown
 returns-in-Err-Incomplete-clause-shown g c =
     let i = c.loop-done.invariant in
-    let part = shown_at g.F.Parser.grammar i.state_kept c.in-Err-Incomplete.ensures.shown in
-    items_lack g.F.Error.ParseError.errors (exact_limits c.args.count) g.K.Accumulator.Grows (g.F.Parser.grammar (g.F.Parser.state c.args.parser.now)).meaning
-    i.collected
-    (is_below c.loop-done-test.true i.collected.held.1) c.in-Err-Incomplete.field-0-is part
+    items_stopped g.F.Error.ParseError.errors (exact_limits c.args.count) (g.F.Parser.grammar (g.F.Parser.state c.args.parser.now)).meaning i.collected
+    (is_below c.loop-done-test.true i.collected.held.1) c.in-Err-Incomplete.field-0-is tt
+    (shown_at g.F.Parser.grammar i.state_kept c.in-Err-Incomplete.ensures.shown)
 
 pub returns-in-Err-OutOfMemory-clause-shown : goal.returns-in-Err-OutOfMemory-clause-shown
 returns-in-Err-OutOfMemory-clause-shown g c =
     let i = c.loop-done.invariant in
-    let part = shown_at g.F.Parser.grammar i.state_kept c.in-Err-OutOfMemory.ensures.shown in
-    items_part_ran_out g.F.Error.ParseError.errors (exact_limits c.args.count) g.K.Accumulator.Grows
-    (g.F.Parser.grammar (g.F.Parser.state c.args.parser.now)).meaning
-    i.collected
-    (is_below c.loop-done-test.true i.collected.held.1) c.in-Err-OutOfMemory.field-0-is part
+    items_stopped g.F.Error.ParseError.errors (exact_limits c.args.count) (g.F.Parser.grammar (g.F.Parser.state c.args.parser.now)).meaning i.collected
+    (is_below c.loop-done-test.true i.collected.held.1) c.in-Err-OutOfMemory.field-0-is tt
+    (shown_at g.F.Parser.grammar i.state_kept c.in-Err-OutOfMemory.ensures.shown)
 
 pub returns-clause-shown : goal.returns-clause-shown
 returns-clause-shown g c =

@@ -3,7 +3,7 @@ use Rattle.nom_internal.proofs.Shown.{accepts, err_from_residual}
 use Rattle.nom_repeat.proofs.Repeated.{collected_as, is_empty}
 use Rattle.nom_repeat.proofs.Counted.{counts_all, counts_more, are_below, below, at_bound, few_items, enough_items, left_falls}
 use Rattle.nom_repeat.proofs.Accumulating.{kept_ready, built_any, pushed, room_built, room_grows}
-use Rattle.nom_repeat.proofs.ItemsShown.{items_full, items_refused, items_too_few, items_failed, items_lack, items_part_ran_out, items_stuck}
+use Rattle.nom_repeat.proofs.ItemsShown.{items_full, items_refused, items_too_few, items_stopped, items_stuck}
 use Rattle.nom_repeat.proofs.ItemsShown.{items_lack_room, items_more, moves, part_at, some_few}
 use Rattle.nom_internal.proofs.Consumed.{rest_length}
 use Rattle.nom_repeat.proofs.items.items.Goals as goal
@@ -100,21 +100,20 @@ returns-in-Err-Error-clause-shown g c =
 pub returns-in-Err-Failure-clause-shown : goal.returns-in-Err-Failure-clause-shown
 returns-in-Err-Failure-clause-shown g c =
     let i = c.loop-input.invariant in
-    let part = part_at g.F.Parser.grammar c.requires.errors i.state_kept c.in-Err-Failure.ensures.shown in
-    items_failed g.F.Error.ParseError.errors c.args.limits g.K.Accumulator.Grows (g.F.Parser.grammar (g.F.Parser.state c.args.parser.now)).meaning i.collected
-    (below _ _ _ i.collected.held.1 (c.is_full.ensures.below c.if-is_full.false)) c.in-Err-Failure.field-0-is part
+    items_stopped g.F.Error.ParseError.errors c.args.limits (g.F.Parser.grammar (g.F.Parser.state c.args.parser.now)).meaning i.collected
+    (below _ _ _ i.collected.held.1 (c.is_full.ensures.below c.if-is_full.false)) c.in-Err-Failure.field-0-is tt
+    (part_at g.F.Parser.grammar c.requires.errors i.state_kept c.in-Err-Failure.ensures.shown)
 
 pub returns-in-Err-Incomplete-clause-shown : goal.returns-in-Err-Incomplete-clause-shown
 returns-in-Err-Incomplete-clause-shown g c =
     let i = c.loop-input.invariant in
-    let part = part_at g.F.Parser.grammar c.requires.errors i.state_kept c.in-Err-Incomplete.ensures.shown in
-    items_lack g.F.Error.ParseError.errors c.args.limits g.K.Accumulator.Grows (g.F.Parser.grammar (g.F.Parser.state c.args.parser.now)).meaning i.collected
-    (below _ _ _ i.collected.held.1 (c.is_full.ensures.below c.if-is_full.false)) c.in-Err-Incomplete.field-0-is part
+    items_stopped g.F.Error.ParseError.errors c.args.limits (g.F.Parser.grammar (g.F.Parser.state c.args.parser.now)).meaning i.collected
+    (below _ _ _ i.collected.held.1 (c.is_full.ensures.below c.if-is_full.false)) c.in-Err-Incomplete.field-0-is tt
+    (part_at g.F.Parser.grammar c.requires.errors i.state_kept c.in-Err-Incomplete.ensures.shown)
 
 pub returns-in-Err-OutOfMemory-clause-shown : goal.returns-in-Err-OutOfMemory-clause-shown
 returns-in-Err-OutOfMemory-clause-shown g c =
     let i = c.loop-input.invariant in
-    let part = part_at g.F.Parser.grammar c.requires.errors i.state_kept c.in-Err-OutOfMemory.ensures.shown in
-    items_part_ran_out g.F.Error.ParseError.errors c.args.limits g.K.Accumulator.Grows (g.F.Parser.grammar (g.F.Parser.state c.args.parser.now)).meaning
-    i.collected
-    (below _ _ _ i.collected.held.1 (c.is_full.ensures.below c.if-is_full.false)) c.in-Err-OutOfMemory.field-0-is part
+    items_stopped g.F.Error.ParseError.errors c.args.limits (g.F.Parser.grammar (g.F.Parser.state c.args.parser.now)).meaning i.collected
+    (below _ _ _ i.collected.held.1 (c.is_full.ensures.below c.if-is_full.false)) c.in-Err-OutOfMemory.field-0-is tt
+    (part_at g.F.Parser.grammar c.requires.errors i.state_kept c.in-Err-OutOfMemory.ensures.shown)

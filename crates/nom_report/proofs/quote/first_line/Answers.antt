@@ -1,4 +1,4 @@
-use Rattle.nom_report.proofs.Lines.{first_is, first_is_all}
+use Rattle.nom_report.proofs.QuotedLines.{first_is, first_is_all}
 use Rattle.nom_report.proofs.quote.first_line.Goals as goal
 
 pub returns-in-Some : goal.returns-in-Some

@@ -1,4 +1,4 @@
-use Rattle.nom_report.proofs.Lines.{last_is, last_is_all}
+use Rattle.nom_report.proofs.QuotedLines.{last_is, last_is_all}
 use Rattle.nom_report.proofs.quote.last_line.Goals as goal
 
 pub returns-in-Some : goal.returns-in-Some

@@ -1,4 +1,4 @@
-use Rattle.nom_report.proofs.Lines.{no_return}
+use Rattle.nom_report.proofs.QuotedLines.{no_return}
 use Rattle.nom_report.proofs.quote.without_return.Goals as goal
 
 pub returns-in-None : goal.returns-in-None

@@ -1,12 +1,12 @@
 use Rattle.std.proofs.Common.{◌≡◌, ℕ, ◌<◌, ◌-◌, [], map, length, slice_index, slice_index_or}
 use Rattle.nom_run.specs.Runs.{NeverFalls}
-use Rattle.nom_run.specs.Words.{IsNumber, word_number}
+use Rattle.nom_run.specs.Words.{IsDecimalSize, word_number}
 use Rattle.nom_run.proofs.words.read_cuts.Given as goal
 
 abbrev pub invariant-loop-word : goal.invariant-loop-word
 invariant-loop-word g l = record {
   lengths : length l.cuts.items ≡ l.word-index;
-  each : (k : ℕ) → k < l.word-index → IsNumber (slice_index_or (map (λ w. w.now) l.words) k []) ×
+  each : (k : ℕ) → k < l.word-index → IsDecimalSize (slice_index_or (map (λ w. w.now) l.words) k []) ×
       (slice_index l.cuts.items k ≡ word_number (slice_index_or (map (λ w. w.now) l.words) k []));
   ordered : NeverFalls l.cuts.items;
   first : l.word-index ≡ 0 → l.floor ≡ 0;

@@ -1,7 +1,7 @@
 use Rattle.std.proofs.Common.{[]}
 use Rattle.nom_internal.proofs.Shown.{accepts, err_from_residual}
 use Rattle.nom_repeat.proofs.Accumulating.{built_any, kept_none, pushed, room_built, room_grows}
-use Rattle.nom_separated.proofs.SeparatedShown.{first_missing, first_found, first_failed, first_lacks, first_lacks_room, nothing_yet}
+use Rattle.nom_separated.proofs.SeparatedShown.{first_missing, first_found, first_stopped, first_lacks_room, nothing_yet}
 use Rattle.nom_separated.proofs.separated_lists.first_item.Goals as goal
 
 pub push_item-requires-clause-item : goal.push_item-requires-clause-item
@@ -43,15 +43,10 @@ returns-in-Err-Error-clause-shown g c =
 
 pub returns-in-Err-Failure-clause-shown : goal.returns-in-Err-Failure-clause-shown
 returns-in-Err-Failure-clause-shown g c =
-    first_failed g.met.I.Items.lawful g.F.Error.ParseError.errors g.K.Accumulator.Grows (g.F.Parser.grammar (g.F.Parser.state c.args.parser.now)).meaning
-    g.K.Accumulator.Pushes g.K.Accumulator.CanPush (g.F.Parser.grammar (g.F.Parser.state c.args.parser.now)).IsOutput c.args.before _ _ _
-    (nothing_yet g.met.I.Items.lawful ((g.F.Parser.grammar (g.F.Parser.state c.args.parser.now)).meaning.answers g.OM.Incomplete.IsStreaming.STREAMING)
-    c.prove_known.ensures) c.in-Err-Failure.field-0-is c.in-Err-Failure.ensures.shown
+    first_stopped g.met.I.Items.lawful g.F.Error.ParseError.errors (g.F.Parser.grammar (g.F.Parser.state c.args.parser.now)).meaning c.prove_known.ensures
+    c.in-Err-Failure.field-0-is tt c.in-Err-Failure.ensures.shown
 
 pub returns-in-Err-Incomplete-clause-shown : goal.returns-in-Err-Incomplete-clause-shown
 returns-in-Err-Incomplete-clause-shown g c =
-    first_lacks g.met.I.Items.lawful g.F.Error.ParseError.errors g.K.Accumulator.Grows (g.F.Parser.grammar (g.F.Parser.state c.args.parser.now)).meaning
-    g.K.Accumulator.Pushes
-    g.K.Accumulator.CanPush (g.F.Parser.grammar (g.F.Parser.state c.args.parser.now)).IsOutput c.args.before _ _ _
-    (nothing_yet g.met.I.Items.lawful ((g.F.Parser.grammar (g.F.Parser.state c.args.parser.now)).meaning.answers g.OM.Incomplete.IsStreaming.STREAMING)
-    c.prove_known.ensures) c.in-Err-Incomplete.field-0-is c.in-Err-Incomplete.ensures.shown
+    first_stopped g.met.I.Items.lawful g.F.Error.ParseError.errors (g.F.Parser.grammar (g.F.Parser.state c.args.parser.now)).meaning c.prove_known.ensures
+    c.in-Err-Incomplete.field-0-is tt c.in-Err-Incomplete.ensures.shown

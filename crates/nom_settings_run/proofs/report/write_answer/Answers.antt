@@ -1,12 +1,12 @@
 use Rattle.std.proofs.Common.{ap, subst, sym, ◌∙◌}
 use Rattle.nom_run.proofs.Built.{built_is, tells_other}
-use Rattle.nom_settings_run.specs.Report.{IsAnswerReport, IsStopReport, sections_text}
+use Rattle.nom_settings_run.specs.Report.{IsSettingsReport, IsStopLine, sections_text}
 use Rattle.nom_settings_run.proofs.report.write_answer.Goals as goal
 
 pub returns-in-Ok : goal.returns-in-Ok
-returns-in-Ok g c = tells_other (λ text status h. subst (λ r. IsAnswerReport r text status) (sym c.in-Ok.is)
+returns-in-Ok g c = tells_other (λ text status h. subst (λ r. IsSettingsReport r text status) (sym c.in-Ok.is)
     (h.0 ∙ ap (λ os. sections_text os) c.deref.ensures.value, h.1)) c.write_sections.ensures
 
 pub returns-in-Err : goal.returns-in-Err
-returns-in-Err g c = tells_other (λ text status b. subst (λ r. IsAnswerReport r text status) (sym c.in-Err.is)
-    (built_is (IsStopReport c.in-Err.stop) c.tell_stop.result c.tell_stop.ensures text status b)) c.write_built.ensures
+returns-in-Err g c = tells_other (λ text status b. subst (λ r. IsSettingsReport r text status) (sym c.in-Err.is)
+    (built_is (IsStopLine c.in-Err.stop) c.tell_stop.result c.tell_stop.ensures text status b)) c.write_built.ensures

@@ -1,7 +1,7 @@
 use Rattle.std.proofs.Common.{◌-◌, ◌+◌, ◌*◌, ◌<◌, ◌≡◌, ◌++◌, suc, arith, length, drop, subst}
 use Rattle.std.specs.Prelude.{min}
 use Rattle.nom_values.specs.Dumps.{dump_lines, hex_dump}
-use Rattle.nom_values.proofs.Lines.{lines_start, lines_end, line_step, part_is}
+use Rattle.nom_values.proofs.DumpLines.{lines_start, lines_end, line_step, part_is}
 use Rattle.nom_values.proofs.dump.dump_bytes.Goals as goal
 
 pub loop-passed-init : goal.loop-passed-init

@@ -1,6 +1,6 @@
 use Rattle.std.proofs.Common.{◌++◌, ap, ◌∙◌, ◌*◌, append_assoc}
 use Rattle.std.specs.Prelude.{replicate}
-use Rattle.nom_values.proofs.Lines.{blanks_more}
+use Rattle.nom_values.proofs.DumpLines.{blanks_more}
 use Rattle.nom_values.proofs.dump.push_blanks.Goals as goal
 
 pub loop-byte-preserved : goal.loop-byte-preserved

@@ -2,7 +2,7 @@ use Rattle.std.proofs.Common.{◌-◌, ◌*◌, ◌++◌, ap, ◌∙◌, false, 
 use Rattle.std.specs.Prelude.{replicate, flat_map, map}
 use Rattle.std.specs.Fmt.{digits, padded_integral, shown_prefix, radix_prefix}
 use Rattle.nom_values.specs.Dumps.{hex_byte, shown_byte, offset_digits}
-use Rattle.nom_values.proofs.Lines.{offset_written, line_joined}
+use Rattle.nom_values.proofs.DumpLines.{offset_written, line_joined}
 use Rattle.nom_values.proofs.dump.push_line.Goals as goal
 
 pub returns : goal.returns

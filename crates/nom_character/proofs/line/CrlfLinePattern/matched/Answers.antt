@@ -1,5 +1,5 @@
 use Rattle.std.proofs.Common.{arith}
-use Rattle.nom_character.proofs.Lines.{is_code, crlf_shown}
+use Rattle.nom_character.proofs.LineMatching.{is_code, crlf_shown}
 use Rattle.nom_character.proofs.line.CrlfLinePattern.matched.Goals as goal
 
 pub returns-in-Some : goal.returns-in-Some

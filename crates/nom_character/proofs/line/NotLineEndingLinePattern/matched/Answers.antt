@@ -1,7 +1,7 @@
 use Rattle.std.proofs.Common.{◌≡◌, false, rules, sym, ◌∙◌, subst}
 use Rattle.nom_internal.specs.Prelude.{IsSuffixOf}
 use Rattle.nom_character.specs.LineMatches.{is_line_code}
-use Rattle.nom_character.proofs.Lines.{end_head, line_shown, all_stands, all_begins}
+use Rattle.nom_character.proofs.LineMatching.{end_head, line_shown, all_stands, all_begins}
 use Rattle.nom_character.proofs.line.NotLineEndingLinePattern.matched.Goals as goal
 
 pub line_end_at-requires : goal.line_end_at-requires

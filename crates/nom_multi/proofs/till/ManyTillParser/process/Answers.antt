@@ -1,13 +1,12 @@
 use Rattle.std.proofs.Common.{◌≤◌, refl, ◌∙◌}
 use Rattle.std.specs.Prelude.{vec_len, vec_capacity}
 use Rattle.std.specs.List.{AllZip}
-use Rattle.nom_internal.specs.Prelude.{modes}
 use Rattle.nom_internal.proofs.Shown.{accepts, both_built, built_error, err_from_residual}
 use Rattle.nom_repeat.proofs.Accumulating.{built_any, room_built}
 use Rattle.nom_repeat.proofs.Repeated.{collected_none, is_empty, consumes, is_shorter}
 use Rattle.nom_multi.specs.Till.{end_or_item}
-use Rattle.nom_multi.proofs.TillShown.{is_end, is_item, stands_at, till_ended, till_stuck, till_lacks_room, till_more, till_refused, till_failed}
-use Rattle.nom_multi.proofs.TillShown.{till_lacks, till_ran_out, list_pushed}
+use Rattle.nom_multi.proofs.TillShown.{is_end, is_item, stands_at, till_ended, till_stuck, till_lacks_room, till_more, till_refused, till_stopped}
+use Rattle.nom_multi.proofs.TillShown.{list_pushed}
 use Rattle.nom_multi.proofs.till.ManyTillParser.process.Goals as goal
 
 pub loop-next-init : goal.loop-next-init
@@ -25,10 +24,7 @@ returns-in-End-clause-shown g c =
     let end = is_end _ (g.G.Parser.grammar (g.G.Parser.state c.args.self.now.end)).IsOutput
     (g.F.Parser.grammar (g.F.Parser.state c.args.self.now.parser)).IsOutput found.tree c.emitted.ensures c.in-End.is found.built_is in
     till_ended g.F.Error.ParseError.errors (g.F.Parser.grammar (g.F.Parser.state c.args.self.now.parser)).meaning
-    (g.G.Parser.grammar (g.G.Parser.state c.args.self.now.end)).meaning
-    (λ t o. AllZip (g.F.Parser.grammar (g.F.Parser.state c.args.self.now.parser)).IsOutput t.0 o.0.items ×
-    (g.G.Parser.grammar (g.G.Parser.state c.args.self.now.end)).IsOutput t.1 o.1)
-    (modes g.OM.Output.Mode.BUILDS g.OM.Error.Mode.BUILDS g.OM.Incomplete.IsStreaming.STREAMING) i.collected g.met.I.Items.lawful end.0 found.answered
+    (g.G.Parser.grammar (g.G.Parser.state c.args.self.now.end)).meaning i.collected g.met.I.Items.lawful end.0 found.answered
     end.1 found.rest_is _ (both_built (λ list. AllZip (g.F.Parser.grammar (g.F.Parser.state c.args.self.now.parser)).IsOutput i.collected.trees list.items)
     ((g.G.Parser.grammar (g.G.Parser.state c.args.self.now.end)).IsOutput end.0) _ _ _ _ i.collected.held end.2 c.combine.ensures.both c.combine.ensures.none)
 
@@ -40,10 +36,7 @@ returns-then-input_len-clause-shown g c =
     let item = is_item _ (g.G.Parser.grammar (g.G.Parser.state c.args.self.now.end)).IsOutput
     (g.F.Parser.grammar (g.F.Parser.state c.args.self.now.parser)).IsOutput found.tree c.emitted.ensures c.in-Item.is found.built_is in
     till_stuck g.F.Error.ParseError.errors (g.F.Parser.grammar (g.F.Parser.state c.args.self.now.parser)).meaning
-    (g.G.Parser.grammar (g.G.Parser.state c.args.self.now.end)).meaning
-    (λ t o. AllZip (g.F.Parser.grammar (g.F.Parser.state c.args.self.now.parser)).IsOutput t.0 o.0.items ×
-    (g.G.Parser.grammar (g.G.Parser.state c.args.self.now.end)).IsOutput t.1 o.1)
-    (modes g.OM.Output.Mode.BUILDS g.OM.Error.Mode.BUILDS g.OM.Incomplete.IsStreaming.STREAMING) i.collected item.0 found.answered item.1
+    (g.G.Parser.grammar (g.G.Parser.state c.args.self.now.end)).meaning i.collected item.0 found.answered item.1
     (is_empty found.rest_is c.input_len.ensures c.input_len-in-Item.ensures c.if-input_len.true) _ c.refusal.ensures
 
 pub push_item-requires-clause-kept : goal.push_item-requires-clause-kept
@@ -63,10 +56,7 @@ returns-in_err-push_item-in-Item-clause-shown g c =
     (g.F.Parser.grammar (g.F.Parser.state c.args.self.now.parser)).IsOutput found.tree c.emitted.ensures c.in-Item.is found.built_is in
     rw (err_from_residual c.from_residual.ensures) (
     till_lacks_room g.F.Error.ParseError.errors (g.F.Parser.grammar (g.F.Parser.state c.args.self.now.parser)).meaning
-    (g.G.Parser.grammar (g.G.Parser.state c.args.self.now.end)).meaning
-    (λ t o. AllZip (g.F.Parser.grammar (g.F.Parser.state c.args.self.now.parser)).IsOutput t.0 o.0.items ×
-    (g.G.Parser.grammar (g.G.Parser.state c.args.self.now.end)).IsOutput t.1 o.1)
-    (modes g.OM.Output.Mode.BUILDS g.OM.Error.Mode.BUILDS g.OM.Incomplete.IsStreaming.STREAMING) i.collected item.0 found.answered item.1
+    (g.G.Parser.grammar (g.G.Parser.state c.args.self.now.end)).meaning i.collected item.0 found.answered item.1
     (consumes found.rest_is c.input_len.ensures c.input_len-in-Item.ensures c.if-input_len.false)
     (room_built (λ list. vec_capacity list ≤ vec_len list) _ _ _ i.collected.held c.in_err-push_item-in-Item.ensures.full))
 
@@ -99,38 +89,26 @@ returns-in-Err-Error-clause-shown g c =
     let i = c.loop-next.invariant in
     let told = stands_at g.G.Parser.grammar g.F.Parser.grammar i.end_kept i.parser_kept c.in-Err-Error.ensures.shown in
     till_refused g.F.Error.ParseError.errors (g.F.Parser.grammar (g.F.Parser.state c.args.self.now.parser)).meaning
-    (g.G.Parser.grammar (g.G.Parser.state c.args.self.now.end)).meaning
-    (λ t o. AllZip (g.F.Parser.grammar (g.F.Parser.state c.args.self.now.parser)).IsOutput t.0 o.0.items ×
-    (g.G.Parser.grammar (g.G.Parser.state c.args.self.now.end)).IsOutput t.1 o.1)
-    (modes g.OM.Output.Mode.BUILDS g.OM.Error.Mode.BUILDS g.OM.Incomplete.IsStreaming.STREAMING) i.collected told c.in-Err-Error.field-0-is _
+    (g.G.Parser.grammar (g.G.Parser.state c.args.self.now.end)).meaning i.collected told c.in-Err-Error.field-0-is _
     c.close_error.ensures
 
 pub returns-in-Err-Failure-clause-shown : goal.returns-in-Err-Failure-clause-shown
 returns-in-Err-Failure-clause-shown g c =
     let i = c.loop-next.invariant in
     let told = stands_at g.G.Parser.grammar g.F.Parser.grammar i.end_kept i.parser_kept c.in-Err-Failure.ensures.shown in
-    till_failed g.F.Error.ParseError.errors (g.F.Parser.grammar (g.F.Parser.state c.args.self.now.parser)).meaning
-    (g.G.Parser.grammar (g.G.Parser.state c.args.self.now.end)).meaning
-    (λ t o. AllZip (g.F.Parser.grammar (g.F.Parser.state c.args.self.now.parser)).IsOutput t.0 o.0.items ×
-    (g.G.Parser.grammar (g.G.Parser.state c.args.self.now.end)).IsOutput t.1 o.1)
-    (modes g.OM.Output.Mode.BUILDS g.OM.Error.Mode.BUILDS g.OM.Incomplete.IsStreaming.STREAMING) i.collected told c.in-Err-Failure.field-0-is
+    till_stopped g.F.Error.ParseError.errors (g.F.Parser.grammar (g.F.Parser.state c.args.self.now.parser)).meaning
+    (g.G.Parser.grammar (g.G.Parser.state c.args.self.now.end)).meaning i.collected told c.in-Err-Failure.field-0-is tt
 
 pub returns-in-Err-Incomplete-clause-shown : goal.returns-in-Err-Incomplete-clause-shown
 returns-in-Err-Incomplete-clause-shown g c =
     let i = c.loop-next.invariant in
     let told = stands_at g.G.Parser.grammar g.F.Parser.grammar i.end_kept i.parser_kept c.in-Err-Incomplete.ensures.shown in
-    till_lacks g.F.Error.ParseError.errors (g.F.Parser.grammar (g.F.Parser.state c.args.self.now.parser)).meaning
-    (g.G.Parser.grammar (g.G.Parser.state c.args.self.now.end)).meaning
-    (λ t o. AllZip (g.F.Parser.grammar (g.F.Parser.state c.args.self.now.parser)).IsOutput t.0 o.0.items ×
-    (g.G.Parser.grammar (g.G.Parser.state c.args.self.now.end)).IsOutput t.1 o.1)
-    (modes g.OM.Output.Mode.BUILDS g.OM.Error.Mode.BUILDS g.OM.Incomplete.IsStreaming.STREAMING) i.collected told c.in-Err-Incomplete.field-0-is
+    till_stopped g.F.Error.ParseError.errors (g.F.Parser.grammar (g.F.Parser.state c.args.self.now.parser)).meaning
+    (g.G.Parser.grammar (g.G.Parser.state c.args.self.now.end)).meaning i.collected told c.in-Err-Incomplete.field-0-is tt
 
 pub returns-in-Err-OutOfMemory-clause-shown : goal.returns-in-Err-OutOfMemory-clause-shown
 returns-in-Err-OutOfMemory-clause-shown g c =
     let i = c.loop-next.invariant in
     let told = stands_at g.G.Parser.grammar g.F.Parser.grammar i.end_kept i.parser_kept c.in-Err-OutOfMemory.ensures.shown in
-    till_ran_out g.F.Error.ParseError.errors (g.F.Parser.grammar (g.F.Parser.state c.args.self.now.parser)).meaning
-    (g.G.Parser.grammar (g.G.Parser.state c.args.self.now.end)).meaning
-    (λ t o. AllZip (g.F.Parser.grammar (g.F.Parser.state c.args.self.now.parser)).IsOutput t.0 o.0.items ×
-    (g.G.Parser.grammar (g.G.Parser.state c.args.self.now.end)).IsOutput t.1 o.1)
-    (modes g.OM.Output.Mode.BUILDS g.OM.Error.Mode.BUILDS g.OM.Incomplete.IsStreaming.STREAMING) i.collected told c.in-Err-OutOfMemory.field-0-is
+    till_stopped g.F.Error.ParseError.errors (g.F.Parser.grammar (g.F.Parser.state c.args.self.now.parser)).meaning
+    (g.G.Parser.grammar (g.G.Parser.state c.args.self.now.end)).meaning i.collected told c.in-Err-OutOfMemory.field-0-is tt

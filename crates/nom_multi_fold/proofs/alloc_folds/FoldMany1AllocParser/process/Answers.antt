@@ -4,7 +4,7 @@ use Rattle.nom_internal.specs.Prelude.{modes}
 use Rattle.nom_internal.proofs.Shown.{accepts, then_err, then_ok}
 use Rattle.nom_repeat.specs.Bounds.{any_limits}
 use Rattle.nom_repeat.proofs.Parts.{shown_as, shown_at}
-use Rattle.nom_multi_fold.specs.FoldAlloc.{IsValue, first_and_later, folded_meaning}
+use Rattle.nom_multi_fold.specs.FoldAlloc.{IsPresent, first_and_later, folded_meaning}
 use Rattle.nom_multi_fold.proofs.FoldsAllocShown.{Reached, begun_lacks, begun_shown, first_made, folds_after, shown_from, value_itself, value_of}
 use Rattle.nom_multi_fold.proofs.OneFolded.{first_limits}
 use Rattle.nom_multi_fold.proofs.alloc_folds.FoldMany1AllocParser.process.Goals as goal
@@ -52,8 +52,8 @@ returns-clause-shown g c =
     let more = shown_at (λ z. record {
       meaning = folded_meaning g.I.Items.model errs (g.F.Parser.grammar z).IsOutput (λ r x q. g.G.Fn.post c.args.self.now.fold (r, (x, tt)) q)
           (g.F.Parser.grammar z).meaning
-          (any_limits Kind.Many1) (IsValue c.in_ok-rest.first);
-      IsOutput = Reached (g.F.Parser.grammar z).IsOutput (IsValue c.in_ok-rest.first) (λ r x q. g.G.Fn.post c.args.self.now.fold (r, (x, tt)) q);
+          (any_limits Kind.Many1) (IsPresent c.in_ok-rest.first);
+      IsOutput = Reached (g.F.Parser.grammar z).IsOutput (IsPresent c.in_ok-rest.first) (λ r x q. g.G.Fn.post c.args.self.now.fold (r, (x, tt)) q);
     }) c.in_ok-rest.ensures.kept c.fold_items.ensures.shown in
     begun_shown (λ r. g.H.Fn.post c.args.self.now.init tt r) (first_and_later g.I.Items.model errs grammar.IsOutput
     (λ r x q. g.G.Fn.post c.args.self.now.fold (r, (x, tt)) q) grammar.meaning

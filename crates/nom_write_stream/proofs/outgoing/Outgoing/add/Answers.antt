@@ -1,6 +1,6 @@
 use Rattle.std.proofs.Common.{◌≡◌, ◌∙◌, None, length, arith, refl, subst, sym}
 use Rattle.nom_sink.proofs.Lists.{undone}
-use Rattle.nom_write_stream.specs.Outgoing.{AreBytes}
+use Rattle.nom_write_stream.specs.Outgoing.{FitsInput}
 use Rattle.nom_write_stream.specs.Reasons.{why_unwritten}
 use Rattle.nom_write_stream.proofs.Adding.{added_item, no_room_now, too_long}
 use Rattle.nom_write_stream.proofs.outgoing.Outgoing.add.Goals as goal
@@ -24,7 +24,7 @@ returns-else-end-start-clause-added g c =
     let w = c.in-Ok.ensures.written in
     added_item (g.P.Writer.Form c.args.writer.now c.args.value.now) (g.P.Writer.Fails c.args.writer.now c.args.value.now) c.args.self.now.most
     c.len-start.result c.len-end.result old.items w.0 new.items (c.len-start.ensures ∙ old.ok.0) (c.len-end.ensures ∙ new.ok.0) w.1 w.2
-    c.if-end-self.false c.if-end-start.false (subst AreBytes c.as_slice.ensures.value c.prove_known.ensures)
+    c.if-end-self.false c.if-end-start.false (subst FitsInput c.as_slice.ensures.value c.prove_known.ensures)
 
 pub returns-in-None-clause-added : goal.returns-in-None-clause-added
 returns-in-None-clause-added g c =

@@ -4,7 +4,7 @@ use Rattle.std.specs.Prelude.{Option, None, Some, Result, Ok, Err, codes}
 use Rattle.std.specs.Fmt.{decimal}
 use Rattle.std.specs.List.{before_first}
 use Rattle.nom_located.specs.Lines.{begins_character}
-use Rattle.nom_stream.specs.Lines.{line_of}
+use Rattle.nom_stream.specs.ReaderLines.{line_of}
 use Rattle.nom_io.specs.Account.{Account}
 use Rattle.nom_io.specs.Written.{Wrote, WroteFront}
 use Rattle.nom_run.specs.declared.error.RunError.{RunError}
@@ -40,14 +40,14 @@ IsLine number inside bytes text before then_ =
     (IsJson bytes × (text ≡ []) × (then_ ≡ before)) ⊎ (IsLineText number inside bytes text × (then_ ≡ true))
 
 -- no line comes, other than for a limit or for want of memory: so it is where a read failed
-abbrev pub IsUnread : Stops.Stop → Type 0
-IsUnread (Stop.Refused kind len) = Unit {0}
-IsUnread (Stop.Failed kind len) = Unit {0}
-IsUnread Stop.Nothing = Unit {0}
-IsUnread (Stop.Incomplete needed) = Unit {0}
-IsUnread Stop.TooLong = ⊥
-IsUnread (Stop.Fault error) = Unit {0}
-IsUnread Stop.OutOfMemory = ⊥
+abbrev pub StopsAtRead : Stops.Stop → Type 0
+StopsAtRead (Stop.Refused kind len) = Unit {0}
+StopsAtRead (Stop.Failed kind len) = Unit {0}
+StopsAtRead Stop.Nothing = Unit {0}
+StopsAtRead (Stop.Incomplete needed) = Unit {0}
+StopsAtRead Stop.TooLong = ⊥
+StopsAtRead (Stop.Fault error) = Unit {0}
+StopsAtRead Stop.OutOfMemory = ⊥
 
 -- So many lines came, from one state of a stream to another: the text is that of those which are no JSON text, in order, and whether
 -- there are any. (The end of a line is white space, so that a line may be taken with it.)
@@ -82,7 +82,7 @@ module _ {R A : Type 0} (left : R → Option (List ℕ)) (s t : Stream R A) (a b
   -- the stream gave no line after them, and says why; or they are as many as can be counted
   abbrev pub ReadsNoLine : Type 0
   ReadsNoLine = (count : ℕ) × (before : Stream R A) × (wrong : Bool) × Going left s before a b count wrong ×
-      (((why : Stops.Stop) × Decides left line_of before t (Err why) × IsUnread why) ⊎ ((count ≡ 2 ^ 64 - 1) × (t ≡ before)))
+      (((why : Stops.Stop) × Decides left line_of before t (Err why) × StopsAtRead why) ⊎ ((count ≡ 2 ^ 64 - 1) × (t ≡ before)))
 
   -- and a beginning of what is told of that one, until a write failed
   abbrev pub BeginsNext : Type 0
