@@ -1,8 +1,13 @@
 -- Tags.
-use Rattle.std.specs.Prelude.{◌≡◌, ℕ, ◌-◌, false, ◌⊎◌, List, Some}
+use Rattle.std.specs.Prelude.{◌≡◌, ℕ, ◌-◌, Bool, true, false, ◌⊎◌, List, Some}
 use Rattle.nom_error.specs.declared.kind.ErrorKind.TheVariants as Kind
 use Rattle.nom_internal.specs.Prelude.{Errors, CompareResult, Model, input_len, Slice, IsFirst, Meaning, Leaf, leaf_meaning}
 use Rattle.nom_traits.specs.declared.compare.CompareResult.TheVariants as Compared
+
+-- how lists compare with a tag: as they are, or without regard to the case of ASCII letters
+abbrev pub compares_by : {T L : Type 0} → (Compares Ignores : T → L → CompareResult → Type 0) → (ignores_case : Bool) → T → L → CompareResult → Type 0
+compares_by Compares Ignores false = Compares
+compares_by Compares Ignores true = Ignores
 
 module _ {I A : Type 0} (w : Model I A) where
   -- a tag that is a front; where the input is a proper front of the tag, what is lacking is needed, or in the complete mode it is refused; else it is refused

@@ -1,9 +1,9 @@
 //! The parsers that `take` and `tag` return.
-ghost use Rattle.std.specs.Prelude.{ℕ};
-ghost use Rattle.nom_internal.specs.Prelude.{Slice, slice_pinned, sliced};
+ghost use Rattle.std.specs.Prelude.{ℕ, Bool};
+ghost use Rattle.nom_internal.specs.Prelude.{modes, Slice, IsModelledBy, ShowsMeaning, slice_pinned, sliced};
 ghost use Rattle.nom_bytes.specs.Takes.{take_meaning};
 ghost use Rattle.nom_bytes.specs.laws.TakeLaws.{take_lawful, take_steady};
-ghost use Rattle.nom_bytes.specs.Tags.{tag_meaning};
+ghost use Rattle.nom_bytes.specs.Tags.{compares_by, tag_meaning};
 ghost use Rattle.nom_bytes.specs.laws.TagLaws.{tag_lawful, tag_steady};
 ghost use Rattle.nom_bytes.specs.Words as Words;
 
@@ -64,6 +64,34 @@ impl<I: Input, E: ParseError<I>> StreamParser<I> for Take<I, E> {
     ghost steady = { λ count k. take_steady I.model E.errors I.lack count };
 }
 
+/// Returns the answer for the result of a comparison with a tag.
+#[inline(always)]
+pub(crate) fn answer<OM: OutputMode, T: Copy, I: Input + Compare<T>, E: ParseError<I>>(
+    input: I,
+    tag: T,
+    compared: CompareResult,
+) -> PResult<I, I, E>
+    requires { (ignores_case : Bool) × compares_by I.compares I.compares_no_case ignores_case (I.tag_model tag) (I.model.elements input) compared }
+    ensures { (ignores_case : Bool) → compares_by I.compares I.compares_no_case ignores_case (I.tag_model tag) (I.model.elements input) compared →
+        ShowsMeaning I.model (IsModelledBy I.model)
+        (tag_meaning I.model E.errors I.tag_size (compares_by I.compares I.compares_no_case ignores_case) (I.tag_model tag))
+        (modes OM.Output.BUILDS OM.Error.BUILDS OM.Incomplete.STREAMING) input result }
+{
+    input.prove_known();
+    match compared {
+        CompareResult::Ok => {
+            let n = I::tag_len(tag);
+            Ok((input.take_from(n), front::<OM::Output, I>(input, n)))
+        }
+        CompareResult::Incomplete if OM::Incomplete::STREAMING => {
+            let n = I::tag_len(tag) - input.input_len();
+            Err(Err::Incomplete(Needed::new(n)))
+        }
+        CompareResult::Incomplete => Err(refusal::<OM::Error, I, E>(input, ErrorKind::Tag)),
+        CompareResult::Error => Err(refusal::<OM::Error, I, E>(input, ErrorKind::Tag)),
+    }
+}
+
 /// The parser that `tag` returns.
 #[derive(Drop)]
 pub struct Tag<T, I, E> {
@@ -91,19 +119,8 @@ impl<T: Copy, I: Input + Compare<T>, E: ParseError<I>> Parser<I> for Tag<T, I, E
 
     #[inline(always)]
     fn process<OM: OutputMode>(&mut self, input: I) -> PResult<I, I, E> {
-        input.prove_known();
-        match input.compare(self.tag) {
-            CompareResult::Ok => {
-                let n = I::tag_len(self.tag);
-                Ok((input.take_from(n), front::<OM::Output, I>(input, n)))
-            }
-            CompareResult::Incomplete if OM::Incomplete::STREAMING => {
-                let n = I::tag_len(self.tag) - input.input_len();
-                Err(Err::Incomplete(Needed::new(n)))
-            }
-            CompareResult::Incomplete => Err(refusal::<OM::Error, I, E>(input, ErrorKind::Tag)),
-            CompareResult::Error => Err(refusal::<OM::Error, I, E>(input, ErrorKind::Tag)),
-        }
+        let compared = input.compare(self.tag);
+        answer::<OM, T, I, E>(input, self.tag, compared)
     }
 
     ghost lawful = { λ tag k. tag_lawful I.model I.lawful E.errors I.tag_size I.compares I.comparing tag };

@@ -4,13 +4,12 @@ ghost use Rattle.nom_bytes.specs.Tags.{tag_meaning};
 ghost use Rattle.nom_bytes.specs.laws.TagLaws.{tag_lawful, tag_steady};
 ghost use Rattle.nom_bytes.specs.Words as Words;
 
-use nom_error::answer::{Err, Needed, PResult};
-use nom_error::kind::ErrorKind;
-use nom_error::mode::{IsStreaming, OutputMode};
-use nom_error::value::{ParseError, refusal};
+use crate::leaf::answer;
+use nom_error::answer::PResult;
+use nom_error::mode::OutputMode;
+use nom_error::value::ParseError;
 use nom_internal::parser::{Parser, StreamParser};
-use nom_internal::slices::front;
-use nom_traits::compare::{Compare, CompareResult};
+use nom_traits::compare::Compare;
 use nom_traits::input::Input;
 use std::marker::PhantomData;
 
@@ -41,19 +40,8 @@ impl<T: Copy, I: Input + Compare<T>, E: ParseError<I>> Parser<I> for TagNoCase<T
 
     #[inline(always)]
     fn process<OM: OutputMode>(&mut self, input: I) -> PResult<I, I, E> {
-        input.prove_known();
-        match input.compare_no_case(self.tag) {
-            CompareResult::Ok => {
-                let n = I::tag_len(self.tag);
-                Ok((input.take_from(n), front::<OM::Output, I>(input, n)))
-            }
-            CompareResult::Incomplete if OM::Incomplete::STREAMING => {
-                let n = I::tag_len(self.tag) - input.input_len();
-                Err(Err::Incomplete(Needed::new(n)))
-            }
-            CompareResult::Incomplete => Err(refusal::<OM::Error, I, E>(input, ErrorKind::Tag)),
-            CompareResult::Error => Err(refusal::<OM::Error, I, E>(input, ErrorKind::Tag)),
-        }
+        let compared = input.compare_no_case(self.tag);
+        answer::<OM, T, I, E>(input, self.tag, compared)
     }
 
     ghost lawful = { λ tag k. tag_lawful I.model I.lawful E.errors I.tag_size I.compares_no_case I.comparing_no_case tag };
