@@ -1,9 +1,6 @@
-pub mod Between
-pub mod Branches
-pub mod Ended
-pub mod Lists
-pub mod Plain
-pub mod Results
-pub mod Tokens
-pub mod Whole
-pub mod Written
+mod Branches
+mod Choices
+mod Lists
+mod Plain
+mod Results
+mod Tokens

@@ -1,10 +1,10 @@
 -- Lemmas on the answers of the loops of lists, by what each item answered.
 use Rattle.std.proofs.Common.{◌≡◌, ℕ, ◌+◌, ◌<◌, zero, suc, ◌⊎◌, true, false, List, [], ◌∷◌, ◌++◌, length, length-append, Result, Ok, Err, Some, None}
-use Rattle.std.proofs.Common.{Vec, refl, sym, ◌∙◌, ap, subst, inl, inr, arith}
+use Rattle.std.proofs.Common.{Vec, refl, sym, ap, subst, inl, inr, arith}
 use Rattle.std.specs.Prelude.{if◌then◌else◌, is_err, is_ok}
 use Rattle.std.specs.List.{AllZip}
-use Rattle.nom_internal.specs.Prelude.{Needed, modes, IsSuffixOf, text_model, text_lawful, Outcome, Accept, Refuse, Stop, Fails, Needs, ParseRanOut, Parsed}
-use Rattle.nom_internal.specs.Prelude.{Meaning, ParsesMeaning, after}
+use Rattle.nom_internal.specs.Prelude.{Grammar, Needed, modes, IsSuffixOf, text_model, text_lawful, Outcome, Accept, Refuse, Stop, Fails, Needs}
+use Rattle.nom_internal.specs.Prelude.{ParseRanOut, Parsed, ParsesMeaning, RunsOutInPart, after, labelled_meaning}
 use Rattle.nom_error.specs.declared.answer.Err as Answer
 use Rattle.nom_error.specs.declared.answer.Err.TheVariants as Answered
 use Rattle.nom_error.specs.declared.value.Error.{Error}
@@ -13,138 +13,138 @@ use Rattle.nom_repeat.specs.Repeat.{Turn, Reaches, Repeats, OnReply, TurnsBy}
 use Rattle.nom_repeat.specs.Repeat.Turn.{Ends}
 use Rattle.nom_repeat.proofs.Repeated.{Collected, collected_more, pieces_end}
 use Rattle.nom_repeat.proofs.Accumulating.{zip_push}
-use Rattle.nom.specs.grammars.Texts.{Text, TextGrammar, Parses}
-use Rattle.example_json.specs.Json.{IsTaken, after_comma, item_at, list_of, list_turn, refuses}
+use Rattle.nom.specs.Grammar.{answers_by, parses_by}
+use Rattle.nom.specs.grammars.Texts as Grammars
+use Rattle.nom.specs.Texts.{Parses, Text, TextWord}
+use Rattle.example_json.specs.Json.{IsItem, IsTaken, after_comma, item_at, list_of, list_turn, list_worded, refuses}
 use Rattle.example_json.proofs.Results.{TextResult, taken, refused}
 
--- the turns of a list
-abbrev Turns : {V : Type 0} (first further : Meaning Text V (Error Text)) → ℕ → Text → Turn V (Unit {0}) → Type 0
-Turns first further = TurnsBy None list_turn (λ k. (item_at first further k).answers false)
+-- what a grammar answers as one of two, with a tree that says which
+labelled_parses : {V W O : Type 0} (label : V → W) (g : Grammar Text V O (Error Text)) {IsOutput : W → O → Type 0} →
+    ((v : V) (o : O) → g.IsOutput v o → IsOutput (label v) o) → {i : Text} {r : TextResult O} → Grammars.Parses g false i r →
+    ParsesMeaning text_model IsOutput (labelled_meaning label g.meaning) false i r
+labelled_parses label g is {i} (ParseRanOut e z) = ParseRanOut e (RunsOutInPart i refl z)
+labelled_parses label g is {i} (Parsed (Accept n v) a p) =
+    Parsed (Accept n (label v)) (record { at = i; at_is = refl; outcome = Accept n v; answered = a; fact = refl }) (p.0, p.1, p.2, is v p.1 p.3, p.4)
+labelled_parses label g is {i} (Parsed Refuse a p) =
+    Parsed Refuse (record { at = i; at_is = refl; outcome = Refuse; answered = a; fact = refl })
+    (p.0, record { at = i; at_is = refl; outcome = Refuse; answered = a; fact = p.1 }, p.2)
+labelled_parses label g is {i} (Parsed (Stop (Fails cause)) a p) =
+    Parsed (Stop (Fails cause)) (record { at = i; at_is = refl; outcome = Stop (Fails cause); answered = a; fact = refl })
+    (p.0, record { at = i; at_is = refl; outcome = Stop (Fails cause); answered = a; fact = p.1 }, p.2)
+labelled_parses label g is {i} (Parsed (Stop (Needs k)) a p) =
+    Parsed (Stop (Needs k)) (record { at = i; at_is = refl; outcome = Stop (Needs k); answered = a; fact = refl }) p
 
--- items that were taken up to a place, and their outputs
-abbrev pub Listed : {V O : Type 0} → TextGrammar V O → (start place : Text) → List O → Type 0
-Listed g start place outputs = Collected text_model (Turns g.meaning (after_comma g).meaning) (λ vs. AllZip g.IsOutput vs outputs × (0 < length vs)) start
-    place
+module _ {O : Type 0} (g : TextWord O) where
+  abbrev further : TextWord O
+  further = after_comma g
 
--- the part for that many items before it
-abbrev PartAt : {V O : Type 0} → TextGrammar V O → ℕ → Meaning Text V (Error Text)
-PartAt g n = item_at g.meaning (after_comma g).meaning n
+  abbrev Tree : Type 0
+  Tree = g.Tree ⊎ further.Tree
 
--- after the first item are the further ones
-further_at : {V : Type 0} (first further : Meaning Text V (Error Text)) (k : ℕ) → 0 < k → further ≡ item_at first further k
-further_at first further zero h = absurd (omega (arith, h))
-further_at first further (suc k) h = refl
+  abbrev Held : Tree → O → Type 0
+  Held = IsItem g.grammar further.grammar
 
--- A place is reached, and what the part for it replies ends the list.
-module _ {V O : Type 0} (g : TextGrammar V O) {Held : List V → Type 0} {i j : Text}
-    (c : Collected text_model (Turns g.meaning (after_comma g).meaning) Held i j) where
-  reaches : (Fact : ℕ → Text → Type 0) → Fact (length c.trees) j → Reaches text_model (Turns g.meaning (after_comma g).meaning) Fact i
-  reaches Fact h = record {
-    trees = c.trees;
-    taken = c.taken;
-    pieces =
-        pieces_end text_model (Turns g.meaning (after_comma g).meaning) Fact j (length c.trees) h 0 i c.trees c.taken (omega arith) c.pieces;
-  }
+  -- the turns of a list
+  abbrev Turns : ℕ → Text → Turn Tree (Unit {0}) → Type 0
+  Turns = TurnsBy None list_turn (λ k. (item_at g.grammar further.grammar k).answers false)
 
-  ends : (a : Outcome V) → (PartAt g (length c.trees)).answers false j a → (o : Outcome (Unit {0})) →
-      Ends o ≡ list_turn (length c.trees) (Some a) →
-      Repeats text_model (Turns g.meaning (after_comma g).meaning) (λ vs _. vs) i (after c.taken (λ _. c.trees) o)
-  ends a p o t = record {
-    trees = c.trees;
-    taken = c.taken;
-    ending = o;
-    pieces =
-        pieces_end text_model (Turns g.meaning (after_comma g).meaning)
-        (λ k x. Turns g.meaning (after_comma g).meaning k x (Ends o)) j (length c.trees)
-        (record { reply = Some a; replied = (tt, p); fact = t }) 0 i c.trees c.taken (omega arith) c.pieces;
-    outcome_is = refl;
-  }
+  -- items that were taken up to a place, and their outputs
+  abbrev Reached : (start place : Text) → (List Tree → Type 0) → Type 0
+  Reached start place Fact = Collected text_model Turns Fact start place
 
-  blames : (a : Outcome V) → (PartAt g (length c.trees)).answers false j a → (e : Error Text) → (PartAt g (length c.trees)).blames false j e →
-      Reaches text_model (Turns g.meaning (after_comma g).meaning)
-      (λ k x. OnReply None (λ k. (PartAt g k).answers false) (λ _. (PartAt g k).blames false x e) k x) i
-  blames a p e h = reaches (λ k x. OnReply None (λ k. (PartAt g k).answers false) (λ _. (PartAt g k).blames false x e) k x)
-      (record { reply = Some a; replied = (tt, p); fact = h })
+  abbrev pub Listed : (start place : Text) → List O → Type 0
+  Listed start place outputs = Reached start place (λ vs. AllZip Held vs outputs × (0 < length vs))
 
-  module _ {M : Type 0} {r : TextResult (Vec O M)} where
-    -- the part refuses: all that was taken is the list
-    list_ends : {list : Vec O M} → AllZip g.IsOutput c.trees list.items → (PartAt g (length c.trees)).answers false j Refuse →
-        r ≡ Ok (j, list) → Parses (list_of g) false i r
-    list_ends {list} h p q = Parsed (Accept (c.taken + 0) c.trees) (ends Refuse p (Accept 0 tt) refl)
-        (j, list, subst (λ n. IsSuffixOf text_model i n j) (omega arith) c.rest_is, h, q)
+  -- what the part for that many items before it answers
+  abbrev AnswersAt : ℕ → Text → TextResult O → Type 0
+  AnswersAt n j s = ParsesMeaning text_model Held (item_at g.grammar further.grammar n) false j s
 
-    -- it stops
-    list_stops : {IsItem : V → O → Type 0} {s : TextResult O} {e : Answer.Err (Error Text) (Error Text) Needed} → s ≡ Err e → r ≡ Err e →
-        false ≡ refuses s → ParsesMeaning text_model IsItem (PartAt g (length c.trees)) false j s → Parses (list_of g) false i r
-    list_stops is q stays (ParseRanOut e h) =
-        ParseRanOut (cc (is, q, e)) (reaches (λ k x. OnReply None (λ k. (PartAt g k).answers false) (λ a. IsTaken a) k x ⊎
-        (Unit {0} × (PartAt g k).may_run_out (modes true true false) x)) (inr (tt, h)))
-    list_stops is q stays (Parsed (Accept n v) a p) = absurd (cc (is, p.4))
-    list_stops is q stays (Parsed Refuse a p) = let never : false ≡ true = stays ∙ ap refuses p.2 in absurd (cc (never))
-    list_stops is q stays (Parsed (Stop (Fails cause)) a p) =
-        Parsed (Stop (Fails cause)) (ends (Stop (Fails cause)) a (Stop (Fails cause)) refl) (p.0, blames (Stop (Fails cause)) a p.0 p.1, cc (is, q, p.2))
-    list_stops is q stays (Parsed (Stop (Needs k)) a p) = Parsed (Stop (Needs k)) (ends (Stop (Needs k)) a (Stop (Needs k)) refl) (p.0, p.1, cc (is, q, p.2))
+  pub first_item : (j : Text) (s : TextResult O) → Parses g false j s → AnswersAt 0 j s
+  first_item j s h = labelled_parses inl g.grammar {IsOutput = Held} (λ v o h. h) (parses_by text_model refl h)
 
-    -- there is no memory to keep an item
-    list_lacks : (n : ℕ) (v : V) → (PartAt g (length c.trees)).answers false j (Accept n v) → r ≡ Err Answered.OutOfMemory → Parses (list_of g) false i r
-    list_lacks n v p q = ParseRanOut q
-        (reaches (λ k x. OnReply None (λ k. (PartAt g k).answers false) (λ a. IsTaken a) k x ⊎
-        (Unit {0} × (PartAt g k).may_run_out (modes true true false) x)) (inl (record { reply = Some (Accept n v); replied = (tt, p); fact = tt })))
+  pub further_item : (n : ℕ) → 0 < n → (j : Text) (s : TextResult O) → Parses further false j s → AnswersAt n j s
+  further_item zero some j s h = absurd (omega (arith, some))
+  further_item (suc n) some j s h = labelled_parses inr further.grammar {IsOutput = Held} (λ v o h. h) (parses_by text_model refl h)
 
--- no item yet
-module _ {V O : Type 0} (g : TextGrammar V O) {i : Text} (known : text_model.IsKnown i) where
-  abbrev none_yet : Collected text_model (Turns g.meaning (after_comma g).meaning) (λ vs. vs ≡ []) i i
-  none_yet = record { trees = []; taken = 0; pieces = (refl, refl); rest_is = rest_self text_model text_lawful i known; held = refl }
+  -- A place is reached, and what the part for it answers ends the list, or is taken.
+  module _ {Fact : List Tree → Type 0} {i j : Text} (c : Reached i j Fact) where
+    reaches : (Says : ℕ → Text → Type 0) → Says (length c.trees) j → Reaches text_model Turns Says i
+    reaches Says h = record {
+      trees = c.trees;
+      taken = c.taken;
+      pieces = pieces_end text_model Turns Says j (length c.trees) h 0 i c.trees c.taken (omega arith) c.pieces;
+    }
 
-  module _ {M : Type 0} {r : TextResult (Vec O M)} {s : TextResult O} where
-    -- the first item is refused
-    pub first_refused : true ≡ refuses s → Parses g false i s → {list : Vec O M} → list.items ≡ [] → r ≡ Ok (i, list) → Parses (list_of g) false i r
-    first_refused is h e q = list_ends g none_yet (subst (λ xs. AllZip g.IsOutput [] xs) (sym e) tt) (refused g h is).answered q
+    abbrev PartAt : Outcome Tree → Type 0
+    PartAt = (item_at g.grammar further.grammar (length c.trees)).answers false j
 
-    pub first_stopped : {e : Answer.Err (Error Text) (Error Text) Needed} → s ≡ Err e → r ≡ Err e → false ≡ refuses s → Parses g false i s →
-        Parses (list_of g) false i r
-    first_stopped is q stays h = list_stops g none_yet {IsItem = g.IsOutput} is q stays h
+    ends : (a : Outcome Tree) → PartAt a → (o : Outcome (Unit {0})) → Ends o ≡ list_turn (length c.trees) (Some a) →
+        Repeats text_model Turns (λ vs _. vs) i (after c.taken (λ _. c.trees) o)
+    ends a p o t = record {
+      trees = c.trees;
+      taken = c.taken;
+      ending = o;
+      pieces =
+          pieces_end text_model Turns (λ k x. Turns k x (Ends o)) j (length c.trees)
+          (record { reply = Some a; replied = (tt, p); fact = t }) 0 i c.trees c.taken (omega arith) c.pieces;
+      outcome_is = refl;
+    }
 
-    pub first_lacks : {j : Text} {x : O} → s ≡ Ok (j, x) → Parses g false i s → r ≡ Err Answered.OutOfMemory → Parses (list_of g) false i r
-    first_lacks is h q = let t = taken is h in list_lacks g none_yet t.length t.tree t.answered q
+    blames : (a : Outcome Tree) → PartAt a → (e : Error Text) → (item_at g.grammar further.grammar (length c.trees)).blames false j e →
+        Reaches text_model Turns
+        (λ k x. OnReply None (λ k. (item_at g.grammar further.grammar k).answers false)
+        (λ _. (item_at g.grammar further.grammar k).blames false x e) k x) i
+    blames a p e h = reaches (λ k x. OnReply None (λ k. (item_at g.grammar further.grammar k).answers false)
+        (λ _. (item_at g.grammar further.grammar k).blames false x e) k x)
+        (record { reply = Some a; replied = (tt, p); fact = h })
 
-  pub first_kept : {j : Text} {x : O} {s : TextResult O} → s ≡ Ok (j, x) → Parses g false i s → {outputs : List O} → outputs ≡ x ∷ [] → Listed g i j outputs
-  first_kept {j} {x} is h e =
-      let t = taken is h in
-      collected_more text_lawful (Turns g.meaning (after_comma g).meaning) t.tree none_yet
-      (record { reply = Some (Accept t.length t.tree); replied = (tt, t.answered); fact = refl }) t.rest_is
-      (subst (λ xs. AllZip g.IsOutput (t.tree ∷ []) xs) (sym e) (t.output_is, tt), omega arith)
+    abbrev RunsOut : ℕ → Text → Type 0
+    RunsOut k x = OnReply None (λ k. (item_at g.grammar further.grammar k).answers false) (λ a. IsTaken a) k x ⊎
+        (Unit {0} × (item_at g.grammar further.grammar k).may_run_out (modes true true false) x)
 
--- some items
-module _ {V O : Type 0} (g : TextGrammar V O) {i j : Text} {outputs : List O} (c : Listed g i j outputs) where
-  here : (after_comma g).meaning ≡ PartAt g (length c.trees)
-  here = further_at g.meaning (after_comma g).meaning (length c.trees) c.held.1
+    module _ {s : TextResult O} (h : AnswersAt (length c.trees) j s) where
+      module _ {M : Type 0} {r : TextResult (Vec O M)} where
+        -- the part refuses: all that was taken is the list
+        pub ended : true ≡ refuses s → {list : Vec O M} → AllZip Held c.trees list.items → r ≡ Ok (j, list) → Parses (list_of g) false i r
+        ended is {list} held q = answers_by text_model (list_worded g) (Parsed (Accept (c.taken + 0) c.trees) (ends Refuse (refused is h).0 (Accept 0 tt) refl)
+            (j, list, subst (λ n. IsSuffixOf text_model i n j) (omega arith) c.rest_is, held, q))
 
-  module _ {M : Type 0} {r : TextResult (Vec O M)} {s : TextResult O} where
-    -- a further item is refused
-    pub further_refused : true ≡ refuses s → Parses (after_comma g) false j s → {list : Vec O M} → list.items ≡ outputs → r ≡ Ok (j, list) →
-        Parses (list_of g) false i r
-    further_refused is h e q = list_ends g c (subst (λ xs. AllZip g.IsOutput c.trees xs) (sym e) c.held.0)
-        (subst (λ m. m.answers false j Refuse) here (refused (after_comma g) h is).answered) q
+        -- there is no memory to keep an item
+        pub lacking : {k : Text} {x : O} → s ≡ Ok (k, x) → r ≡ Err Answered.OutOfMemory → Parses (list_of g) false i r
+        lacking is q =
+            let t = taken is h in
+            answers_by text_model (list_worded g) (ParseRanOut q (reaches RunsOut
+            (inl (record { reply = Some (Accept t.length t.tree); replied = (tt, t.answered); fact = tt }))))
 
-    pub further_stopped : {e : Answer.Err (Error Text) (Error Text) Needed} → s ≡ Err e → r ≡ Err e → false ≡ refuses s →
-        Parses (after_comma g) false j s → Parses (list_of g) false i r
-    further_stopped is q stays h = list_stops g c {IsItem = g.IsOutput} is q stays (subst (λ m. ParsesMeaning text_model g.IsOutput m false j s) here h)
+        stopped_by : {e : Answer.Err (Error Text) (Error Text) Needed} → s ≡ Err e → r ≡ Err e → false ≡ refuses s →
+            AnswersAt (length c.trees) j s → Parses (list_of g) false i r
+        stopped_by is q stays (ParseRanOut e z) = answers_by text_model (list_worded g) (ParseRanOut (cc (is, q, e)) (reaches RunsOut (inr (tt, z))))
+        stopped_by is q stays (Parsed (Accept n v) a p) = absurd (cc (is, p.4))
+        stopped_by is q stays (Parsed Refuse a p) = let never : false ≡ true = cc (stays, ap refuses p.2) in absurd (cc (never))
+        stopped_by is q stays (Parsed (Stop (Fails cause)) a p) = answers_by text_model (list_worded g) (Parsed (Stop (Fails cause))
+            (ends (Stop (Fails cause)) a (Stop (Fails cause)) refl) (p.0, blames (Stop (Fails cause)) a p.0 p.1, cc (is, q, p.2)))
+        stopped_by is q stays (Parsed (Stop (Needs k)) a p) = answers_by text_model (list_worded g) (Parsed (Stop (Needs k))
+            (ends (Stop (Needs k)) a (Stop (Needs k)) refl) (p.0, p.1, cc (is, q, p.2)))
 
-    pub further_lacks : {k : Text} {x : O} → s ≡ Ok (k, x) → Parses (after_comma g) false j s → r ≡ Err Answered.OutOfMemory → Parses (list_of g) false i r
-    further_lacks is h q = let t = taken is h in list_lacks g c t.length t.tree (subst (λ m. m.answers false j (Accept t.length t.tree)) here t.answered) q
+        -- it stops
+        pub stopped : {e : Answer.Err (Error Text) (Error Text) Needed} → s ≡ Err e → r ≡ Err e → false ≡ refuses s → Parses (list_of g) false i r
+        stopped is q stays = stopped_by is q stays h
 
-  pub further_kept : {k : Text} {x : O} {s : TextResult O} → s ≡ Ok (k, x) → Parses (after_comma g) false j s → {more : List O} → more ≡ outputs ++
-      x ∷ [] → Listed g i k more
-  further_kept {k} {x} is h e =
-      let t = taken is h in
-      let reply = subst (λ m. m.answers false j (Accept t.length t.tree)) here t.answered in
-      collected_more text_lawful (Turns g.meaning (after_comma g).meaning) t.tree c
-      (record { reply = Some (Accept t.length t.tree); replied = (tt, reply); fact = refl }) t.rest_is (
-        subst (λ xs. AllZip g.IsOutput (c.trees ++ t.tree ∷ []) xs) (sym e)
-            (zip_push g.IsOutput c.trees outputs t.tree x c.held.0 t.output_is),
-        omega (arith, length-append c.trees (t.tree ∷ []), c.held.1),
-      )
+      pub kept : {k : Text} {x : O} → s ≡ Ok (k, x) → (outputs more : List O) → AllZip Held c.trees outputs → more ≡ outputs ++ x ∷ [] → Listed i k more
+      kept {k} {x} is outputs more held e =
+          let t = taken is h in
+          collected_more text_lawful Turns t.tree c (record { reply = Some (Accept t.length t.tree); replied = (tt, t.answered); fact = refl }) t.rest_is (
+            subst (λ xs. AllZip Held (c.trees ++ t.tree ∷ []) xs) (sym e) (zip_push Held c.trees outputs t.tree x held t.output_is),
+            omega (arith, length-append c.trees (t.tree ∷ [])),
+          )
+
+  -- no item yet
+  abbrev pub none_yet : (i : Text) → text_model.IsKnown i → Reached i i (λ vs. vs ≡ [])
+  none_yet i known = record { trees = []; taken = 0; pieces = (refl, refl); rest_is = rest_self text_model text_lawful i known; held = refl }
+
+  pub none_held : (outputs : List O) → outputs ≡ [] → AllZip Held [] outputs
+  none_held outputs e = subst (λ xs. AllZip Held [] xs) (sym e) tt
 
 -- the items after a growth that succeeded
 pub grown : {T E X : Type 0} (r : Result T E) (items more old : List X) → items ≡ (if is_ok r then more else old) → is_err r ≡ false → items ≡ more

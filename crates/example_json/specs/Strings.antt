@@ -1,20 +1,19 @@
 -- Strings, as they are meant.
-use Rattle.std.specs.Prelude.{◌≡◌, ℕ, ◌+◌, ◌-◌, ◌*◌, ◌<◌, ◌≤◌, ◌==◌, ◌⊎◌}
-use Rattle.std.specs.Prelude.{if◌then◌else◌, cond, true, List, length, Option, Some, String, chars, codes, encode_utf8, encode_utf8_all, string_bytes}
+use Rattle.std.specs.Prelude.{◌≡◌, ℕ, ◌+◌, ◌-◌, ◌*◌, ◌<◌, ◌≤◌, ◌==◌}
+use Rattle.std.specs.Prelude.{if◌then◌else◌, cond, true, List, length, Option, String, chars, codes, encode_utf8, encode_utf8_all, string_bytes}
 use Rattle.std.specs.List.{All}
 use Rattle.std.specs.Option.{SomeIff}
 use Rattle.std.specs.Char.{IsScalar}
 use Rattle.std.specs.Str.Parse.{digits_value}
 use Rattle.std.specs.Cow.{IsBorrowedStr, cow_str_bytes}
 use Rattle.std.specs.declared.borrow.CowStr.{CowStr}
-use Rattle.nom_internal.specs.Prelude.{ErrorKind, text_model}
-use Rattle.nom_internal.specs.Judged.{map_opt_by}
-use Rattle.nom_error.specs.declared.kind.ErrorKind.TheVariants as Kind
-use Rattle.nom_bytes_escaped.specs.declared.next_piece.Piece.{Piece}
-use Rattle.nom_bytes_escaped.specs.Escapes.{escaped_transform_meaning}
-use Rattle.nom_bytes_escaped.specs.Texts.{AddAll}
-use Rattle.nom.specs.grammars.Texts.{Text, TextGrammar, all_consuming_of, alt_of, char_of, plain_errors, map_of, or_of, pair_of, preceded_of, tag_of}
-use Rattle.example_json.specs.Scalars.{Part, hexes_by, in_text, one_by, plain_by}
+use Rattle.nom_traits.specs.Classes.{is_hex_digit_code}
+use Rattle.nom_internal.specs.Prelude.{text_model}
+use Rattle.nom_internal.specs.Words.{map_opt_of}
+use Rattle.nom_bytes_escaped.specs.Words.{escaped_transform_of}
+use Rattle.nom.specs.Texts.{Text, TextWord, all_consuming_of, alt_of, char_of, map_of, one_of_of, or_of, pair_of, plain_errors, preceded_of, tag_of}
+use Rattle.nom.specs.Texts.{take_while_m_n_of, take_while1_of}
+use Rattle.nom_json_run.specs.Json.{is_plain_code}
 
 -- the character that a letter after a backslash stands for: `b`, `f`, `n`, `r`, `t`, and others for themselves
 abbrev pub meant_of : ℕ → ℕ
@@ -44,73 +43,35 @@ IsLow n = (56320 ≤ n) × (n < 57344)
 abbrev pub IsJoined : Text × Text → Option ℕ → Type 0
 IsJoined digits r = SomeIff r (IsHigh (four_of digits.0) × IsLow (four_of digits.1)) (65536 + 1024 * (four_of digits.0 - 55296) + (four_of digits.1 - 56320))
 
--- what is given for an output; where that is nothing, the input is refused
-abbrev pub map_opt_of : {V O P : Type 0} → (O → Option P → Type 0) → TextGrammar V O → TextGrammar V P
-map_opt_of = map_opt_by plain_errors (λ _. Unit {0})
+-- four digits in base 16
+abbrev pub hexes_of : TextWord Text
+hexes_of = take_while_m_n_of 4 4 is_hex_digit_code
+
+-- what a function gives for an output; where that is nothing, the input is refused
+abbrev pub given_of : {O P : Type 0} → (O → Option P → Type 0) → TextWord O → TextWord P
+given_of = map_opt_of plain_errors (λ _. Unit {0})
 
 -- a letter or four digits after a backslash, or two times four, as the character that they stand for
-abbrev pub EscapeTree : Type 0
-EscapeTree = ℕ ⊎ (Part ⊎ (Part × Part))
+abbrev pub escape_of : TextWord ℕ
+escape_of = alt_of (or_of (map_of meant_of (one_of_of (codes "\"\\/bfnrt"))) (preceded_of (char_of 117)
+    (alt_of (or_of (given_of IsAlone hexes_of) (given_of IsJoined (pair_of hexes_of (preceded_of (tag_of (codes "\\u")) hexes_of)))))))
 
--- the characters, numbers and kinds that the grammar of strings is made with
-pub record Signs : Type 0 where
-  pub control : ℕ
-  pub letters : List ℕ
-  pub mark : ℕ
-  pub alone_least : ℕ
-  pub alone_most : ℕ
-  pub high_least : ℕ
-  pub high_most : ℕ
-  pub sign : List ℕ
-  pub low_least : ℕ
-  pub low_most : ℕ
-  pub plain_kind : ErrorKind
-  pub letter_kind : ErrorKind
+-- characters that stand for themselves, one at least
+abbrev pub plain_of : TextWord Text
+plain_of = take_while1_of is_plain_code
 
-abbrev pub meant_by : Signs → TextGrammar EscapeTree ℕ
-meant_by s = alt_of (or_of
-    (map_of meant_of (one_by s.letters s.letter_kind))
-    (preceded_of (char_of s.mark) (alt_of (or_of
-    (map_opt_of IsAlone (hexes_by s.alone_least s.alone_most))
-    (map_opt_of IsJoined (pair_of (hexes_by s.high_least s.high_most) (preceded_of (tag_of s.sign) (hexes_by s.low_least s.low_most))))))))
+-- Characters and escapes, and nothing after them, as the text that they make together: their bytes, in their order.
+abbrev pub unescaped_by : {X : Type 0} → (X → List ℕ) → TextWord X
+unescaped_by bytes = all_consuming_of (escaped_transform_of text_model plain_errors (λ x. x) bytes (λ text. encode_utf8_all (chars text.now)) encode_utf8
+    plain_of 92 escape_of)
 
--- the bytes that characters and escapes add to a text, in their order
-abbrev pub Means : Signs → List (Piece Part EscapeTree) → List ℕ → Type 0
-Means s = AddAll (plain_by s.plain_kind).IsOutput (meant_by s).IsOutput (λ text. encode_utf8_all (chars text.now)) encode_utf8
-
--- characters and escapes, and nothing after them, as the text that they make together
-abbrev pub unescaped_by : {M : Type 0} → Signs → TextGrammar (List (Piece Part EscapeTree)) (String M)
-unescaped_by s = all_consuming_of (record {
-  meaning = escaped_transform_meaning text_model plain_errors (λ x. x ≡ s.control) (plain_by s.plain_kind).meaning (meant_by s).meaning;
-  IsOutput = λ pieces text. Means s pieces (string_bytes text);
-})
-
-abbrev pub signs : Signs
-signs = record {
-  control = 92;
-  letters = codes "\"\\/bfnrt";
-  mark = 117;
-  alone_least = 4;
-  alone_most = 4;
-  high_least = 4;
-  high_most = 4;
-  sign = codes "\\u";
-  low_least = 4;
-  low_most = 4;
-  plain_kind = Kind.TakeWhile1;
-  letter_kind = Kind.OneOf;
-}
-
-abbrev pub unescaped_of : {M : Type 0} → TextGrammar (List (Piece Part EscapeTree)) (String M)
-unescaped_of = unescaped_by signs
+abbrev pub unescaped_of : {M : Type 0} → TextWord (String M)
+unescaped_of = unescaped_by string_bytes
 
 -- the same, with the text borrowed or owned
-abbrev pub decoded_of : {M : Type 0} → TextGrammar (List (Piece Part EscapeTree)) (CowStr M)
-decoded_of {M} = record {
-  meaning = (unescaped_of {M = M}).meaning;
-  IsOutput = λ pieces text. Means signs pieces (cow_str_bytes text);
-}
+abbrev pub decoded_of : {M : Type 0} → TextWord (CowStr M)
+decoded_of = unescaped_by cow_str_bytes
 
 -- a text all of whose characters stand for themselves is given as it stands
 abbrev pub IsLent : {M : Type 0} → Text → CowStr M → Type 0
-IsLent written text = All (λ c. in_text c ≡ true) (chars written.now) → IsBorrowedStr text
+IsLent written text = All (λ c. is_plain_code c ≡ true) (chars written.now) → IsBorrowedStr text

@@ -1,16 +1,15 @@
 //! Numbers as they are meant.
 ghost use Rattle.std.specs.Prelude.{false};
-ghost use Rattle.nom.specs.grammars.Texts.{Parses};
+ghost use Rattle.nom.specs.Texts.{Parses};
 ghost use Rattle.example_json.specs.Numbers.{integer_of};
 
 use crate::scalars::Answer;
 use nom::Parser;
 use nom::branch::alt;
 use nom::bytes::tag;
-use nom::character::complete::i64;
-use nom::character::{char, digit1};
+use nom::character::{char, digit1, i64};
 use nom::combinator::{all_consuming, opt, peek};
-use nom::sequence::pair;
+use nom::sequence::{pair, preceded};
 
 /// The integer that a number is, as it is written:
 ///
@@ -24,6 +23,5 @@ pub fn integer<'a>(number: &'a str) -> Answer<'a, i64>
     ensures { Parses integer_of false number.entry result }
 {
     let whole = pair(opt(char('-')), alt((tag("0"), digit1())));
-    let (place, _) = peek(all_consuming(whole)).parse_complete(number)?;
-    i64(place)
+    preceded(peek(all_consuming(whole)), i64()).parse_complete(number)
 }

@@ -1,7 +1,7 @@
 //! Strings as they are meant: each escape is the character that it stands for.
 ghost use Rattle.std.specs.Prelude.{◌≡◌, ◌<◌, ◌≤◌, ◌^◌, false, IfOk};
 ghost use Rattle.std.specs.Char.{digit_value};
-ghost use Rattle.nom.specs.grammars.Texts.{Parses};
+ghost use Rattle.nom.specs.Texts.{Parses};
 ghost use Rattle.example_json.specs.Strings.{IsAlone, IsJoined, IsLent, decoded_of, four_of, meant_of, unescaped_of};
 
 use crate::scalars::{Answer, is_hex, is_plain};

@@ -1,6 +1,6 @@
 //! The trees of JSON texts.
 ghost use Rattle.std.specs.Prelude.{◌≡◌, false, true};
-ghost use Rattle.example_json.specs.declared.tree.Json.TheVariants.{Null, Bool, Number};
+ghost use Rattle.example_json.specs.declared.tree.Json.TheVariants.{Null, Bool};
 
 use nom::Viewed;
 
@@ -36,10 +36,4 @@ pub fn no<'a>(_word: &'a str) -> Json<'a>
     ensures { result ≡ Bool false }
 {
     Json::Bool(false)
-}
-
-pub fn as_number<'a>(digits: &'a str) -> Json<'a>
-    ensures { result ≡ Number digits.entry }
-{
-    Json::Number(digits)
 }

@@ -1,8 +1,8 @@
 //! Values, which hold values: functions that call each other, down to a depth.
 ghost use Rattle.std.specs.Prelude.{◌≡◌, ◌+◌, ◌<◌, false, IfOk};
 ghost use Rattle.nom_internal.specs.Prelude.{input_len, text_model};
-ghost use Rattle.nom.specs.grammars.Texts.{Parses};
-ghost use Rattle.example_json.specs.Json.{array_of, after_comma, json_of, json_text_of, list_of, member_of, object_of, refuses, scalar_of, value_of};
+ghost use Rattle.nom.specs.Texts.{Parses};
+ghost use Rattle.example_json.specs.Json.{array_of, after_comma, json_of, json_text_of, list_of, member_of, object_of, refuses, scalar_of, string_of, value_of};
 
 use crate::scalars::{Answer, number, spaces, text, token, too_deep, word};
 use crate::tree::Json;
@@ -26,6 +26,16 @@ fn is_refused<'a, T>(answer: &Answer<'a, T>) -> bool
     }
 }
 
+/// A text between quotes, as a value.
+#[tactic(auto, using(nom::specs::Chains::steps))]
+fn string<'a>(input: &'a str) -> Answer<'a, Json<'a>>
+    ensures { Parses string_of false input.entry result }
+{
+    let (after, text) = text(input)?;
+    let (rest, _) = spaces(after)?;
+    Ok((rest, Json::String(text)))
+}
+
 /// A word, a number or a text.
 fn scalar<'a>(input: &'a str) -> Answer<'a, Json<'a>>
     ensures { Parses scalar_of false input.entry result }
@@ -38,8 +48,7 @@ fn scalar<'a>(input: &'a str) -> Answer<'a, Json<'a>>
     if !is_refused(&answer) {
         return answer;
     }
-    let (rest, text) = text(input)?;
-    Ok((rest, Json::String(text)))
+    string(input)
 }
 
 /// A value, in which `depth` brackets may lie in each other.
@@ -63,6 +72,7 @@ fn value<'a>(alloc: Global, depth: usize, input: &'a str) -> Answer<'a, Json<'a>
 
 /// An array, whose values hold `depth` brackets in each other.
 #[cycle(values)]
+#[tactic(auto, using(nom::specs::Chains::steps))]
 fn array<'a>(alloc: Global, depth: usize, input: &'a str) -> Answer<'a, Json<'a>>
     ensures { Parses (array_of (value_of depth)) false input.entry result }
 {
@@ -74,6 +84,7 @@ fn array<'a>(alloc: Global, depth: usize, input: &'a str) -> Answer<'a, Json<'a>
 
 /// An object, whose values hold `depth` brackets in each other.
 #[cycle(values)]
+#[tactic(auto, using(nom::specs::Chains::steps))]
 fn object<'a>(alloc: Global, depth: usize, input: &'a str) -> Answer<'a, Json<'a>>
     ensures { Parses (object_of (value_of depth)) false input.entry result }
 {
@@ -147,31 +158,37 @@ fn members<'a>(
 
 /// A comma, and a value after it.
 #[cycle(values)]
+#[tactic(auto, using(nom::specs::Chains::steps))]
 fn next_element<'a>(alloc: Global, depth: usize, input: &'a str) -> Answer<'a, Json<'a>>
     ensures shown { Parses (after_comma (value_of depth)) false input.entry result }
     ensures moves { IfOk result (λ a. input_len text_model a.0 < input_len text_model input.entry) }
 {
     let (after, _) = token(input, ',')?;
-    value(alloc, depth, after)
+    let (rest, item) = value(alloc, depth, after)?;
+    Ok((rest, item))
 }
 
 /// A comma, and a member after it.
 #[cycle(values)]
+#[tactic(auto, using(nom::specs::Chains::steps))]
 fn next_member<'a>(alloc: Global, depth: usize, input: &'a str) -> Answer<'a, (&'a str, Json<'a>)>
     ensures shown { Parses (after_comma (member_of (value_of depth))) false input.entry result }
     ensures moves { IfOk result (λ a. input_len text_model a.0 < input_len text_model input.entry) }
 {
     let (after, _) = token(input, ',')?;
-    member(alloc, depth, after)
+    let (rest, item) = member(alloc, depth, after)?;
+    Ok((rest, item))
 }
 
 /// A name and its value.
 #[cycle(values)]
+#[tactic(auto, using(nom::specs::Chains::steps))]
 fn member<'a>(alloc: Global, depth: usize, input: &'a str) -> Answer<'a, (&'a str, Json<'a>)>
     ensures { Parses (member_of (value_of depth)) false input.entry result }
 {
     let (after, name) = text(input)?;
-    let (inside, _) = token(after, ':')?;
+    let (mark, _) = spaces(after)?;
+    let (inside, _) = token(mark, ':')?;
     let (rest, item) = value(alloc, depth, inside)?;
     Ok((rest, (name, item)))
 }
@@ -196,15 +213,18 @@ fn member<'a>(alloc: Global, depth: usize, input: &'a str) -> Answer<'a, (&'a st
 ///
 /// A text that isn't one is refused. Where more than `depth` brackets lie in each other, that is a failure with `Fail` at the
 /// bracket: so `depth` bounds the stack that a hostile text can take.
+#[tactic(auto, using(nom::specs::Chains::steps))]
 pub fn json<'a>(alloc: Global, depth: usize, input: &'a str) -> Answer<'a, Json<'a>>
     ensures { Parses (json_of depth) false input.entry result }
 {
     let (inside, _) = spaces(input)?;
-    value(alloc, depth, inside)
+    let (rest, tree) = value(alloc, depth, inside)?;
+    Ok((rest, tree))
 }
 
 /// A whole JSON text to its tree: what `json` reads, with nothing after it. What is left is refused with `Eof`, where it
 /// begins.
+#[tactic(auto, using(nom::specs::Chains::steps))]
 pub fn json_text<'a>(alloc: Global, depth: usize, input: &'a str) -> Answer<'a, Json<'a>>
     ensures { Parses (json_text_of depth) false input.entry result }
 {

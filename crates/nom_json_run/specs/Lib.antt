@@ -3,4 +3,5 @@ pub mod Json
 pub mod JsonLines
 pub mod Report
 pub mod Scans
+pub mod Tokens
 pub mod Walk

@@ -1,7 +1,7 @@
 use Rattle.std.proofs.Common.{refl}
 use Rattle.nom_internal.proofs.Shown.{err_from_residual}
 use Rattle.example_json.proofs.Plain.{borrowed, never_stops, none_left, not_plain, owned, owned_stops}
-use Rattle.example_json.proofs.Results.{taken, told}
+use Rattle.example_json.proofs.Results.{taken}
 use Rattle.example_json.proofs.strings.decoded.Goals as goal
 
 pub returns-in_err-rest-clause-shown : goal.returns-in_err-rest-clause-shown
@@ -12,14 +12,14 @@ returns-in_err-rest-clause-lent g c = absurd (never_stops refl c.in_err-rest.ens
 
 pub returns-then-is_empty-clause-shown : goal.returns-then-is_empty-clause-shown
 returns-then-is_empty-clause-shown g c =
-    told refl (borrowed c.prove_known.ensures c.prove_known-then-is_empty.ensures (none_left _ _ c.is_empty.ensures c.if-is_empty.true)
-    (taken refl c.in_ok-rest.ensures.shown))
+    borrowed _ _ _ _ c.prove_known.ensures c.prove_known-then-is_empty.ensures (none_left _ _ c.is_empty.ensures c.if-is_empty.true)
+    (taken refl c.in_ok-rest.ensures.shown)
 
 pub returns-in_err-rest-2-clause-shown : goal.returns-in_err-rest-2-clause-shown
-returns-in_err-rest-2-clause-shown g c = owned_stops refl (err_from_residual c.from_residual-in_err-rest-2.ensures) c.in_err-rest-2.ensures
+returns-in_err-rest-2-clause-shown g c = owned_stops _ _ _ _ _ refl (err_from_residual c.from_residual-in_err-rest-2.ensures) c.in_err-rest-2.ensures
 
 pub returns-clause-shown : goal.returns-clause-shown
-returns-clause-shown g c = told refl (owned (taken refl c.in_ok-rest-2.ensures))
+returns-clause-shown g c = owned _ _ _ _ c.in_ok-rest-2.ensures
 
 pub returns-clause-lent : goal.returns-clause-lent
 returns-clause-lent g c = λ all. absurd (not_plain (taken refl c.in_ok-rest.ensures.shown) _ c.is_empty.ensures c.if-is_empty.false all)

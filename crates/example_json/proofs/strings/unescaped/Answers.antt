@@ -1,7 +1,15 @@
-use Rattle.std.proofs.Common.{false, ◌∙◌, ap, subst}
-use Rattle.nom.specs.grammars.Texts.{Parses}
-use Rattle.example_json.specs.Strings.{unescaped_by}
-use Rattle.example_json.proofs.Written.{signs_told}
+use Rattle.std.proofs.Common.{false, chars, refl, ◌∙◌, ap}
+use Rattle.nom_internal.specs.Prelude.{text_model}
+use Rattle.nom_internal.specs.Words.{map_opt_same, map_same, pair_same}
+use Rattle.nom_branch.specs.Words.{alt_same, or_same}
+use Rattle.nom_bytes.specs.Words.{bounded_same, run1_same, tag_same}
+use Rattle.nom_bytes_escaped.specs.Words.{escaped_transform_same}
+use Rattle.nom_character.specs.Tests.{char_within_same}
+use Rattle.nom_character.specs.Words.{char_same, satisfy_same}
+use Rattle.nom_combinator.specs.Words.{all_consuming_same}
+use Rattle.nom_sequence.specs.Words.{preceded_same}
+use Rattle.nom.specs.Grammar.{answers_same}
+use Rattle.nom.specs.Texts.{plain_errors}
 use Rattle.example_json.proofs.strings.unescaped.Goals as goal
 
 pub returns : goal.returns
@@ -26,6 +34,11 @@ returns g c =
     (ap (λ p. p.second.m) c.pair.ensures.second ∙ (ap (λ p. p.m) c.preceded-low.ensures.second ∙ c.take_while_m_n-2.ensures.least)) in
     let low_most = ap (λ p. p.second.second.n) pairs ∙
     (ap (λ p. p.second.n) c.pair.ensures.second ∙ (ap (λ p. p.n) c.preceded-low.ensures.second ∙ c.take_while_m_n-2.ensures.most)) in
-    let same = signs_told _ _ _ _ _ _ _ _ _ _ _ _ control letters mark alone_least alone_most high_least high_most sign low_least low_most
-    plain_kind letter_kind in
-    subst (λ s. Parses (unescaped_by s) false c.args.written c.parse_complete.result) same c.parse_complete.ensures.shown
+    let meant = map_same refl refl (satisfy_same text_model plain_errors (λ x. x) letter_kind (char_within_same (λ x. x) (ap chars letters))) in
+    let low = preceded_same text_model (tag_same text_model plain_errors _ _ sign) (bounded_same text_model plain_errors low_least low_most refl) in
+    let joined = map_opt_same plain_errors refl refl (pair_same text_model (bounded_same text_model plain_errors high_least high_most refl) low) in
+    let number = map_opt_same plain_errors refl refl (bounded_same text_model plain_errors alone_least alone_most refl) in
+    let code_of = preceded_same text_model (char_same text_model plain_errors (λ x. x) mark) (alt_same plain_errors (or_same plain_errors number joined)) in
+    answers_same text_model false _ _ c.parse_complete.ensures.written (all_consuming_same text_model plain_errors
+    (escaped_transform_same text_model plain_errors (λ x. x) _ _ _ (run1_same text_model plain_errors plain_kind refl) control
+    (alt_same plain_errors (or_same plain_errors meant code_of))))
