@@ -1,5 +1,5 @@
 //! Parts with no value in them: words, numbers, texts, white space and the characters between values. White space after
-//! each is taken with it.
+//! each but a text is taken with it.
 ghost use Rattle.std.specs.Prelude.{◌≡◌, false};
 ghost use Rattle.nom.specs.Texts.{Parses};
 ghost use Rattle.nom_traits.specs.Classes.{is_hex_digit_code};
