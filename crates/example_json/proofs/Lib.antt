@@ -1,5 +1,11 @@
 mod Branches
 mod Choices
+mod Described
+mod DescribedScalars
+mod DescribedStrings
+mod DescribedTexts
+mod DescribedTokens
+mod DescribedValues
 mod Lists
 mod Plain
 mod Results

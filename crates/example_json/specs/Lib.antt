@@ -1,3 +1,4 @@
+pub mod Depths
 pub mod Json
 pub mod Numbers
 pub mod Scalars

@@ -2,6 +2,7 @@
 ghost use Rattle.std.specs.Prelude.{◌≡◌, ◌+◌, ◌<◌, false, IfOk};
 ghost use Rattle.nom_internal.specs.Prelude.{input_len, text_model};
 ghost use Rattle.nom.specs.Texts.{Parses};
+ghost use Rattle.example_json.specs.Depths.{DecidesJson};
 ghost use Rattle.example_json.specs.Json.{array_of, after_comma, json_of, json_text_of, list_of, member_of, object_of, refuses, scalar_of, string_of, value_of};
 
 use crate::scalars::{Answer, number, spaces, text, token, too_deep, word};
@@ -224,8 +225,18 @@ pub fn json<'a>(alloc: Global, depth: usize, input: &'a str) -> Answer<'a, Json<
 
 /// A whole JSON text to its tree: what `json` reads, with nothing after it. What is left is refused with `Eof`, where it
 /// begins.
-#[tactic(auto, using(nom::specs::Chains::steps))]
+///
+/// What is accepted is JSON by the rules of RFC 8259 that `nom_json` is proved by, and what is refused isn't.
 pub fn json_text<'a>(alloc: Global, depth: usize, input: &'a str) -> Answer<'a, Json<'a>>
+    ensures shown { Parses (json_text_of depth) false input.entry result }
+    ensures decided { DecidesJson depth input.entry result }
+{
+    input.prove_known();
+    whole(alloc, depth, input)
+}
+
+#[tactic(auto, using(nom::specs::Chains::steps))]
+fn whole<'a>(alloc: Global, depth: usize, input: &'a str) -> Answer<'a, Json<'a>>
     ensures { Parses (json_text_of depth) false input.entry result }
 {
     let (after, value) = json(alloc, depth, input)?;

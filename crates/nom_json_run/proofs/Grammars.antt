@@ -8,12 +8,14 @@ use Rattle.std.proofs.lemmas.Bool.{ltb-true}
 use Rattle.std.proofs.lemmas.List.Sums.{AllPass-from_list_all}
 use Rattle.std.proofs.lemmas.Str.{chars-IsAscii}
 use Rattle.std.proofs.lemmas.Str.Ascii.{IsAscii-from_all}
+use Rattle.std.specs.Str.{IsAscii}
 use Rattle.nom_error.specs.PlainErrors.{plain_errors}
 use Rattle.nom_error.specs.declared.kind.ErrorKind.TheVariants as Kind
 use Rattle.nom_error.specs.declared.value.Error.{Error}
 use Rattle.nom_traits.specs.Classes.{is_dec_digit_code, is_hex_digit_code, is_listed, is_multispace_code}
 use Rattle.nom_traits.specs.declared.character.AsciiClass.TheVariants as Class
-use Rattle.nom_internal.specs.Prelude.{Accept, ComparesBytes, Grammar, IsSliced, Outcome, Passes, Refuse, Slice, Stop, bytes_model, labelled, with_outputs}
+use Rattle.nom_internal.specs.Prelude.{Accept, ComparesBytes, Grammar, IsSliced, Model, Outcome, Passes, Refuse, Slice, Stop, bytes_model, labelled}
+use Rattle.nom_internal.specs.Prelude.{with_outputs}
 use Rattle.nom_internal.specs.Word.{word}
 use Rattle.nom_internal.specs.Words.{pair_of, pair_worded, tuple_of, tuple_worded}
 use Rattle.nom_bytes.specs.Tests.{passing_worded}
@@ -45,11 +47,11 @@ by : {O V : Type 0} {p : Part} {k : ℕ} {h : BytesWord O} {g : Grammar Bytes V 
 by {p = p} {k} e r = subst (ReadsBy p k) (sym e) (record { meant = r })
 
 -- parts of parts
-sliced_is : {P : Type 0} (i : Bytes) (a : Outcome P) (o : Outcome (Slice bytes_model)) → Passes (λ n u o. IsSliced bytes_model i n o) a o →
-    (f : P → Slice bytes_model) × (o ≡ labelled f a)
-sliced_is i (Accept n u) o h = (λ _. h.0, h.2)
-sliced_is i Refuse o h = (λ _. record { items = []; mark = tt }, h)
-sliced_is i (Stop why) o h = (λ _. record { items = []; mark = tt }, h)
+pub sliced_is : {I A P : Type 0} (w : Model I A) (i : I) (a : Outcome P) (o : Outcome (Slice w)) → Passes (λ n u o. IsSliced w i n o) a o →
+    (f : P → Slice w) × (o ≡ labelled f a)
+sliced_is w i (Accept n u) o h = (λ _. h.0, h.2)
+sliced_is w i Refuse o h = (λ _. record { items = []; mark = w.mark i }, h)
+sliced_is w i (Stop why) o h = (λ _. record { items = []; mark = w.mark i }, h)
 
 module _ {O : Type 0} {k : ℕ} {g : BytesWord O} where
   as_any : {f e : After} → ((bs : List ℕ) → e bs ≡ f bs) → ReadsBy (Any f) k g → ReadsBy (Any e) k g
@@ -72,7 +74,7 @@ module _ {O : Type 0} {k : ℕ} {g : BytesWord O} where
 
   recognize_by : {p : Part} → ReadsBy p k g → ReadsBy p k (recognize_of bytes_model g)
   recognize_by a = by (recognize_worded bytes_model refl)
-      (like_reads a.meant (λ _. false) (λ i. Passes (λ n u o. IsSliced bytes_model i n o)) (λ i. sliced_is i))
+      (like_reads a.meant (λ _. false) (λ i. Passes (λ n u o. IsSliced bytes_model i n o)) (sliced_is bytes_model))
 
   alt_by : {l : ℕ} {h : BytesWord O} {test : ℕ → Bool} {next other : After} → ReadsBy (Led test next) k g → ReadsBy (Any other) l h → l ≤ k →
       ReadsBy (Any (choose test next other)) l (alt_of plain_errors (or_of plain_errors g h))
@@ -99,18 +101,21 @@ char_by : (c : ℕ) → ReadsBy (Led (λ b. b == c) Some) 1 (char_of c)
 char_by c = by (char_worded bytes_model plain_errors (λ x. x) c)
     (head_reads (Unit {0}) (Unit {0}) (λ x b. b ≡ (x == c)) (λ b. b == c) (λ x b e. e) (Some (len_utf8 c)) (OfChar c))
 
-same_truth : (a b : Bool) → (a ≡ true → b ≡ true) → (b ≡ true → a ≡ true) → a ≡ b
+pub same_truth : (a b : Bool) → (a ≡ true → b ≡ true) → (b ≡ true → a ≡ true) → a ≡ b
 same_truth true b f g = sym (f refl)
 same_truth false true f g = g refl
 same_truth false false f g = refl
 
+pub listed_is : (set : List ℕ) (x : ℕ) (b : Bool) → IsTrue b ↔ Contains set x → b ≡ is_listed set x
+listed_is set x b e = same_truth b (is_listed set x) (λ t. containing set x (e.0 t)) (λ t. e.1 (contained set x t))
+
+pub ascii : (set : List ℕ) → list_all (λ b. nat_lt b 128) set ≡ true → IsAscii set
+ascii set h = IsAscii-from_all set (λ k d l. ltb-true (slice_index_or set k d) 128 (AllPass-from_list_all (λ b. nat_lt b 128) set h k d l))
+
 one_of_by : (set : List ℕ) → list_all (λ b. nat_lt b 128) set ≡ true → ReadsBy (Led (is_listed set) Some) 1 (one_of set)
-one_of_by set h =
-    let small = IsAscii-from_all set (λ k d l. ltb-true (slice_index_or set k d) 128 (AllPass-from_list_all (λ b. nat_lt b 128) set h k d l)) in
-    subst (λ xs. ReadsBy (Led (is_listed xs) Some) 1 (one_of set)) (chars-IsAscii set small)
+one_of_by set h = subst (λ xs. ReadsBy (Led (is_listed xs) Some) 1 (one_of set)) (chars-IsAscii set (ascii set h))
     (by (satisfy_worded bytes_model plain_errors (λ x. x) Kind.OneOf (char_within_worded (λ x. x) (Contains (chars set))))
-    (head_reads (Unit {0}) (Unit {0}) (λ x b. IsTrue b ↔ Contains (chars set) x) (is_listed (chars set))
-    (λ x b e. same_truth b (is_listed (chars set) x) (λ t. containing (chars set) x (e.0 t)) (λ t. e.1 (contained (chars set) x t))) None (OfKind Kind.OneOf)))
+    (head_reads (Unit {0}) (Unit {0}) (λ x b. IsTrue b ↔ Contains (chars set) x) (is_listed (chars set)) (listed_is (chars set)) None (OfKind Kind.OneOf)))
 
 hex_by : ReadsBy (Led is_hex_digit_code Some) 1 hex_of
 hex_by = by (satisfy_worded bytes_model plain_errors (λ x. x) Kind.Satisfy
@@ -158,7 +163,7 @@ number_reads = as_any (λ bs. sym (one_then (first_is (λ b. b == 45) bs) (rest 
     (alt_by (letter_by 48) (led_any digits_by) (omega arith)) (pair_any (sure_any (opt_by (preceded_by (char_by 46) cut_digits))) exponent_reads)))))
 
 -- strings
-and_some : (o : Option (List ℕ)) → and_then o Some ≡ o
+pub and_some : (o : Option (List ℕ)) → and_then o Some ≡ o
 and_some None = refl
 and_some (Some bs) = refl
 
@@ -170,7 +175,7 @@ escape_reads = preceded_by (char_by 92) (cut_by (alt_by (terminated_by (char_by 
     (pair_any hex_any (pair_any hex_any (pair_any hex_any (as_any (λ bs. and_some (after_byte is_hex_digit_code bs)) hex_any)))))))
     (led_any (one_of_by (codes "\"\\/bfnrt") refl)) (omega arith)))
 
-dropped_is : {V : Type 0} (a o : Outcome V) → Passes (λ n v o. o ≡ Accept n v) a o → (f : V → V) × (o ≡ labelled f a)
+pub dropped_is : {V : Type 0} (a o : Outcome V) → Passes (λ n v o. o ≡ Accept n v) a o → (f : V → V) × (o ≡ labelled f a)
 dropped_is (Accept n v) o e = (λ u. u, e)
 dropped_is Refuse o e = (λ u. u, e)
 dropped_is (Stop why) o e = (λ u. u, e)

@@ -4,7 +4,7 @@ use Rattle.std.specs.List.{All}
 use Rattle.std.proofs.Common.{arith, sym, ◌∙◌, ap, refl, subst, inl, inr, length-append}
 use Rattle.std.proofs.lemmas.List.{drop-drop}
 use Rattle.std.proofs.lemmas.List.Elements.{All-head, All-tail}
-use Rattle.std.proofs.lemmas.Bool.{eqb-true, eq-eqb}
+use Rattle.std.proofs.lemmas.Bool.{eq-eqb}
 use Rattle.nom_error.specs.declared.kind.ErrorKind.TheVariants as Kind
 use Rattle.nom_error.specs.declared.value.Error.{Error}
 use Rattle.nom_error.specs.PlainErrors.{plain_errors}
@@ -20,9 +20,10 @@ use Rattle.nom_character_first.specs.declared.first.Blame.TheVariants.{OfChar, O
 use Rattle.nom_json_run.specs.Scans.{BeginsAs}
 use Rattle.nom_json_run.specs.Grammars.{Bytes}
 use Rattle.nom_json_run.specs.Json.{after_all, after_word, begins, first_is, rest}
-use Rattle.nom_json_run.proofs.Decisions.{Decides, chosen_other, if_not, if_some, led}
+use Rattle.nom_json_run.proofs.Decisions.{Decides, chosen_other, if_not, led}
 use Rattle.nom_json_run.proofs.Alike.{first_there, later, rest_one}
 use Rattle.nom_json_run.proofs.Reading.{By, Led, Reads, Sure, leaf_reads}
+use Rattle.nom_json_run.proofs.Values.{word_whole}
 
 none_led : (test : ℕ → Bool) (next : List ℕ → Option (List ℕ)) (xs : List ℕ) → first_is test xs ≡ false → Decides (led test next) false xs 0
 none_led test next xs e = chosen_other test next (λ _. None) e (record { within = omega arith; same = λ bs s. refl })
@@ -149,15 +150,6 @@ word_left (c ∷ w) more bs s =
     ap (λ t. if t then after_word w (rest bs) else None) (first_there (λ b. b == c) whole bs 0 (length (c ∷ w)) true le s (eq-eqb c c refl))
     ∙ (ap (after_word w) (rest_one bs) ∙ (word_left w more (drop 1 bs) (later whole bs 1 (length w) s')
     ∙ ap Some (drop-drop (length w) 1 bs ∙ ap (λ n. drop n bs) (sym e))))
-
-word_whole : (w xs r : List ℕ) → after_word w xs ≡ Some r → xs ≡ w ++ r
-word_whole [] xs r e = cc (e)
-word_whole (c ∷ w) [] r e = absurd (cc (e))
-word_whole (c ∷ w) (b ∷ bs) r e =
-    let first = if_some (b == c) (after_word w bs) r e in
-    let same = eqb-true b c first in
-    let others = word_whole w bs r (sym (ap (λ t. if t then after_word w bs else None) first) ∙ e) in
-    cc (same, others)
 
 not_found : (w xs : List ℕ) (o : Option (List ℕ)) → after_word w xs ≡ o → (IsFound (λ ys. ys) (λ t. t) w xs → ⊥) → after_word w xs ≡ None
 not_found w xs None e f = e

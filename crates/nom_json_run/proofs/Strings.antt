@@ -28,11 +28,11 @@ plain_over : (t : Bool) (b : ℕ) (bs r : List ℕ) → is_plain_code b ≡ t �
 plain_over true b bs r e k = both (λ h. plain_to (b ∷ bs) r e h, λ h. plain e h) k
 plain_over false b bs r e k = (λ h. h, λ h. h)
 
-plains : (xs r : List ℕ) → JsonCharacters xs r ↔ JsonCharacters (after_all is_plain_code xs) r
+pub plains : (xs r : List ℕ) → JsonCharacters xs r ↔ JsonCharacters (after_all is_plain_code xs) r
 plains [] r = (λ h. h, λ h. h)
 plains (b ∷ bs) r = plain_over (is_plain_code b) b bs r refl (plains bs r)
 
-close_to : (xs r : List ℕ) → begins 34 xs ≡ true → JsonCharacters xs r → r ≡ rest xs
+pub close_to : (xs r : List ℕ) → begins 34 xs ≡ true → JsonCharacters xs r → r ≡ rest xs
 close_to xs r p (close q e) = e
 close_to xs r p (plain q h) = absurd (no_quote xs q p)
 close_to xs r p (escape j q e h) = absurd (one_head 34 92 xs refl p q)
@@ -86,11 +86,11 @@ stops_at : (test : ℕ → Bool) (b : ℕ) (bs : List ℕ) (t : Bool) → test b
 stops_at test b bs true e f = f
 stops_at test b bs false e f = e
 
-stops_first : (test : ℕ → Bool) (xs : List ℕ) → first_is test (after_all test xs) ≡ false
+pub stops_first : (test : ℕ → Bool) (xs : List ℕ) → first_is test (after_all test xs) ≡ false
 stops_first test [] = refl
 stops_first test (b ∷ bs) = stops_at test b bs (test b) refl (stops_first test bs)
 
-some_is : (xs ys : List ℕ) → Some xs ≡ Some ys → xs ≡ ys
+pub some_is : (xs ys : List ℕ) → Some xs ≡ Some ys → xs ≡ ys
 some_is xs ys e = cc (e)
 
 -- past plain characters, or an escape and plain characters after it, no plain one stands
@@ -119,13 +119,13 @@ piece_none (Some k) e = absurd (cc (e))
 piece_none None e = refl
 
 -- what is left past a backslash, the rest of its escape, and plain characters
-piece_left : (xs j : List ℕ) → led (λ b. b == 92) after_piece xs ≡ Some j →
+pub piece_left : (xs j : List ℕ) → led (λ b. b == 92) after_piece xs ≡ Some j →
     (begins 92 xs ≡ true) × ((k : List ℕ) × (after_escape (rest xs) ≡ Some k) × (after_all is_plain_code k ≡ j))
 piece_left xs j e =
     let first = if_some (begins 92 xs) (after_piece (rest xs)) j e in
     (first, piece_some (after_escape (rest xs)) j (sym (ap (λ t. if t then after_piece (rest xs) else None) first) ∙ e))
 
-piece_same : (xs j : List ℕ) → led (λ b. b == 92) after_piece xs ≡ Some j → SameEnds (JsonCharacters xs) (JsonCharacters j)
+pub piece_same : (xs j : List ℕ) → led (λ b. b == 92) after_piece xs ≡ Some j → SameEnds (JsonCharacters xs) (JsonCharacters j)
 piece_same xs j e r =
     let f = piece_left xs j e in
     let k = f.1.0 in

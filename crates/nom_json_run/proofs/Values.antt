@@ -1,7 +1,7 @@
 -- Values, by their first byte.
-use Rattle.std.specs.Prelude.{◌≡◌, ℕ, ◌+◌, ◌<◌, ◌==◌, ◌↔◌, Bool, true, false, if◌then◌else◌, List, [], ◌∷◌, Option, None, Some}
+use Rattle.std.specs.Prelude.{◌≡◌, ℕ, ◌+◌, ◌<◌, ◌==◌, ◌↔◌, ◌++◌, Bool, true, false, if◌then◌else◌, List, [], ◌∷◌, Option, None, Some}
 use Rattle.std.specs.Prelude.{codes, length, drop, refl}
-use Rattle.std.proofs.Common.{arith, sym, ap, subst}
+use Rattle.std.proofs.Common.{arith, sym, ◌∙◌, ap, subst}
 use Rattle.std.proofs.lemmas.Bool.{eqb-true}
 use Rattle.nom_json_run.specs.Json.{JsonCharacters, JsonInside, JsonItem, JsonString, JsonValue, Leaves, Spaced, after_number, after_spaces, after_word}
 use Rattle.nom_json_run.specs.Json.{begins, closing, first_is, opening, rest}
@@ -13,6 +13,7 @@ use Rattle.nom_json_run.specs.Walk.BeginsWord.{as_null, as_true, as_false}
 use Rattle.nom_json_run.specs.declared.bracket.Bracket.{Bracket}
 use Rattle.nom_json_run.specs.declared.bracket.Bracket.TheVariants.{Array, Object}
 use Rattle.nom_json_run.proofs.Alike.{rest_at}
+use Rattle.nom_json_run.proofs.Decisions.{if_some}
 
 no_some : (j : List ℕ) → ◌≡◌ {A = Option (List ℕ)} None (Some j) → ⊥
 no_some j e = cc
@@ -38,12 +39,17 @@ by_head c Part Other f i e r h =
     let p = head_is c i e in
     subst (λ xs. Other xs r) (sym p) (f (rest i) r (subst (λ xs. Part xs r) p h))
 
-passed : (t : Bool) (x : Option (List ℕ)) (j : List ℕ) → (if t then x else None) ≡ Some j → t ≡ true
-passed true x j e = refl
-passed false x j e = absurd (no_some j e)
+pub word_begins : (c : ℕ) (v i j : List ℕ) → after_word (c ∷ v) i ≡ Some j → begins c i ≡ true
+word_begins c v i j e = if_some (begins c i) (after_word v (rest i)) j e
 
-word_begins : (c : ℕ) (v i j : List ℕ) → after_word (c ∷ v) i ≡ Some j → begins c i ≡ true
-word_begins c v i j e = passed (begins c i) (after_word v (rest i)) j e
+pub word_whole : (w xs r : List ℕ) → after_word w xs ≡ Some r → xs ≡ w ++ r
+word_whole [] xs r e = cc (e)
+word_whole (c ∷ w) [] r e = absurd (cc (e))
+word_whole (c ∷ w) (b ∷ bs) r e =
+    let first = if_some (b == c) (after_word w bs) r e in
+    let same = eqb-true b c first in
+    let others = word_whole w bs r (sym (ap (λ t. if t then after_word w bs else None) first) ∙ e) in
+    cc (same, others)
 
 -- words
 null_from : (i r : List ℕ) → JsonValue (110 ∷ i) r → Spaced (Leaves (after_word (codes "null"))) (110 ∷ i) r
