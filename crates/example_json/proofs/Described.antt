@@ -1,12 +1,15 @@
--- How parts over texts end in the complete mode, by the characters that they are given: by the meanings of parsers, one lemma for each combinator.
-use Rattle.std.specs.Prelude.{◌≡◌, ℕ, ◌+◌, Bool, false, List, [], ◌++◌, Option, Some, None, chars}
+-- How parts over texts end in the complete mode, by the bytes that they are given: by the meanings of parsers, one lemma for each combinator.
+use Rattle.std.specs.Prelude.{◌≡◌, ℕ, ◌+◌, Bool, false, List, [], ◌++◌, Option, Some, None, chars, drop, encode_utf8_all, length}
 use Rattle.std.specs.Char.{len_utf8}
-use Rattle.std.proofs.Common.{arith, sym, ◌∙◌, ap, refl, subst, inl, inr, append_assoc}
+use Rattle.std.proofs.Common.{arith, sym, ◌∙◌, ap, refl, subst, inl, inr, append_assoc, length-append}
+use Rattle.std.proofs.Math.Seq.{drop-append_seam}
+use Rattle.std.proofs.lemmas.Str.{encodes-append}
 use Rattle.nom_error.specs.Modes.{Modes, with_outputs}
 use Rattle.nom_error.specs.declared.value.Error.{Error}
 use Rattle.nom_internal.specs.Prelude.{Accept, Case, Fails, GoesOn, GoesOnRefused, Grammar, IsSliced, IsSuffixOf, Leaf, LeafAnswers, Meaning, Needs, Outcome, Passes, Refuse}
-use Rattle.nom_internal.specs.Prelude.{Stop, after, case_meaning, closed_case, closed_meaning, items_len, items_len-append, labelled, leaf_meaning, map_case}
-use Rattle.nom_internal.specs.Prelude.{map_meaning, mode_of, or_meaning, plain_case, premised, same_cut, sequence_meaning, text_lawful, text_model}
+use Rattle.nom_internal.specs.Prelude.{Stop, after, case_meaning, closed_case, closed_meaning, items_len, labelled, leaf_meaning, map_case}
+use Rattle.nom_internal.specs.Prelude.{map_meaning, mode_of, or_meaning, plain_case, premised, sequence_meaning, text_model}
+use Rattle.nom_traits.specs.Text.{items_len-text}
 use Rattle.nom_internal.specs.Tuples.{built_meaning}
 use Rattle.nom_internal.specs.Words.{map_worded, pair_worded, tuple_worded}
 use Rattle.nom_branch.specs.Words.{alt_worded, or_worded}
@@ -18,39 +21,50 @@ use Rattle.nom.specs.Texts.{Text, TextWord, alt_of, map_of, opt_of, or_of, pair_
 use Rattle.nom_json_run.specs.Json.{and_then}
 use Rattle.nom_json_run.proofs.Grammars.{sliced_is}
 
--- how a part ends: it leaves some characters, it refuses, or it fails
+-- how a part ends: it leaves some bytes, it refuses, or it fails
 pub data Ending : Type 0 where
   Leaving : List ℕ → Ending
   Refusing : Ending
   Failing : Ending
 
--- which endings a part has, by the characters before it
+-- which endings a part has, by the bytes before it
 abbrev pub Endings : Type 1
 Endings = List ℕ → Ending → Type 0
 
--- characters without a front of that length, in bytes
+-- bytes without a front of that length
 pub record Cut (xs : List ℕ) (n : ℕ) (ys : List ℕ) : Type 0 where
   pub front : List ℕ
   pub whole : xs ≡ front ++ ys
-  pub length_is : items_len len_utf8 front ≡ n
+  pub length_is : length front ≡ n
 
 pub cut_none : (xs : List ℕ) → Cut xs 0 xs
 cut_none xs = record { front = []; whole = refl; length_is = refl }
 
-pub cut_rest : {i : Text} {n : ℕ} {j : Text} → IsSuffixOf text_model i n j → Cut (chars i.now) n (chars j.now)
-cut_rest s = record { front = s.front; whole = s.whole; length_is = s.length_is }
+-- characters in front, as bytes
+pub cut_characters : (i : Text) → text_model.IsKnown i → (n : ℕ) (front others : List ℕ) → chars i.now ≡ front ++ others → items_len len_utf8 front ≡ n →
+    Cut i.now n (encode_utf8_all others)
+cut_characters i known n front others whole size = record {
+  front = encode_utf8_all front;
+  whole = sym known.2 ∙ (ap encode_utf8_all whole ∙ encodes-append front others);
+  length_is = sym (items_len-text front) ∙ size;
+}
+
+pub cut_rest : {i : Text} → text_model.IsKnown i → {n : ℕ} {j : Text} → IsSuffixOf text_model i n j → Cut i.now n j.now
+cut_rest {i} known {n} {j} s = subst (Cut i.now n) s.known.2 (cut_characters i known n s.front (chars j.now) s.whole s.length_is)
 
 pub one_cut : {xs : List ℕ} {n : ℕ} {ys zs : List ℕ} → Cut xs n ys → Cut xs n zs → ys ≡ zs
-one_cut {ys = ys} {zs} p q = (same_cut len_utf8 text_lawful.positive p.front ys q.front zs (sym p.whole ∙ q.whole) (p.length_is ∙ sym q.length_is)).1
+one_cut p q = sym (left p) ∙ left q where
+  left : {xs : List ℕ} {n : ℕ} {ys : List ℕ} → Cut xs n ys → drop n xs ≡ ys
+  left {n = n} {ys} p = ap (drop n) p.whole ∙ (ap (λ k. drop k (p.front ++ ys)) (sym p.length_is) ∙ drop-append_seam p.front ys)
 
 pub cut_then : {xs : List ℕ} {n : ℕ} {ys : List ℕ} {m : ℕ} {zs : List ℕ} → Cut xs n ys → Cut ys m zs → Cut xs (n + m) zs
 cut_then {zs = zs} p q = record {
   front = p.front ++ q.front;
   whole = p.whole ∙ (ap (λ xs. p.front ++ xs) q.whole ∙ sym (append_assoc p.front q.front zs));
-  length_is = omega (arith, items_len-append len_utf8 p.front q.front, p.length_is, q.length_is);
+  length_is = omega (arith, length-append p.front q.front, p.length_is, q.length_is);
 }
 
--- an outcome, by the characters
+-- an outcome, by the bytes
 abbrev pub EndsSo : {V : Type 0} → Endings → List ℕ → Outcome V → Type 0
 EndsSo R xs (Accept n v) = (ys : List ℕ) × Cut xs n ys × R xs (Leaving ys)
 EndsSo R xs Refuse = R xs Refusing
@@ -65,7 +79,7 @@ ends_as R Q f (Stop (Needs k)) h = h
 
 -- Each outcome of a part is one of these endings.
 pub record Describes {V : Type 0} (R : Endings) (m : Meaning Text V (Error Text)) : Type 0 where
-  pub ends : (i : Text) (o : Outcome V) → text_model.IsKnown i → m.answers false i o → EndsSo R (chars i.now) o
+  pub ends : (i : Text) (o : Outcome V) → text_model.IsKnown i → m.answers false i o → EndsSo R i.now o
 
 -- one part after another
 module _ {P Q T : Type 0} (tree : P → Q → T) (f g : Modes → Modes) {A B : Endings} (R : Endings) {a : Meaning Text P (Error Text)}
@@ -78,27 +92,27 @@ module _ {P Q T : Type 0} (tree : P → Q → T) (f g : Modes → Modes) {A B : 
   next_ends xs ys n u (Stop (Fails z)) c h s = joins xs ys Failing h s
   next_ends xs ys n u (Stop (Needs k)) c h s = s
 
-  goes_on_ends : (i : Text) (o : Outcome T) (x : Outcome P) → EndsSo A (chars i.now) x → GoesOn text_model tree (λ _. b.answers false) i x o →
-      EndsSo R (chars i.now) o
-  goes_on_ends i o (Accept n u) h (j, y, s, k, e) =
-      let c = cut_rest s in
-      let there = subst (λ ys. A (chars i.now) (Leaving ys)) (one_cut h.1 c) h.2 in
-      subst (EndsSo R (chars i.now)) (sym e) (next_ends (chars i.now) (chars j.now) n u y c there (db.ends j y s.known k))
-  goes_on_ends i o Refuse h e = subst (EndsSo R (chars i.now)) (sym e) (refuses (chars i.now) h)
-  goes_on_ends i o (Stop (Fails z)) h e = subst (EndsSo R (chars i.now)) (sym e) (fails (chars i.now) h)
-  goes_on_ends i o (Stop (Needs k)) h e = absurd h
+  goes_on_ends : (i : Text) (o : Outcome T) (x : Outcome P) → text_model.IsKnown i → EndsSo A i.now x → GoesOn text_model tree (λ _. b.answers false) i x o →
+      EndsSo R i.now o
+  goes_on_ends i o (Accept n u) known h (j, y, s, k, e) =
+      let c = cut_rest known s in
+      let there = subst (λ ys. A i.now (Leaving ys)) (one_cut h.1 c) h.2 in
+      subst (EndsSo R i.now) (sym e) (next_ends i.now j.now n u y c there (db.ends j y s.known k))
+  goes_on_ends i o Refuse known h e = subst (EndsSo R i.now) (sym e) (refuses i.now h)
+  goes_on_ends i o (Stop (Fails z)) known h e = subst (EndsSo R i.now) (sym e) (fails i.now h)
+  goes_on_ends i o (Stop (Needs k)) known h e = absurd h
 
   pub then_described : Describes R (sequence_meaning text_model tree f g a b)
-  then_described = record { ends = λ i o known h. goes_on_ends i o h.first (da.ends i h.first known h.answered) h.goes_on }
+  then_described = record { ends = λ i o known h. goes_on_ends i o h.first known (da.ends i h.first known h.answered) h.goes_on }
 
 -- the first of two parts that isn't refused
 module _ {P : Type 0} {A B : Endings} (R : Endings)
     {a b : Meaning Text P (Error Text)} (da : Describes A a) (db : Describes B b) (first : (xs ys : List ℕ) → A xs (Leaving ys) → R xs (Leaving ys))
     (second : (xs : List ℕ) (e : Ending) → A xs Refusing → B xs e → R xs e) (fails : (xs : List ℕ) → A xs Failing → R xs Failing) where
-  or_ends : (i : Text) (o x : Outcome P) → text_model.IsKnown i → EndsSo A (chars i.now) x → GoesOnRefused (b.answers false i) x o → EndsSo R (chars i.now) o
-  or_ends i o (Accept n v) known h e = subst (EndsSo R (chars i.now)) (sym e) (h.0, h.1, first (chars i.now) h.0 h.2)
-  or_ends i o Refuse known h k = ends_as B R (λ e. second (chars i.now) e h) o (db.ends i o known k)
-  or_ends i o (Stop (Fails c)) known h e = subst (EndsSo R (chars i.now)) (sym e) (fails (chars i.now) h)
+  or_ends : (i : Text) (o x : Outcome P) → text_model.IsKnown i → EndsSo A i.now x → GoesOnRefused (b.answers false i) x o → EndsSo R i.now o
+  or_ends i o (Accept n v) known h e = subst (EndsSo R i.now) (sym e) (h.0, h.1, first i.now h.0 h.2)
+  or_ends i o Refuse known h k = ends_as B R (λ e. second i.now e h) o (db.ends i o known k)
+  or_ends i o (Stop (Fails c)) known h e = subst (EndsSo R i.now) (sym e) (fails i.now h)
   or_ends i o (Stop (Needs n)) known h e = absurd h
 
   pub or_described : (Joins : Error Text → Error Text → Error Text → Type 0) (Grows : Type 0) → Describes R (or_meaning Joins Grows a b)
@@ -107,7 +121,7 @@ module _ {P : Type 0} {A B : Endings} (R : Endings)
 -- cases over a part that runs at the same place
 module _ {P T : Type 0} {m : Meaning Text P (Error Text)} {A : Endings} (d : Describes A m) (c : Case Text Text P T (Error Text) (Error Text))
     (at : (i j : Text) → c.At i j → i ≡ j) (asked : mode_of c.mode false ≡ false) where
-  pub case_described : (R : Endings) → ((i : Text) (a : Outcome P) (o : Outcome T) → c.Becomes i a o → EndsSo A (chars i.now) a → EndsSo R (chars i.now) o) →
+  pub case_described : (R : Endings) → ((i : Text) (a : Outcome P) (o : Outcome T) → c.Becomes i a o → EndsSo A i.now a → EndsSo R i.now o) →
       Describes R (case_meaning c m)
   case_described R turns = record {
     ends = λ i o known h.
@@ -126,16 +140,16 @@ module _ {P : Type 0} {m : Meaning Text P (Error Text)} {A : Endings} (d : Descr
   pub like_described : {T : Type 0} (outputs : Bool → Bool) (Becomes : Text → Outcome P → Outcome T → Type 0) →
       ((i : Text) (a : Outcome P) (o : Outcome T) → Becomes i a o → (f : P → T) × (o ≡ labelled f a)) → Describes A (case_meaning (plain_case outputs Becomes) m)
   like_described outputs Becomes label = case_described d (plain_case outputs Becomes) (λ i j e. e) refl A
-      (λ i a o b h. let l = label i a o b in subst (EndsSo A (chars i.now)) (sym l.1) (like_ends l.0 (chars i.now) a h))
+      (λ i a o b h. let l = label i a o b in subst (EndsSo A i.now) (sym l.1) (like_ends l.0 i.now a h))
 
   -- what it ends as alone
   pub closed_described : {Closes : Text → Error Text → Error Text → Type 0} {Grows : Type 0} → Describes A (closed_meaning Closes Grows m)
   closed_described {Closes} {Grows} = case_described d (closed_case Closes Grows) (λ i j e. e) refl A
-      (λ i a o e h. subst (EndsSo A (chars i.now)) (sym e) h)
+      (λ i a o e h. subst (EndsSo A i.now) (sym e) h)
 
   pub map_described : {O : Type 0} {IsOutput : P → O → Type 0} {Takes : O → Type 0} → Describes A (map_meaning IsOutput Takes m)
   map_described {IsOutput = IsOutput} {Takes} = case_described d (map_case IsOutput Takes) (λ i j e. e) refl A
-      (λ i a o e h. subst (EndsSo A (chars i.now)) (sym e) h)
+      (λ i a o e h. subst (EndsSo A i.now) (sym e) h)
 
   pub built_described : Describes A (built_meaning m)
   built_described = record { ends = d.ends }
@@ -151,13 +165,13 @@ module _ {P : Type 0} {m : Meaning Text P (Error Text)} {A : Endings} (d : Descr
   pub opt_described : (R : Endings) → ((xs ys : List ℕ) → A xs (Leaving ys) → R xs (Leaving ys)) → ((xs : List ℕ) → A xs Refusing → R xs (Leaving xs)) →
       ((xs : List ℕ) → A xs Failing → R xs Failing) → Describes R (opt_meaning m)
   opt_described R some none fails = case_described d (verdict_case opt_outcome (λ _. false) (λ Part. Part)) (λ i j e. e) refl R
-      (λ i a o e h. subst (EndsSo R (chars i.now)) (sym e) (opt_ends R some none fails (chars i.now) a h))
+      (λ i a o e h. subst (EndsSo R i.now) (sym e) (opt_ends R some none fails i.now a h))
 
 -- a part without parts
 module _ {V : Type 0} (leaf : Leaf Text V) (R : Endings)
-    (accepted : (i : Text) (n : ℕ) (v : V) → text_model.IsKnown i → leaf.Accepts false i n v → EndsSo R (chars i.now) (Accept n v))
-    (refused : (i : Text) → text_model.IsKnown i → leaf.Refuses false i → R (chars i.now) Refusing) where
-  leaf_ends : (i : Text) (o : Outcome V) → text_model.IsKnown i → LeafAnswers leaf false i o → EndsSo R (chars i.now) o
+    (accepted : (i : Text) (n : ℕ) (v : V) → text_model.IsKnown i → leaf.Accepts false i n v → EndsSo R i.now (Accept n v))
+    (refused : (i : Text) → text_model.IsKnown i → leaf.Refuses false i → R i.now Refusing) where
+  leaf_ends : (i : Text) (o : Outcome V) → text_model.IsKnown i → LeafAnswers leaf false i o → EndsSo R i.now o
   leaf_ends i (Accept n v) known h = accepted i n v known h
   leaf_ends i Refuse known h = refused i known h
   leaf_ends i (Stop (Fails c)) known h = absurd h
@@ -175,7 +189,7 @@ pub by : {O V : Type 0} {R : Endings} {g : TextWord O} {h : Grammar Text V O (Er
 by {R = R} e d = subst (Described R) (sym e) (record { meant = d })
 
 pub described_as : {O : Type 0} {R Q : Endings} {g : TextWord O} → ((xs : List ℕ) (e : Ending) → R xs e → Q xs e) → Described R g → Described Q g
-described_as {R = R} {Q} f d = record { meant = record { ends = λ i o known h. ends_as R Q (f (chars i.now)) o (d.meant.ends i o known h) } }
+described_as {R = R} {Q} f d = record { meant = record { ends = λ i o known h. ends_as R Q (f i.now) o (d.meant.ends i o known h) } }
 
 module _ {O : Type 0} {R : Endings} {g : TextWord O} (d : Described R g) where
   pub tuple_by : {F : Type 0} (pairs : F → O) → Described R (tuple_of pairs g)

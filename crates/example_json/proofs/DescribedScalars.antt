@@ -160,23 +160,23 @@ maybe f xs = or_else (f xs) (Some xs)
 
 -- they are the same, or what is read is broken off, and no number is there
 data Agrees (Broken : List ℕ → Type 0) (parsed is : Option (List ℕ)) : Type 0 where
-  alike : parsed ≡ is → Agrees Broken parsed is
+  exact : parsed ≡ is → Agrees Broken parsed is
   broken : (ys : List ℕ) → parsed ≡ Some ys → Broken ys → is ≡ None → Agrees Broken parsed is
 
 agrees_then : (Broken : List ℕ → Type 0) (o : Option (List ℕ)) (f g : After) → ((ys : List ℕ) → Agrees Broken (f ys) (g ys)) →
     Agrees Broken (and_then o f) (and_then o g)
 agrees_then Broken (Some ys) f g h = h ys
-agrees_then Broken None f g h = alike refl
+agrees_then Broken None f g h = exact refl
 
 -- what is missing after its mark
 lacks : (Broken : List ℕ → Type 0) (xs : List ℕ) (o : Option (List ℕ)) → Broken xs → Agrees Broken (or_else o (Some xs)) o
-lacks Broken xs (Some ys) b = alike refl
+lacks Broken xs (Some ys) b = exact refl
 lacks Broken xs None b = broken xs refl b refl
 
 marked : (Broken : List ℕ → Type 0) (t : Bool) (xs zs : List ℕ) (f : After) → (t ≡ true → Broken xs) →
     Agrees Broken (or_else (and_then (if t then Some zs else None) f) (Some xs)) (if t then f zs else Some xs)
 marked Broken true xs zs f b = lacks Broken xs (f zs) (b refl)
-marked Broken false xs zs f b = alike refl
+marked Broken false xs zs f b = exact refl
 
 one_or : (t : Bool) (zs ws : List ℕ) → or_else (if t then Some zs else None) (Some ws) ≡ Some (if t then zs else ws)
 one_or true zs ws = refl
@@ -218,7 +218,7 @@ abbrev after_more : After
 after_more xs = and_then (after_fraction xs) after_exponent
 
 more_by : (xs : List ℕ) → Agrees (λ ys. begins 46 ys ≡ true) (parsed_fraction xs) (after_fraction xs) → Agrees IsBrokenOff (parsed_more xs) (after_more xs)
-more_by xs (alike e) = subst (λ o. Agrees IsBrokenOff (parsed_more xs) (and_then o after_exponent)) e
+more_by xs (exact e) = subst (λ o. Agrees IsBrokenOff (parsed_more xs) (and_then o after_exponent)) e
     (agrees_then IsBrokenOff (parsed_fraction xs) parsed_exponent after_exponent exponent_agrees)
 more_by xs (broken ys p b n) = broken ys (ap (λ o. and_then o parsed_exponent) p ∙ no_exponent ys b)
     (first_left (λ c. c == 46) (is_listed (codes "eE")) ys b) (ap (λ o. and_then o after_exponent) n)
@@ -273,7 +273,7 @@ still_broken (b ∷ bs) h = let none : is_multispace_code b ≡ false = grind (a
 -- a number, by what is read of it, and white space after it
 number_read : (d : ℕ) (xs j : List ℕ) → parsed_number xs ≡ Some j → Agrees IsBrokenOff (parsed_number xs) (after_number xs) →
     IsRead is_number d xs (after_spaces j)
-number_read d xs j e (alike same) =
+number_read d xs j e (exact same) =
     let s = number_starts xs parsed_more j (sym (parsed_is xs) ∙ e) in
     let is : after_number xs ≡ Some j = sym same ∙ e in
     record {
@@ -291,7 +291,7 @@ number_read d xs j e (broken ys p b n) =
     }
 
 no_number : (xs r : List ℕ) → parsed_number xs ≡ None → Agrees IsBrokenOff (parsed_number xs) (after_number xs) → after_number xs ≡ Some r → ⊥
-no_number xs r e (alike same) h = cc (e, same, h)
+no_number xs r e (exact same) h = cc (e, same, h)
 no_number xs r e (broken ys p b n) h = cc (n, h)
 
 number_branch : (d : ℕ) (xs : List ℕ) (e : Ending) → Gives (λ zs. and_then (parsed_number zs) (λ j. Some (after_spaces j))) xs e → Branch is_number d xs e
@@ -304,8 +304,8 @@ number_branch d xs Refusing h = λ s r v.
 number_branch d xs Failing h = absurd h
 
 digits_described : Described (Gives parsed_number) digits_of
-digits_described = recognize_by (tuple_by (pair_gives (opt_gives (char_by 45)) (pair_gives (alt_by (or_gives (word_by (codes "0") refl) digits_by))
-    (pair_gives (opt_gives (preceded_gives (char_by 46) digits_by))
+digits_described = recognize_by (tuple_by (pair_gives (opt_gives (char_by 45 (omega arith))) (pair_gives (alt_by (or_gives (word_by (codes "0") refl) digits_by))
+    (pair_gives (opt_gives (preceded_gives (char_by 46 (omega arith)) digits_by))
     (opt_gives (preceded_gives (pair_gives (one_of_by (codes "eE") refl) (opt_gives (one_of_by (codes "+-") refl))) digits_by))))) _)
 
 pub number_described : (d : ℕ) → Described (Branch is_number d) number_of

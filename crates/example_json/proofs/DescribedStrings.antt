@@ -1,6 +1,6 @@
 -- Strings, described.
 use Rattle.std.specs.Prelude.{◌≡◌, ℕ, zero, suc, ◌+◌, ◌==◌, ◌<◌, ◌≤◌, ◌↔◌, Bool, true, false, ltb, if◌then◌else◌, List, [], ◌∷◌, Option, None, Some}
-use Rattle.std.specs.Prelude.{chars, codes, length}
+use Rattle.std.specs.Prelude.{codes, length}
 use Rattle.std.specs.Char.{IsScalar}
 use Rattle.std.proofs.Common.{arith, sym, ◌∙◌, ap, refl, subst, inl}
 use Rattle.std.proofs.lemmas.Bool.{le-ltb}
@@ -61,7 +61,7 @@ abbrev piece : After
 piece = led (λ b. b == 92) after_piece
 
 escape_by : Described (Gives (λ xs. and_then (after_byte (λ b. b == 92) xs) after_escape)) (Tokens.escape_of text_model plain_errors uncut IsScalar)
-escape_by = preceded_gives (char_by 92) (alt_by (same_gives (or_gives (terminated_gives (char_by 117) (tuple_by (pair_gives hex_by (pair_gives hex_by
+escape_by = preceded_gives (char_by 92 (omega arith)) (alt_by (same_gives (or_gives (terminated_gives (char_by 117 (omega arith)) (tuple_by (pair_gives hex_by (pair_gives hex_by
     (pair_gives hex_by (same_gives hex_by (λ bs. and_some (after_byte is_hex_digit_code bs)))))) _)) (one_of_by (codes "\"\\/bfnrt") refl)) escape_same))
 
 -- what is left of it is shorter
@@ -125,20 +125,20 @@ module _ {V : Type 0} {m : Meaning Text V (Error Text)} (d : Describes (Gives pi
   not_empty xs ys c e = omega (arith, piece_shorter xs ys e, ap length (one_cut c (cut_none xs)))
 
   turn_says : (k : ℕ) (i : Text) (x : Option (Outcome V)) → text_model.IsKnown i → Replies None (λ _. m.answers false) k i x →
-      TurnSays (chars i.now) (item_turn (any_limits Kind.Many0Count) k x)
+      TurnSays i.now (item_turn (any_limits Kind.Many0Count) k x)
   turn_says k i (Some (Accept zero v)) known h =
       let s = d.ends i (Accept 0 v) known h.1 in
-      absurd (not_empty (chars i.now) s.0 s.1 s.2)
+      absurd (not_empty i.now s.0 s.1 s.2)
   turn_says k i (Some (Accept (suc n) v)) known h = d.ends i (Accept (suc n) v) known h.1
   turn_says k i (Some Refuse) known h =
       let none : ltb k 0 ≡ false = le-ltb k 0 (omega arith) in
-      subst (λ t. TurnSays {V = V} (chars i.now) (refused_turn t)) (sym none) (refl, d.ends i Refuse known h.1)
+      subst (λ t. TurnSays {V = V} i.now (refused_turn t)) (sym none) (refl, d.ends i Refuse known h.1)
   turn_says k i (Some (Stop (Fails c))) known h = absurd (d.ends i (Stop (Fails c)) known h.1)
   turn_says k i (Some (Stop (Needs n))) known h = absurd (d.ends i (Stop (Needs n)) known h.1)
   turn_says k i None known h = absurd (h tt)
 
-  says : (k : ℕ) (i : Text) (t : Turn V (Unit {0})) → text_model.IsKnown i → Turns k i t → TurnSays (chars i.now) t
-  says k i t known h = subst (TurnSays (chars i.now)) (sym h.fact) (turn_says k i h.reply known h.replied)
+  says : (k : ℕ) (i : Text) (t : Turn V (Unit {0})) → text_model.IsKnown i → Turns k i t → TurnSays i.now t
+  says k i t known h = subst (TurnSays i.now) (sym h.fact) (turn_says k i h.reply known h.replied)
 
   ended : (us : List V) (xs : List ℕ) (o : Outcome (Unit {0})) → TurnSays {V = V} xs (Ends o) → EndsSo Runs xs (after 0 (λ _. us) o)
   ended us xs (Accept n w) h =
@@ -165,18 +165,18 @@ module _ {V : Type 0} {m : Meaning Text V (Error Text)} (d : Describes (Gives pi
   one_more us xs ys a n (Stop (Needs z)) c e h = h
 
   runs : (us : List V) (o : Outcome (Unit {0})) (k : ℕ) (i : Text) → text_model.IsKnown i → (vs : List V) (n : ℕ) →
-      Pieces text_model Turns (λ k j. Turns k j (Ends o)) k i vs n → EndsSo Runs (chars i.now) (after n (λ _. us) o)
+      Pieces text_model Turns (λ k j. Turns k j (Ends o)) k i vs n → EndsSo Runs i.now (after n (λ _. us) o)
   runs us o k i known [] n p =
-      subst (λ n. EndsSo Runs (chars i.now) (after n (λ _. us) o)) (sym p.0) (ended us (chars i.now) o (says k i (Ends o) known p.1))
+      subst (λ n. EndsSo Runs i.now (after n (λ _. us) o)) (sym p.0) (ended us i.now o (says k i (Ends o) known p.1))
   runs us o k i known (v ∷ vs) n (a, l, j, t, s, p, e) =
       let h = says k i (Takes a v) known t in
-      let there = one_cut h.1 (cut_rest s) in
-      subst (λ n. EndsSo Runs (chars i.now) (after n (λ _. us) o)) (sym e) (one_more us (chars i.now) (chars j.now) a l o (cut_rest s)
-      (subst (λ ys. piece (chars i.now) ≡ Some ys) there h.2) (runs us o (k + 1) j s.known vs l p))
+      let there = one_cut h.1 (cut_rest known s) in
+      subst (λ n. EndsSo Runs i.now (after n (λ _. us) o)) (sym e) (one_more us i.now j.now a l o (cut_rest known s)
+      (subst (λ ys. piece i.now ≡ Some ys) there h.2) (runs us o (k + 1) j s.known vs l p))
 
   many_described : Describes Runs (items_meaning text_model plain_errors (any_limits Kind.Many0Count) ⊥ m)
   many_described = record {
-    ends = λ i o known h. subst (EndsSo Runs (chars i.now)) (sym h.outcome_is) (runs h.trees h.ending 0 i known h.trees h.taken h.pieces);
+    ends = λ i o known h. subst (EndsSo Runs i.now) (sym h.outcome_is) (runs h.trees h.ending 0 i known h.trees h.taken h.pieces);
   }
 
 piece_same_as : (xs : List ℕ) → piece xs ≡ and_then (and_then (after_byte (λ b. b == 92) xs) after_escape) after_plain
@@ -247,7 +247,7 @@ opens xs ys Refusing h c = λ r s.
 opens xs ys Failing h c = c
 
 pub text_described : Described (Alone Quoted) text_of
-text_described = map_by (tuple_by (pair_by (Alone Quoted) (char_by 34) (pair_by (Alone JsonCharacters) characters_by (char_by 34) closes (λ xs h. absurd h)
+text_described = map_by (tuple_by (pair_by (Alone Quoted) (char_by 34 (omega arith)) (pair_by (Alone JsonCharacters) characters_by (char_by 34 (omega arith)) closes (λ xs h. absurd h)
     (λ xs h. h)) opens (λ xs h r s. differ (begins 34 xs) s.0 (if_not (begins 34 xs) (rest xs) h)) (λ xs h. h)) _) _
 
 -- as a value

@@ -1,5 +1,5 @@
 -- Values and whole texts, described: values hold values, down to a depth.
-use Rattle.std.specs.Prelude.{◌≡◌, ℕ, zero, suc, ◌==◌, ◌<◌, ◌≤◌, ◌⊎◌, ◌||◌, Bool, true, false, List, [], ◌∷◌, Some, chars, codes}
+use Rattle.std.specs.Prelude.{◌≡◌, ℕ, zero, suc, ◌==◌, ◌<◌, ◌≤◌, ◌⊎◌, ◌||◌, Bool, true, false, List, [], ◌∷◌, Some, codes}
 use Rattle.std.proofs.Common.{arith, sym, ◌∙◌, ap, ap₂, refl, subst, inl, inr}
 use Rattle.std.proofs.lemmas.Bool.{eq-eqb, eqb-true}
 use Rattle.nom_error.specs.declared.value.Error.{Error}
@@ -31,7 +31,7 @@ use Rattle.example_json.proofs.DescribedScalars.{Branch, IsBrokenOff, apart, bra
 use Rattle.example_json.proofs.DescribedScalars.{number_described, number_starts, word_described, word_starts}
 use Rattle.example_json.proofs.DescribedStrings.{Alone, Quoted, string_described, text_described}
 use Rattle.example_json.proofs.DescribedTokens.{AtEnd, end_by, one_of_by, spaces_by, token_by}
-use Rattle.example_json.proofs.DescribedValues.{Behind, Item, behind_by, brackets_described, list_described, opened}
+use Rattle.example_json.proofs.DescribedValues.{Behind, Item, behind_by, brackets_described, list_described, opened, small_closing}
 
 -- the first characters of values
 abbrev is_scalar : ℕ → Bool
@@ -78,7 +78,7 @@ look_ends xs (Stop (Needs k)) o e h = absurd h
 
 look_described : Described Looking (peek_of (one_of_of (codes "[{")))
 look_described = by (peek_worded refl) (case_described (one_of_by (codes "[{") refl).meant (plain_case (λ b. b) (λ i. Passes Looks)) (λ i j e. e) refl Looking
-    (λ i a o e h. look_ends (chars i.now) a o e h))
+    (λ i a o e h. look_ends i.now a o e h))
 
 -- what is refused always, and what fails
 abbrev Only : Ending → Endings
@@ -95,7 +95,7 @@ fails_ends xs (Stop (Needs k)) o e h = absurd h
 fails_described : {V : Type 0} → Described (Only Failing) (cut_of (fail_of {V = V}))
 fails_described = by (cut_worded (fail_worded plain_errors)) (case_described
     (leaf_described fail_leaf (Only Refusing) (λ i n v known h. absurd h) (λ i known h. tt) (Unit {0}) (Unit {0}))
-    (verdict_case cut_outcome (λ _. true) NeverCut) (λ i j e. e) refl (Only Failing) (λ i a o e h. fails_ends (chars i.now) a o e h))
+    (verdict_case cut_outcome (λ _. true) NeverCut) (λ i j e. e) refl (Only Failing) (λ i a o e h. fails_ends i.now a o e h))
 
 too_deep : (xs : List ℕ) → first_is is_open xs ≡ true → (r : List ℕ) (v : JsonValue xs r) → 0 < nesting v
 too_deep xs h r v = elim (first_or (λ b. b == 91) (λ b. b == 123) xs h) [
@@ -206,7 +206,7 @@ no_name d xs h r (element p v) = cc (p)
 no_name d xs h r (member j p n b v) = h n.1.0 (n.0, n.1.1)
 
 member_described : {g : TextWord Json} (d : ℕ) → Described (Branch is_start d) g → Described (Item Object d) (member_of g)
-member_described d v = map_by (tuple_by (pair_by (Item Object d) text_described (spaced_by (Behind 58 (Branch is_start d)) (behind_by 58 (Branch is_start d) v))
+member_described d v = map_by (tuple_by (pair_by (Item Object d) text_described (spaced_by (Behind 58 (Branch is_start d)) (behind_by 58 (omega arith) (Branch is_start d) v))
     (λ xs ys e name h. member_ends d xs ys name e h) (no_name d) (λ xs h. absurd h)) _) _
 
 -- values
@@ -225,8 +225,8 @@ value_described : (d : ℕ) → Described (Branch is_start d) (value_of d)
 value_described zero = described_as (branch_as 0) (branch_or is_scalar is_open 0 (scalar_described 0) deep_described)
 value_described (suc d) =
     let value = value_described d in
-    let array = map_by (tuple_by (brackets_described Array d (list_described Array d (described_as (element_item d) value)) (token_by 93)) _) _ in
-    let object = map_by (tuple_by (brackets_described Object d (list_described Object d (member_described d value)) (token_by 125)) _) _ in
+    let array = map_by (tuple_by (brackets_described Array d (list_described Array d (described_as (element_item d) value)) (token_by 93 (small_closing Array))) _) _ in
+    let object = map_by (tuple_by (brackets_described Object d (list_described Object d (member_described d value)) (token_by 125 (small_closing Object))) _) _ in
     branch_or (λ b. is_scalar b || b == 91) (λ b. b == 123) (suc d) (branch_or is_scalar (λ b. b == 91) (suc d) (scalar_described (suc d)) array) object
 
 -- whole texts
@@ -248,11 +248,11 @@ text_described_whole d = map_by (tuple_by (pair_by (Whole d) (map_by (tuple_by (
     (λ xs h v. h (value_starts v) [] v) (λ xs h. h.1 [])) _) _
 
 module _ (d : ℕ) (i : Text) (known : text_model.IsKnown i) (r : IResult Text Json (Error Text)) where
-  by_outcome : (o : Outcome (json_text_of d).Tree) → EndsSo (Whole d) (chars i.now) o →
+  by_outcome : (o : Outcome (json_text_of d).Tree) → EndsSo (Whole d) i.now o →
       ParsesOutcome text_model (json_text_of d).grammar.IsOutput i ((json_text_of d).grammar.meaning.blames false i) o r → DecidesJson d i r
-  by_outcome (Accept n v) h p = subst (DecidesJson d i) (sym p.4) h.2
-  by_outcome Refuse h p = subst (DecidesJson d i) (sym p.2) h
-  by_outcome (Stop (Fails c)) h p = subst (DecidesJson d i) (sym p.2) h
+  by_outcome (Accept n v) h p = subst (DecidesJson d i) (sym p.4) ((known.0, h.2.0), h.2.1)
+  by_outcome Refuse h p = subst (DecidesJson d i) (sym p.2) (λ j. h j.1)
+  by_outcome (Stop (Fails c)) h p = subst (DecidesJson d i) (sym p.2) (λ j. h j.1)
   by_outcome (Stop (Needs k)) h p = absurd h
 
   pub decides : Parses (json_text_of d) false i r → DecidesJson d i r

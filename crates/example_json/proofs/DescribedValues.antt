@@ -1,5 +1,5 @@
 -- Values with brackets, described; and whole texts.
-use Rattle.std.specs.Prelude.{◌≡◌, ℕ, zero, suc, max, ◌+◌, ◌==◌, ◌<◌, ◌≤◌, ◌⊎◌, true, false, List, [], ◌∷◌, Option, None, Some, chars, codes}
+use Rattle.std.specs.Prelude.{◌≡◌, ℕ, zero, suc, max, ◌+◌, ◌==◌, ◌<◌, ◌≤◌, ◌⊎◌, true, false, List, [], ◌∷◌, Option, None, Some, codes}
 use Rattle.std.proofs.Common.{arith, sym, ◌∙◌, ap, refl, subst, inl, inr}
 use Rattle.nom_error.specs.declared.value.Error.{Error}
 use Rattle.nom_internal.specs.Prelude.{Accept, Fails, Meaning, Needs, Outcome, Refuse, Stop, after, labelled, text_model}
@@ -35,8 +35,8 @@ behind_at c R xs (Leaving ys) b h = (b, h)
 behind_at c R xs Refusing b h = λ _. h
 behind_at c R xs Failing b h = (b, h)
 
-pub behind_by : {O : Type 0} (c : ℕ) (R : Endings) {g : TextWord O} → Described R g → Described (Behind c R) (pair_of (token_of c) g)
-behind_by c R d = pair_by (Behind c R) (token_by c) d
+pub behind_by : {O : Type 0} (c : ℕ) → c < 128 → (R : Endings) {g : TextWord O} → Described R g → Described (Behind c R) (pair_of (token_of c) g)
+behind_by c small R d = pair_by (Behind c R) (token_by c small) d
     (λ xs ys e t h. let l = token_left c xs ys t in behind_at c R xs e l.0 (subst (λ zs. R zs e) (sym l.1) h))
     (λ xs t b. absurd (token_not c xs t b)) (λ xs h. absurd h)
 
@@ -171,7 +171,7 @@ one_more A B Q us xs ys a n (Stop (Needs k)) c i goes none fails h = h
 
 module _ {O : Type 0} {g : TextWord O} (o : Bracket) (d : ℕ) (item : Described (Item o d) g) where
   next_described : Described (Behind 44 (Item o d)) (after_comma g)
-  next_described = map_by (tuple_by (behind_by 44 (Item o d) item) _) _
+  next_described = map_by (tuple_by (behind_by 44 (omega arith) (Item o d) item) _) _
 
   abbrev Tree : Type 0
   Tree = g.Tree ⊎ (after_comma g).Tree
@@ -190,15 +190,15 @@ module _ {O : Type 0} {g : TextWord O} (o : Bracket) (d : ℕ) (item : Described
   next_part (suc k) h = like_described next_described.meant (λ b. b) (λ i a p. p ≡ labelled inr a) (λ i a p e. (inr, e))
 
   turn_says : (R : Endings) (k : ℕ) (i : Text) (x : Option (Outcome Tree)) → Describes R (part_at k) → text_model.IsKnown i →
-      Replies None (λ k. (part_at k).answers false) k i x → TurnSays R (chars i.now) (list_turn k x)
+      Replies None (λ k. (part_at k).answers false) k i x → TurnSays R i.now (list_turn k x)
   turn_says R k i (Some (Accept n v)) p known h = p.ends i (Accept n v) known h.1
   turn_says R k i (Some Refuse) p known h = (refl, p.ends i Refuse known h.1)
   turn_says R k i (Some (Stop (Fails c))) p known h = p.ends i (Stop (Fails c)) known h.1
   turn_says R k i (Some (Stop (Needs n))) p known h = p.ends i (Stop (Needs n)) known h.1
   turn_says R k i None p known h = absurd (h tt)
 
-  says : (R : Endings) (k : ℕ) (i : Text) (t : Turn Tree (Unit {0})) → Describes R (part_at k) → text_model.IsKnown i → Turns k i t → TurnSays R (chars i.now) t
-  says R k i t p known h = subst (TurnSays R (chars i.now)) (sym h.fact) (turn_says R k i h.reply p known h.replied)
+  says : (R : Endings) (k : ℕ) (i : Text) (t : Turn Tree (Unit {0})) → Describes R (part_at k) → text_model.IsKnown i → Turns k i t → TurnSays R i.now t
+  says R k i t p known h = subst (TurnSays R i.now) (sym h.fact) (turn_says R k i h.reply p known h.replied)
 
   -- a comma and an item, and then others
   other_read : (xs ys zs : List ℕ) → Behind 44 (Item o d) xs (Leaving ys) → AreRead o d ys zs → AreRead o d xs zs
@@ -217,17 +217,17 @@ module _ {O : Type 0} {g : TextWord O} (o : Bracket) (d : ℕ) (item : Described
   other_fails xs ys (b, i) others r (inr f) c = item_deep o d (after_spaces (rest xs)) ys r i.only others f.1 c
 
   others_end : {T : Type 0} (us : T) (e : Outcome (Unit {0})) (k : ℕ) → 0 < k → (i : Text) → text_model.IsKnown i → (vs : List Tree) (n : ℕ) →
-      Pieces text_model Turns (λ k j. Turns k j (Ends e)) k i vs n → EndsSo (Others o d) (chars i.now) (after n (λ _. us) e)
+      Pieces text_model Turns (λ k j. Turns k j (Ends e)) k i vs n → EndsSo (Others o d) i.now (after n (λ _. us) e)
   others_end us e k later i known [] n p =
       let h = says (Behind 44 (Item o d)) k i (Ends e) (next_part k later) known p.1 in
-      subst (λ n. EndsSo (Others o d) (chars i.now) (after n (λ _. us) e)) (sym p.0)
-      (ended Tree (Behind 44 (Item o d)) (Others o d) us (chars i.now) e (no_others o d (chars i.now)) (others_fail o d (chars i.now)) h)
+      subst (λ n. EndsSo (Others o d) i.now (after n (λ _. us) e)) (sym p.0)
+      (ended Tree (Behind 44 (Item o d)) (Others o d) us i.now e (no_others o d i.now) (others_fail o d i.now) h)
   others_end us e k later i known (v ∷ vs) n (a, l, j, t, s, p, sum) =
       let h = says (Behind 44 (Item o d)) k i (Takes a v) (next_part k later) known t in
-      let there = subst (λ ys. Behind 44 (Item o d) (chars i.now) (Leaving ys)) (one_cut h.1 (cut_rest s)) h.2 in
-      subst (λ n. EndsSo (Others o d) (chars i.now) (after n (λ _. us) e)) (sym sum)
-      (one_more (Behind 44 (Item o d)) (Others o d) (Others o d) us (chars i.now) (chars j.now) a l e (cut_rest s) there
-      (λ zs. other_read (chars i.now) (chars j.now) zs) (λ x. x) (other_fails (chars i.now) (chars j.now))
+      let there = subst (λ ys. Behind 44 (Item o d) i.now (Leaving ys)) (one_cut h.1 (cut_rest known s)) h.2 in
+      subst (λ n. EndsSo (Others o d) i.now (after n (λ _. us) e)) (sym sum)
+      (one_more (Behind 44 (Item o d)) (Others o d) (Others o d) us i.now j.now a l e (cut_rest known s) there
+      (λ zs. other_read i.now j.now zs) (λ x. x) (other_fails i.now j.now)
       (others_end us e (k + 1) (omega arith) j s.known vs l p))
 
   -- the first item, or none
@@ -244,22 +244,22 @@ module _ {O : Type 0} {g : TextWord O} (o : Bracket) (d : ℕ) (item : Described
   }
 
   list_end : {T : Type 0} (us : T) (e : Outcome (Unit {0})) (i : Text) → text_model.IsKnown i → (vs : List Tree) (n : ℕ) →
-      Pieces text_model Turns (λ k j. Turns k j (Ends e)) 0 i vs n → EndsSo (Items o d) (chars i.now) (after n (λ _. us) e)
+      Pieces text_model Turns (λ k j. Turns k j (Ends e)) 0 i vs n → EndsSo (Items o d) i.now (after n (λ _. us) e)
   list_end us e i known [] n p =
       let h = says (Item o d) 0 i (Ends e) first_part known p.1 in
-      subst (λ n. EndsSo (Items o d) (chars i.now) (after n (λ _. us) e)) (sym p.0)
-      (ended Tree (Item o d) (Items o d) us (chars i.now) e (no_items (chars i.now)) (items_fail (chars i.now)) h)
+      subst (λ n. EndsSo (Items o d) i.now (after n (λ _. us) e)) (sym p.0)
+      (ended Tree (Item o d) (Items o d) us i.now e (no_items i.now) (items_fail i.now) h)
   list_end us e i known (v ∷ vs) n (a, l, j, t, s, p, sum) =
       let h = says (Item o d) 0 i (Takes a v) first_part known t in
-      let there = subst (λ ys. Item o d (chars i.now) (Leaving ys)) (one_cut h.1 (cut_rest s)) h.2 in
-      subst (λ n. EndsSo (Items o d) (chars i.now) (after n (λ _. us) e)) (sym sum)
-      (one_more (Item o d) (Others o d) (Items o d) us (chars i.now) (chars j.now) a l e (cut_rest s) there
-      (λ zs. items_read (chars i.now) (chars j.now) zs) (λ x. x) (λ x others. (x.starts, λ r w c. item_deep o d (chars i.now) (chars j.now) r x.only others w c))
+      let there = subst (λ ys. Item o d i.now (Leaving ys)) (one_cut h.1 (cut_rest known s)) h.2 in
+      subst (λ n. EndsSo (Items o d) i.now (after n (λ _. us) e)) (sym sum)
+      (one_more (Item o d) (Others o d) (Items o d) us i.now j.now a l e (cut_rest known s) there
+      (λ zs. items_read i.now j.now zs) (λ x. x) (λ x others. (x.starts, λ r w c. item_deep o d i.now j.now r x.only others w c))
       (others_end us e 1 (omega arith) j s.known vs l p))
 
   pub list_described : {M : Type 0} → Described (Items o d) (list_of {M = M} g)
   list_described = by (list_worded g) (record {
-    ends = λ i e known h. subst (EndsSo (Items o d) (chars i.now)) (sym h.outcome_is) (list_end h.trees h.ending i known h.trees h.taken h.pieces);
+    ends = λ i e known h. subst (EndsSo (Items o d) i.now) (sym h.outcome_is) (list_end h.trees h.ending i known h.trees h.taken h.pieces);
   })
 
 -- what stands between brackets, with the closing one and white space
@@ -302,6 +302,14 @@ inside_ends o d xs ys Refusing l h = λ j v. token_not (closing o) ys h (inside_
 inside_ends o d xs ys Failing l h = absurd h
 
 -- the brackets of a value that begins with one
+small_opening : (o : Bracket) → opening o < 128
+small_opening Array = omega arith
+small_opening Object = omega arith
+
+pub small_closing : (o : Bracket) → closing o < 128
+small_closing Array = omega arith
+small_closing Object = omega arith
+
 other_opening : (c : ℕ) → (c == 91) ≡ false → (c == 123) ≡ false → (o : Bracket) (xs : List ℕ) → begins c xs ≡ true → begins (opening o) xs ≡ true → ⊥
 other_opening c n m Array xs b h = one_head c 91 xs n b h
 other_opening c n m Object xs b h = one_head c 123 xs m b h
@@ -341,5 +349,5 @@ bracket_branch o d xs Failing (b, deep) = (b, λ r v. let w = opened o v b in le
 module _ {O P : Type 0} {g : TextWord O} {h : TextWord P} (o : Bracket) (d : ℕ) (list : Described (Items o d) g) (close : Described (Gives (after_token (closing o))) h)
   where
     pub brackets_described : Described (Branch (λ b. b == opening o) (suc d)) (pair_of (token_of (opening o)) (pair_of g h))
-    brackets_described = described_as (bracket_branch o d) (behind_by (opening o) (Inside o d) (pair_by (Inside o d) list close (inside_ends o d)
+    brackets_described = described_as (bracket_branch o d) (behind_by (opening o) (small_opening o) (Inside o d) (pair_by (Inside o d) list close (inside_ends o d)
         (λ xs h. absurd h) (inside_fails o d)))

@@ -1,10 +1,10 @@
 -- How deep the brackets of a JSON text lie in each other, and what is decided of a text up to a depth.
-use Rattle.std.specs.Prelude.{ℕ, suc, max, ◌<◌, ◌≤◌, List, Ok, Err, chars}
+use Rattle.std.specs.Prelude.{ℕ, suc, max, ◌<◌, ◌≤◌, List, Ok, Err}
 use Rattle.nom_internal.specs.Prelude.{IResult}
 use Rattle.nom_error.specs.declared.answer.Err.TheVariants as Answered
 use Rattle.nom_error.specs.declared.value.Error.{Error}
 use Rattle.nom.specs.Texts.{Text}
-use Rattle.nom_json_run.specs.Json.{IsValue, JsonInside, JsonItem, JsonItems, JsonValue}
+use Rattle.nom_json_run.specs.Json.{IsJson, JsonInside, JsonItem, JsonItems, JsonValue}
 use Rattle.nom_json_run.specs.Json.JsonInside.{nothing, some}
 use Rattle.nom_json_run.specs.Json.JsonItem.{element, member}
 use Rattle.nom_json_run.specs.Json.JsonItems.{last, more}
@@ -36,8 +36,8 @@ abbrev mutual
 -- Where it is accepted, a text is JSON, with that many brackets in each other at most. Where it is refused, it is no JSON; and where the answer is a
 -- failure, it is none with so few.
 abbrev pub DecidesJson : {T : Type 0} → ℕ → Text → IResult Text T (Error Text) → Type 0
-DecidesJson depth t (Ok x) = (v : IsValue (chars t.now)) × (nesting v ≤ depth)
-DecidesJson depth t (Err (Answered.Error e)) = IsValue (chars t.now) → ⊥
-DecidesJson depth t (Err (Answered.Failure e)) = (v : IsValue (chars t.now)) → depth < nesting v
+DecidesJson depth t (Ok x) = (j : IsJson t.now) × (nesting j.1 ≤ depth)
+DecidesJson depth t (Err (Answered.Error e)) = IsJson t.now → ⊥
+DecidesJson depth t (Err (Answered.Failure e)) = (j : IsJson t.now) → depth < nesting j.1
 DecidesJson depth t (Err (Answered.Incomplete k)) = ⊥
 DecidesJson depth t (Err Answered.OutOfMemory) = Unit {0}

@@ -48,10 +48,10 @@ Halts p xs (Fails c) = Ends p true xs
 Halts p xs (Needs n) = ⊥
 
 -- an outcome, and that what is accepted has a least length
-abbrev pub Tells : {V : Type 0} → Part → ℕ → List ℕ → Outcome V → Type 0
-Tells p k xs (Accept n v) = (k ≤ n) × Fact p true xs n
-Tells p k xs Refuse = Ends p false xs
-Tells p k xs (Stop why) = Halts p xs why
+abbrev pub OutcomeIs : {V : Type 0} → Part → ℕ → List ℕ → Outcome V → Type 0
+OutcomeIs p k xs (Accept n v) = (k ≤ n) × Fact p true xs n
+OutcomeIs p k xs Refuse = Ends p false xs
+OutcomeIs p k xs (Stop why) = Halts p xs why
 
 -- an error's input is the bytes from a place on, of which the fact holds
 pub record Placed (fact : List ℕ → ℕ → Type 0) (xs ys : List ℕ) : Type 0 where
@@ -60,7 +60,7 @@ pub record Placed (fact : List ℕ → ℕ → Type 0) (xs ys : List ℕ) : Type
   pub holds : fact xs place
 
 pub record Reads {V : Type 0} (p : Part) (k : ℕ) (m : Meaning Bytes V (Error Bytes)) : Type 0 where
-  pub tells : (i : Bytes) (o : Outcome V) → m.answers false i o → Tells p k i.now o
+  pub outcomes : (i : Bytes) (o : Outcome V) → m.answers false i o → OutcomeIs p k i.now o
   pub places : (i : Bytes) (o : Outcome V) (e : Error Bytes) → m.answers false i o → IsFault o → m.blames false i e → Placed (Fact p false) i.now e.input.now
   pub frugal : (mode : Modes) (i : Bytes) → m.may_run_out mode i → ⊥
 
@@ -84,15 +84,15 @@ rest_from i n j s =
 -- a part of which less is said
 module _ {V : Type 0} {p : Part} {k : ℕ} {m : Meaning Bytes V (Error Bytes)} (r : Reads p k m) (q : Part) (l : ℕ) (le : l ≤ k)
     (facts : (t : Bool) (xs : List ℕ) (n : ℕ) → Fact p t xs n → Fact q t xs n) (ends : (s : Bool) (xs : List ℕ) → Ends p s xs → Ends q s xs) where
-  other_tells : (xs : List ℕ) (o : Outcome V) → Tells p k xs o → Tells q l xs o
-  other_tells xs (Accept n v) h = (omega (arith, le, h.0), facts true xs n h.1)
-  other_tells xs Refuse h = ends false xs h
-  other_tells xs (Stop (Fails c)) h = ends true xs h
-  other_tells xs (Stop (Needs n)) h = h
+  other_outcome : (xs : List ℕ) (o : Outcome V) → OutcomeIs p k xs o → OutcomeIs q l xs o
+  other_outcome xs (Accept n v) h = (omega (arith, le, h.0), facts true xs n h.1)
+  other_outcome xs Refuse h = ends false xs h
+  other_outcome xs (Stop (Fails c)) h = ends true xs h
+  other_outcome xs (Stop (Needs n)) h = h
 
   pub reads_as : Reads q l m
   reads_as = record {
-    tells = λ i o h. other_tells i.now o (r.tells i o h);
+    outcomes = λ i o h. other_outcome i.now o (r.outcomes i o h);
     places = λ i o e h t b. moved (facts false i.now) (r.places i o e h t b);
     frugal = r.frugal;
   }
@@ -103,30 +103,30 @@ module _ {P Q T : Type 0} (tree : P → Q → T) (f g : Modes → Modes) (r : Pa
     (joins : (t : Bool) (xs : List ℕ) (n m : ℕ) → Fact p true xs n → Fact q t (drop n xs) m → Fact r t xs (n + m))
     (first : (xs : List ℕ) (n : ℕ) → Fact p false xs n → Fact r false xs n) (ends : (s : Bool) (xs : List ℕ) → Ends p s xs → Ends r s xs)
     (next : (s : Bool) (xs : List ℕ) (n : ℕ) → Fact p true xs n → Ends q s (drop n xs) → Ends r s xs) where
-  after_tells : (xs : List ℕ) (n : ℕ) (u : P) (o : Outcome Q) → Tells p k xs (Accept n u) → Tells q l (drop n xs) o → Tells r (k + l) xs (after n (tree u) o)
-  after_tells xs n u (Accept m v) h h' = (omega (arith, h.0, h'.0), joins true xs n m h.1 h'.1)
-  after_tells xs n u Refuse h h' = next false xs n h.1 h'
-  after_tells xs n u (Stop (Fails c)) h h' = next true xs n h.1 h'
-  after_tells xs n u (Stop (Needs c)) h h' = h'
+  after_outcome : (xs : List ℕ) (n : ℕ) (u : P) (o : Outcome Q) → OutcomeIs p k xs (Accept n u) → OutcomeIs q l (drop n xs) o → OutcomeIs r (k + l) xs (after n (tree u) o)
+  after_outcome xs n u (Accept m v) h h' = (omega (arith, h.0, h'.0), joins true xs n m h.1 h'.1)
+  after_outcome xs n u Refuse h h' = next false xs n h.1 h'
+  after_outcome xs n u (Stop (Fails c)) h h' = next true xs n h.1 h'
+  after_outcome xs n u (Stop (Needs c)) h h' = h'
 
-  then_tells : (i : Bytes) (o : Outcome T) (x : Outcome P) → a.answers false i x → GoesOn bytes_model tree (λ _. b.answers false) i x o →
-      Tells r (k + l) i.now o
-  then_tells i o (Accept n u) h (j, y, s, h', e) = subst (Tells r (k + l) i.now) (sym e)
-      (after_tells i.now n u y (ra.tells i (Accept n u) h) (subst (λ ys. Tells q l ys y) (rest_from i n j s) (rb.tells j y h')))
-  then_tells i o Refuse h e = subst (Tells r (k + l) i.now) (sym e) (ends false i.now (ra.tells i Refuse h))
-  then_tells i o (Stop (Fails c)) h e = subst (Tells r (k + l) i.now) (sym e) (ends true i.now (ra.tells i (Stop (Fails c)) h))
-  then_tells i o (Stop (Needs n)) h e = absurd (ra.tells i (Stop (Needs n)) h)
+  then_outcome : (i : Bytes) (o : Outcome T) (x : Outcome P) → a.answers false i x → GoesOn bytes_model tree (λ _. b.answers false) i x o →
+      OutcomeIs r (k + l) i.now o
+  then_outcome i o (Accept n u) h (j, y, s, h', e) = subst (OutcomeIs r (k + l) i.now) (sym e)
+      (after_outcome i.now n u y (ra.outcomes i (Accept n u) h) (subst (λ ys. OutcomeIs q l ys y) (rest_from i n j s) (rb.outcomes j y h')))
+  then_outcome i o Refuse h e = subst (OutcomeIs r (k + l) i.now) (sym e) (ends false i.now (ra.outcomes i Refuse h))
+  then_outcome i o (Stop (Fails c)) h e = subst (OutcomeIs r (k + l) i.now) (sym e) (ends true i.now (ra.outcomes i (Stop (Fails c)) h))
+  then_outcome i o (Stop (Needs n)) h e = absurd (ra.outcomes i (Stop (Needs n)) h)
 
   then_places : (i : Bytes) (e : Error Bytes) → ThenBlames bytes_model (a.answers false) (a.blames false) (λ _. b.answers false) (λ _. b.blames false) i e →
       Placed (Fact r false) i.now e.input.now
   then_places i e (BlamesFirst x) = moved (first i.now) (ra.places i x.outcome e x.answered x.kind_is x.fact)
   then_places i e (BlamesNext x) =
-      later_placed x.length (rest_from i x.length x.rest x.rest_is) (λ m. joins false i.now x.length m (ra.tells i (Accept x.length x.tree) x.accepted).1)
+      later_placed x.length (rest_from i x.length x.rest x.rest_is) (λ m. joins false i.now x.length m (ra.outcomes i (Accept x.length x.tree) x.accepted).1)
       (rb.places x.rest x.fact.outcome e x.fact.answered x.fact.kind_is x.fact.fact)
 
   pub then_reads : Reads r (k + l) (sequence_meaning bytes_model tree f g a b)
   then_reads = record {
-    tells = λ i o h. then_tells i o h.first h.answered h.goes_on;
+    outcomes = λ i o h. then_outcome i o h.first h.answered h.goes_on;
     places = λ i o e h t x. then_places i e x;
     frugal = λ mode i h. elim h [ RunsOutFirst x ↦ ra.frugal (f mode) i x | RunsOutNext x ↦ rb.frugal (g mode) x.rest x.fact ];
   }
@@ -146,7 +146,7 @@ module _ {P Q T : Type 0} (tree : P → Q → T) (f g : Modes → Modes) {y : Af
 
 -- what an outcome becomes: what is told of it, and the facts of its error
 abbrev Turned : {P T : Type 0} → (p q : Part) (k l : ℕ) → List ℕ → Outcome P → Outcome T → Type 0
-Turned p q k l xs a o = Tells p k xs a → Tells q l xs o × (IsFault o → IsFault a × ((n : ℕ) → Fact p false xs n → Fact q false xs n))
+Turned p q k l xs a o = OutcomeIs p k xs a → OutcomeIs q l xs o × (IsFault o → IsFault a × ((n : ℕ) → Fact p false xs n → Fact q false xs n))
 
 -- a part that runs at the same place, and whose errors stay
 module _ {P T : Type 0} {m : Meaning Bytes P (Error Bytes)} {p : Part} {k : ℕ} (r : Reads p k m) (c : Case Bytes Bytes P T (Error Bytes) (Error Bytes))
@@ -161,11 +161,11 @@ module _ {P T : Type 0} {m : Meaning Bytes P (Error Bytes)} {p : Part} {k : ℕ}
 
   case_reads : Reads q l (case_meaning c m)
   case_reads = record {
-    tells = λ i o h. let x = on_part h in (turned i x.0 o x.2 (r.tells i x.0 x.1)).0;
+    outcomes = λ i o h. let x = on_part h in (turned i x.0 o x.2 (r.outcomes i x.0 x.1)).0;
     places = λ i o e h t b.
         let x = on_part h in
         let y = on_part b in
-        let f = (turned i x.0 o x.2 (r.tells i x.0 x.1)).1 t in
+        let f = (turned i x.0 o x.2 (r.outcomes i x.0 x.1)).1 t in
         moved f.1 (r.places i x.0 e x.1 f.0 (blamed i y.0 e y.2));
     frugal = λ mode i h. elim h [ RunsOutInPart j e x ↦ r.frugal (c.part mode) j x | RunsOutBeside x ↦ asks mode i x.outcome x.fact ];
   }
@@ -227,23 +227,23 @@ module _ {P : Type 0} {m : Meaning Bytes P (Error Bytes)} {p : Part} {k : ℕ} (
 
   -- a part whose outputs are built
   pub built_reads : Reads p k (built_meaning m)
-  built_reads = record { tells = r.tells; places = r.places; frugal = λ mode i h. r.frugal (with_outputs true mode) i h }
+  built_reads = record { outcomes = r.outcomes; places = r.places; frugal = λ mode i h. r.frugal (with_outputs true mode) i h }
 
 -- the first of two parts that isn't refused, where the first byte decides which
 module _ {P : Type 0} {test : ℕ → Bool} {next other : After} {k l : ℕ} {a b : Meaning Bytes P (Error Bytes)} (ra : Reads (Led test next) k a)
     (rb : Reads (Any other) l b) (le : l ≤ k) where
-  refused_tells : (xs : List ℕ) (o : Outcome P) → first_is test xs ≡ false → Tells (Any other) l xs o → Tells (Any (choose test next other)) l xs o
-  refused_tells xs (Accept n v) e h = (h.0, chosen_other test next other e h.1)
-  refused_tells xs Refuse e h = h
-  refused_tells xs (Stop why) e h = h
+  refused_outcome : (xs : List ℕ) (o : Outcome P) → first_is test xs ≡ false → OutcomeIs (Any other) l xs o → OutcomeIs (Any (choose test next other)) l xs o
+  refused_outcome xs (Accept n v) e h = (h.0, chosen_other test next other e h.1)
+  refused_outcome xs Refuse e h = h
+  refused_outcome xs (Stop why) e h = h
 
-  either_tells : (i : Bytes) (o x : Outcome P) → a.answers false i x → GoesOnRefused (b.answers false i) x o → Tells (Any (choose test next other)) l i.now o
-  either_tells i o (Accept n v) h e =
-      let x = ra.tells i (Accept n v) h in
-      subst (Tells (Any (choose test next other)) l i.now) (sym e) (omega (arith, le, x.0), chosen test next other (led_first test next x.1) x.1)
-  either_tells i o Refuse h h' = refused_tells i.now o (ra.tells i Refuse h) (rb.tells i o h')
-  either_tells i o (Stop (Fails c)) h e = subst (Tells (Any (choose test next other)) l i.now) (sym e) tt
-  either_tells i o (Stop (Needs n)) h e = absurd (ra.tells i (Stop (Needs n)) h)
+  either_outcome : (i : Bytes) (o x : Outcome P) → a.answers false i x → GoesOnRefused (b.answers false i) x o → OutcomeIs (Any (choose test next other)) l i.now o
+  either_outcome i o (Accept n v) h e =
+      let x = ra.outcomes i (Accept n v) h in
+      subst (OutcomeIs (Any (choose test next other)) l i.now) (sym e) (omega (arith, le, x.0), chosen test next other (led_first test next x.1) x.1)
+  either_outcome i o Refuse h h' = refused_outcome i.now o (ra.outcomes i Refuse h) (rb.outcomes i o h')
+  either_outcome i o (Stop (Fails c)) h e = subst (OutcomeIs (Any (choose test next other)) l i.now) (sym e) tt
+  either_outcome i o (Stop (Needs n)) h e = absurd (ra.outcomes i (Stop (Needs n)) h)
 
   failure_is : (o : Outcome P) → IsFailure o → (c : Cause) × (o ≡ Stop (Fails c))
   failure_is (Accept n u) h = absurd h
@@ -253,7 +253,7 @@ module _ {P : Type 0} {test : ℕ → Bool} {next other : After} {k l : ℕ} {a 
 
   other_placed : (i : Bytes) (o : Outcome P) (e : Error Bytes) → a.answers false i Refuse → b.answers false i o → IsFault o → b.blames false i e →
       Placed (Decides (choose test next other) false) i.now e.input.now
-  other_placed i o e r h t x = moved (λ n. chosen_other test next other (ra.tells i Refuse r)) (rb.places i o e h t x)
+  other_placed i o e r h t x = moved (λ n. chosen_other test next other (ra.outcomes i Refuse r)) (rb.places i o e h t x)
 
   next_places : (i : Bytes) (e : Error Bytes) → a.answers false i Refuse → NextBlames (λ _ other e. e ≡ other) b false i (a.blames false i) e →
       Placed (Decides (choose test next other) false) i.now e.input.now
@@ -265,12 +265,12 @@ module _ {P : Type 0} {test : ℕ → Bool} {next other : After} {k l : ℕ} {a 
   either_places i e (FirstFails x) =
       let f = failure_is x.outcome x.kind_is in
       let h = subst (a.answers false i) f.1 x.answered in
-      moved (λ n. chosen test next other (ra.tells i (Stop (Fails f.0)) h)) (ra.places i (Stop (Fails f.0)) e h tt x.fact)
+      moved (λ n. chosen test next other (ra.outcomes i (Stop (Fails f.0)) h)) (ra.places i (Stop (Fails f.0)) e h tt x.fact)
   either_places i e (FirstRefuses r x) = next_places i e r x
 
   pub either_reads : Reads (Any (choose test next other)) l (or_meaning (λ _ other e. e ≡ other) ⊥ a b)
   either_reads = record {
-    tells = λ i o h. either_tells i o h.first h.answered h.goes_on;
+    outcomes = λ i o h. either_outcome i o h.first h.answered h.goes_on;
     places = λ i o e h t x. either_places i e x;
     frugal = λ mode i h. elim h [ inl x ↦ ra.frugal mode i x | inr x ↦ elim x.1 [ inl y ↦ rb.frugal mode i y | inr y ↦ y.2 ] ];
   }
@@ -280,11 +280,11 @@ module _ {V : Type 0} (Runs IsSound : Type 0) (leaf : Leaf Bytes V) (Blames : By
     (accepted : (i : Bytes) (n : ℕ) (v : V) → leaf.Accepts false i n v → (k ≤ n) × Fact p true i.now n)
     (refused : (i : Bytes) → leaf.Refuses false i → Ends p false i.now × Fact p false i.now 0) (here : (i : Bytes) (e : Error Bytes) → Blames i e → e.input ≡ i)
   where
-    leaf_tells : (i : Bytes) (o : Outcome V) → LeafAnswers leaf false i o → Tells p k i.now o
-    leaf_tells i (Accept n v) h = accepted i n v h
-    leaf_tells i Refuse h = (refused i h).0
-    leaf_tells i (Stop (Fails c)) h = absurd h
-    leaf_tells i (Stop (Needs n)) h = cc (h.0)
+    leaf_outcome : (i : Bytes) (o : Outcome V) → LeafAnswers leaf false i o → OutcomeIs p k i.now o
+    leaf_outcome i (Accept n v) h = accepted i n v h
+    leaf_outcome i Refuse h = (refused i h).0
+    leaf_outcome i (Stop (Fails c)) h = absurd h
+    leaf_outcome i (Stop (Needs n)) h = cc (h.0)
 
     leaf_places : (i : Bytes) (o : Outcome V) (e : Error Bytes) → LeafAnswers leaf false i o → IsFault o → Blames i e → Placed (Fact p false) i.now e.input.now
     leaf_places i (Accept n v) e h t x = absurd t
@@ -293,4 +293,4 @@ module _ {V : Type 0} (Runs IsSound : Type 0) (leaf : Leaf Bytes V) (Blames : By
     leaf_places i (Stop (Needs n)) e h t x = absurd t
 
     pub leaf_reads : Reads p k (premised Runs IsSound (leaf_meaning Blames ⊥ leaf))
-    leaf_reads = record { tells = leaf_tells; places = leaf_places; frugal = λ mode i h. h.2 }
+    leaf_reads = record { outcomes = leaf_outcome; places = leaf_places; frugal = λ mode i h. h.2 }

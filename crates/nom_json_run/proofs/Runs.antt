@@ -58,7 +58,7 @@ module _ (Runs IsSound : Type 0) (Test : ℕ → Bool → Type 0) (test : ℕ �
       (λ i h. let e = head_refused i h in (e, none_led test Some i.now e)) (head_blames blame)
 
 -- a run of bytes under a test
-all_stop : (test : ℕ → Bool) (xs : List ℕ) → first_is test xs ≡ false → after_all test xs ≡ xs
+pub all_stop : (test : ℕ → Bool) (xs : List ℕ) → first_is test xs ≡ false → after_all test xs ≡ xs
 all_stop test [] e = refl
 all_stop test (b ∷ bs) e = ap (λ t. if t then after_all test bs else b ∷ bs) e
 

@@ -16,12 +16,12 @@ use Rattle.nom_json_run.proofs.Reading.{Fact, Part, Placed, rest_from}
 use Rattle.nom_json_run.proofs.Grammars.{ReadsBy}
 
 -- what an answer says of the bytes from a place on
-abbrev Told : Part → ℕ → List ℕ → IResult Bytes Bytes (Error Bytes) → Type 0
-Told p k xs (Ok x) = (n : ℕ) × (k ≤ n) × (x.0.now ≡ drop n xs) × Fact p true xs n
-Told p k xs (Err (Answer.Error e)) = Placed (Fact p false) xs e.input.now
-Told p k xs (Err (Answer.Failure e)) = Placed (Fact p false) xs e.input.now
-Told p k xs (Err (Answer.Incomplete n)) = ⊥
-Told p k xs (Err Answer.OutOfMemory) = ⊥
+abbrev AnswerIs : Part → ℕ → List ℕ → IResult Bytes Bytes (Error Bytes) → Type 0
+AnswerIs p k xs (Ok x) = (n : ℕ) × (k ≤ n) × (x.0.now ≡ drop n xs) × Fact p true xs n
+AnswerIs p k xs (Err (Answer.Error e)) = Placed (Fact p false) xs e.input.now
+AnswerIs p k xs (Err (Answer.Failure e)) = Placed (Fact p false) xs e.input.now
+AnswerIs p k xs (Err (Answer.Incomplete n)) = ⊥
+AnswerIs p k xs (Err Answer.OutOfMemory) = ⊥
 
 -- and its place
 abbrev pub Stopped : Part → ℕ → (bytes : List ℕ) (start : ℕ) → Result ℕ Fault → Type 0
@@ -29,25 +29,25 @@ Stopped p k bytes start (Ok stop) = (n : ℕ) × (k ≤ n) × (stop ≡ start + 
 Stopped p k bytes start (Err fault) = (n : ℕ) × (fault.at ≡ start + n) × Fact p false (drop start bytes) n
 
 module _ {p : Part} {k : ℕ} {h : BytesWord Bytes} (reads : ReadsBy p k h) (bytes : List ℕ) (start : ℕ) where
-  outcome_told : (i : Bytes) (r : IResult Bytes Bytes (Error Bytes)) (o : Outcome h.Tree) → h.grammar.meaning.answers false i o →
-      ParsesOutcome bytes_model h.grammar.IsOutput i (h.grammar.meaning.blames false i) o r → Told p k i.now r
-  outcome_told i r (Accept n v) a s =
-      let x = reads.meant.tells i (Accept n v) a in
-      subst (Told p k i.now) (sym s.4) (n, x.0, rest_from i n s.0 s.2, x.1)
-  outcome_told i r Refuse a s = subst (Told p k i.now) (sym s.2) (reads.meant.places i Refuse s.0 a tt s.1)
-  outcome_told i r (Stop (Fails c)) a s = subst (Told p k i.now) (sym s.2) (reads.meant.places i (Stop (Fails c)) s.0 a tt s.1)
-  outcome_told i r (Stop (Needs n)) a s = absurd (reads.meant.tells i (Stop (Needs n)) a)
+  outcome_answer : (i : Bytes) (r : IResult Bytes Bytes (Error Bytes)) (o : Outcome h.Tree) → h.grammar.meaning.answers false i o →
+      ParsesOutcome bytes_model h.grammar.IsOutput i (h.grammar.meaning.blames false i) o r → AnswerIs p k i.now r
+  outcome_answer i r (Accept n v) a s =
+      let x = reads.meant.outcomes i (Accept n v) a in
+      subst (AnswerIs p k i.now) (sym s.4) (n, x.0, rest_from i n s.0 s.2, x.1)
+  outcome_answer i r Refuse a s = subst (AnswerIs p k i.now) (sym s.2) (reads.meant.places i Refuse s.0 a tt s.1)
+  outcome_answer i r (Stop (Fails c)) a s = subst (AnswerIs p k i.now) (sym s.2) (reads.meant.places i (Stop (Fails c)) s.0 a tt s.1)
+  outcome_answer i r (Stop (Needs n)) a s = absurd (reads.meant.outcomes i (Stop (Needs n)) a)
 
-  told : (i : Bytes) (r : IResult Bytes Bytes (Error Bytes)) → i.now ≡ drop start bytes → Parses h i r → Told p k (drop start bytes) r
-  told i r from a = subst (λ xs. Told p k xs r) from (elim (parses_by bytes_model {h = h} {g = h.grammar} refl a) [
+  answer_is : (i : Bytes) (r : IResult Bytes Bytes (Error Bytes)) → i.now ≡ drop start bytes → Parses h i r → AnswerIs p k (drop start bytes) r
+  answer_is i r from a = subst (λ xs. AnswerIs p k xs r) from (elim (parses_by bytes_model {h = h} {g = h.grammar} refl a) [
     | ParseRanOut e x ↦ absurd (reads.meant.frugal (modes true true false) i x)
-    | Parsed o x s ↦ outcome_told i r o x s
+    | Parsed o x s ↦ outcome_answer i r o x s
   ])
 
   left_fits : (n : ℕ) (ys : List ℕ) → ys ≡ drop n (drop start bytes) → length ys ≤ length bytes
   left_fits n ys e = omega (arith, ap length e, length-drop n (drop start bytes), length-drop start bytes)
 
-  is_placed : (r : IResult Bytes Bytes (Error Bytes)) → Told p k (drop start bytes) r → IsPlaced bytes r
+  is_placed : (r : IResult Bytes Bytes (Error Bytes)) → AnswerIs p k (drop start bytes) r → IsPlaced bytes r
   is_placed (Ok x) t = left_fits t.0 x.0.now t.2
   is_placed (Err (Answer.Error e)) t = left_fits t.place e.input.now t.there
   is_placed (Err (Answer.Failure e)) t = left_fits t.place e.input.now t.there
@@ -55,7 +55,7 @@ module _ {p : Part} {k : ℕ} {h : BytesWord Bytes} (reads : ReadsBy p k h) (byt
   is_placed (Err Answer.OutOfMemory) t = t
 
   pub placed : (i : Bytes) (r : IResult Bytes Bytes (Error Bytes)) → i.now ≡ drop start bytes → Parses h i r → IsPlaced bytes r
-  placed i r from a = is_placed r (told i r from a)
+  placed i r from a = is_placed r (answer_is i r from a)
 
   module _ (within : (t : Bool) (xs : List ℕ) (n : ℕ) → Fact p t xs n → n ≤ length xs) (le : start ≤ length bytes) where
     same_place : (t : Bool) (n stop : ℕ) (ys : List ℕ) → ys ≡ drop n (drop start bytes) → Fact p t (drop start bytes) n → stop + length ys ≡ length bytes →
@@ -63,7 +63,7 @@ module _ {p : Part} {k : ℕ} {h : BytesWord Bytes} (reads : ReadsBy p k h) (byt
     same_place t n stop ys e f size =
         omega (arith, ap length e, length-drop n (drop start bytes), length-drop start bytes, within t (drop start bytes) n f, size, le)
 
-    stopped_at : (r : IResult Bytes Bytes (Error Bytes)) (x : Result ℕ Fault) → Told p k (drop start bytes) r → IsStop bytes r x → Stopped p k bytes start x
+    stopped_at : (r : IResult Bytes Bytes (Error Bytes)) (x : Result ℕ Fault) → AnswerIs p k (drop start bytes) r → IsStop bytes r x → Stopped p k bytes start x
     stopped_at (Ok y) x t s = subst (Stopped p k bytes start) (sym s.1) (t.0, t.1, same_place true t.0 s.0 y.0.now t.2 t.3 s.2, t.3)
     stopped_at (Err (Answer.Error e)) x t s =
         subst (Stopped p k bytes start) (sym s.1) (t.place, same_place false t.place s.0.at e.input.now t.there t.holds s.2, t.holds)
@@ -74,7 +74,7 @@ module _ {p : Part} {k : ℕ} {h : BytesWord Bytes} (reads : ReadsBy p k h) (byt
 
     pub stopped : (i : Bytes) (r : IResult Bytes Bytes (Error Bytes)) → i.now ≡ drop start bytes → Parses h i r → (x : Result ℕ Fault) → IsStop bytes r x →
         Stopped p k bytes start x
-    stopped i r from a x s = stopped_at r x (told i r from a) s
+    stopped i r from a x s = stopped_at r x (answer_is i r from a) s
 
 -- where a part ends that was read from a place on
 ends_later : (t : Bool) (Part : List ℕ → List ℕ → Type 0) (bs : List ℕ) (start n : ℕ) → EndsIf t (Part (drop start bs)) (drop n (drop start bs)) →

@@ -91,17 +91,17 @@ joins_of x y a b p q (Ok e) f = (a, b, p, q, f)
 joins_of x y a b p q (Err e) f = tt
 
 -- a fault is told
-pub tells : {E : Type 0} (bytes : List ℕ) (fault : Fault) (missing : Part.Missing) (ws : List Wanted) (place : Place) →
+pub wanted_there : {E : Type 0} (bytes : List ℕ) (fault : Fault) (missing : Part.Missing) (ws : List Wanted) (place : Place) →
     fault.missing ≡ missing → IsWanted missing ws → (r : Result (Report Place) E) → IfOk r (Wanting place ws) → place.now ≡ drop fault.at bytes →
     IfOk r (TellsFault bytes fault)
-tells bytes fault missing ws place m i (Ok x) w e = record {
+wanted_there bytes fault missing ws place m i (Ok x) w e = record {
   wanted = ws;
   is_wanted = subst (λ z. IsWanted z ws) (sym m) i;
   place = place;
   place_is = e;
   wants = w;
 }
-tells bytes fault missing ws place m i (Err x) w e = tt
+wanted_there bytes fault missing ws place m i (Err x) w e = tt
 
 -- a closing bracket is no comma
 abbrev char_of : Wanted → ℕ

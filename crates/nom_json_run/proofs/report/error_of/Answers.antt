@@ -2,18 +2,18 @@ use Rattle.std.proofs.Common.{[], ◌∷◌, ◌∙◌, ap, inr, refl, sym}
 use Rattle.std.specs.Prelude.{codes}
 use Rattle.nom_report.specs.Wanted.{WantedChar, WantedLabel}
 use Rattle.nom_json_run.specs.declared.bracket.Missing.TheVariants as Missing
-use Rattle.nom_json_run.proofs.Wanted.{all_after, either_wants, no_comma, tells}
+use Rattle.nom_json_run.proofs.Wanted.{all_after, either_wants, no_comma, wanted_there}
 use Rattle.nom_json_run.proofs.report.error_of.Goals as goal
 
 pub returns-then-stands_before : goal.returns-then-stands_before
 returns-then-stands_before c =
-    tells c.args.bytes.now c.args.fault Missing.Value (WantedLabel (codes "a value") ∷ WantedChar 93 ∷ []) _ c.in-Value.is (inr refl) c.either.result (
+    wanted_there c.args.bytes.now c.args.fault Missing.Value (WantedLabel (codes "a value") ∷ WantedChar 93 ∷ []) _ c.in-Value.is (inr refl) c.either.result (
     either_wants _ (WantedLabel (codes "a value")) (WantedChar 93) c.named-value.result c.character.result c.either.result (λ e. absurd (cc (e)))
     c.named-value.ensures c.character.ensures c.either.ensures) (all_after c.args.bytes.now c.args.fault.at)
 
 pub returns-in-Character : goal.returns-in-Character
 returns-in-Character c =
-    tells c.args.bytes.now c.args.fault Missing.Character (WantedLabel (codes "a character") ∷ WantedChar 34 ∷ []) _ c.in-Character.is refl
+    wanted_there c.args.bytes.now c.args.fault Missing.Character (WantedLabel (codes "a character") ∷ WantedChar 34 ∷ []) _ c.in-Character.is refl
     c.either-in-Character.result (
     either_wants _ (WantedLabel (codes "a character")) (WantedChar 34) c.named-in-Character.result c.character-in-Character.result
     c.either-in-Character.result (λ e. absurd (cc (e))) c.named-in-Character.ensures c.character-in-Character.ensures c.either-in-Character.ensures)
@@ -21,7 +21,7 @@ returns-in-Character c =
 
 pub returns-then-stands_before-2 : goal.returns-then-stands_before-2
 returns-then-stands_before-2 c =
-    tells c.args.bytes.now c.args.fault Missing.Name (WantedLabel (codes "a name in quotes") ∷ WantedChar 125 ∷ []) _ c.in-Name.is (inr refl)
+    wanted_there c.args.bytes.now c.args.fault Missing.Name (WantedLabel (codes "a name in quotes") ∷ WantedChar 125 ∷ []) _ c.in-Name.is (inr refl)
     c.either-then-stands_before-2.result (
     either_wants _ (WantedLabel (codes "a name in quotes")) (WantedChar 125) c.named-name.result c.character-then-stands_before-2.result
     c.either-then-stands_before-2.result (λ e. absurd (cc (e))) c.named-name.ensures c.character-then-stands_before-2.ensures
@@ -29,7 +29,7 @@ returns-then-stands_before-2 c =
 
 pub returns-in-Comma : goal.returns-in-Comma
 returns-in-Comma c =
-    tells c.args.bytes.now c.args.fault (Missing.Comma c.in-Comma.bracket) (WantedChar 44 ∷ WantedChar c.closing.result ∷ []) _ c.in-Comma.is
+    wanted_there c.args.bytes.now c.args.fault (Missing.Comma c.in-Comma.bracket) (WantedChar 44 ∷ WantedChar c.closing.result ∷ []) _ c.in-Comma.is
     (ap (λ z. WantedChar 44 ∷ WantedChar z ∷ []) c.closing.ensures) c.either-in-Comma.result (
     either_wants _ (WantedChar 44) (WantedChar c.closing.result) c.character-in-Comma.result c.character-in-Comma-2.result c.either-in-Comma.result
     (λ e. no_comma c.in-Comma.bracket (ap WantedChar (sym c.closing.ensures) ∙ e)) c.character-in-Comma.ensures c.character-in-Comma-2.ensures
