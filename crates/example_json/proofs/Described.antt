@@ -6,7 +6,8 @@ use Rattle.std.proofs.Math.Seq.{drop-append_seam}
 use Rattle.std.proofs.lemmas.Str.{encodes-append}
 use Rattle.nom_error.specs.Modes.{Modes, with_outputs}
 use Rattle.nom_error.specs.declared.value.Error.{Error}
-use Rattle.nom_internal.specs.Prelude.{Accept, Case, Fails, GoesOn, GoesOnRefused, Grammar, IsSliced, IsSuffixOf, Leaf, LeafAnswers, Meaning, Needs, Outcome, Passes, Refuse}
+use Rattle.nom_internal.specs.Prelude.{Accept, Case, Fails, GoesOn, GoesOnRefused, Grammar, IsSliced, IsSuffixOf, Leaf, LeafAnswers, Meaning, Needs, Outcome}
+use Rattle.nom_internal.specs.Prelude.{Passes, Refuse}
 use Rattle.nom_internal.specs.Prelude.{Stop, after, case_meaning, closed_case, closed_meaning, items_len, labelled, leaf_meaning, map_case}
 use Rattle.nom_internal.specs.Prelude.{map_meaning, mode_of, or_meaning, plain_case, premised, sequence_meaning, text_model}
 use Rattle.nom_traits.specs.Text.{items_len-text}
@@ -138,7 +139,8 @@ module _ {P : Type 0} {m : Meaning Text P (Error Text)} {A : Endings} (d : Descr
   like_ends f xs (Stop (Needs k)) h = h
 
   pub like_described : {T : Type 0} (outputs : Bool → Bool) (Becomes : Text → Outcome P → Outcome T → Type 0) →
-      ((i : Text) (a : Outcome P) (o : Outcome T) → Becomes i a o → (f : P → T) × (o ≡ labelled f a)) → Describes A (case_meaning (plain_case outputs Becomes) m)
+      ((i : Text) (a : Outcome P) (o : Outcome T) → Becomes i a o → (f : P → T) × (o ≡ labelled f a)) →
+      Describes A (case_meaning (plain_case outputs Becomes) m)
   like_described outputs Becomes label = case_described d (plain_case outputs Becomes) (λ i j e. e) refl A
       (λ i a o b h. let l = label i a o b in subst (EndsSo A i.now) (sym l.1) (like_ends l.0 i.now a h))
 

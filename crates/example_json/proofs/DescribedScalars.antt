@@ -304,7 +304,8 @@ number_branch d xs Refusing h = λ s r v.
 number_branch d xs Failing h = absurd h
 
 digits_described : Described (Gives parsed_number) digits_of
-digits_described = recognize_by (tuple_by (pair_gives (opt_gives (char_by 45 (omega arith))) (pair_gives (alt_by (or_gives (word_by (codes "0") refl) digits_by))
+digits_described = recognize_by (tuple_by (pair_gives (opt_gives (char_by 45 (omega arith))) (pair_gives
+    (alt_by (or_gives (word_by (codes "0") refl) digits_by))
     (pair_gives (opt_gives (preceded_gives (char_by 46 (omega arith)) digits_by))
     (opt_gives (preceded_gives (pair_gives (one_of_by (codes "eE") refl) (opt_gives (one_of_by (codes "+-") refl))) digits_by))))) _)
 

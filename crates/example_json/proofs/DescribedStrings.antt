@@ -61,8 +61,10 @@ abbrev piece : After
 piece = led (λ b. b == 92) after_piece
 
 escape_by : Described (Gives (λ xs. and_then (after_byte (λ b. b == 92) xs) after_escape)) (Tokens.escape_of text_model plain_errors uncut IsScalar)
-escape_by = preceded_gives (char_by 92 (omega arith)) (alt_by (same_gives (or_gives (terminated_gives (char_by 117 (omega arith)) (tuple_by (pair_gives hex_by (pair_gives hex_by
-    (pair_gives hex_by (same_gives hex_by (λ bs. and_some (after_byte is_hex_digit_code bs)))))) _)) (one_of_by (codes "\"\\/bfnrt") refl)) escape_same))
+escape_by =
+    let last = same_gives hex_by (λ bs. and_some (after_byte is_hex_digit_code bs)) in
+    let long = terminated_gives (char_by 117 (omega arith)) (tuple_by (pair_gives hex_by (pair_gives hex_by (pair_gives hex_by last))) _) in
+    preceded_gives (char_by 92 (omega arith)) (alt_by (same_gives (or_gives long (one_of_by (codes "\"\\/bfnrt") refl)) escape_same))
 
 -- what is left of it is shorter
 all_shorter : (test : ℕ → Bool) (xs : List ℕ) → length (after_all test xs) ≤ length xs
@@ -247,8 +249,10 @@ opens xs ys Refusing h c = λ r s.
 opens xs ys Failing h c = c
 
 pub text_described : Described (Alone Quoted) text_of
-text_described = map_by (tuple_by (pair_by (Alone Quoted) (char_by 34 (omega arith)) (pair_by (Alone JsonCharacters) characters_by (char_by 34 (omega arith)) closes (λ xs h. absurd h)
-    (λ xs h. h)) opens (λ xs h r s. differ (begins 34 xs) s.0 (if_not (begins 34 xs) (rest xs) h)) (λ xs h. h)) _) _
+text_described =
+    let inside = pair_by (Alone JsonCharacters) characters_by (char_by 34 (omega arith)) closes (λ xs h. absurd h) (λ xs h. h) in
+    map_by (tuple_by (pair_by (Alone Quoted) (char_by 34 (omega arith)) inside opens
+    (λ xs h r s. differ (begins 34 xs) s.0 (if_not (begins 34 xs) (rest xs) h)) (λ xs h. h)) _) _
 
 -- as a value
 text_branch : (d : ℕ) (xs ys : List ℕ) (e : Ending) → Alone Quoted xs (Leaving ys) → Gives (λ zs. Some (after_spaces zs)) ys e → Branch (λ b. b == 34) d xs e

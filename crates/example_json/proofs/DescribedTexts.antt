@@ -206,7 +206,8 @@ no_name d xs h r (element p v) = cc (p)
 no_name d xs h r (member j p n b v) = h n.1.0 (n.0, n.1.1)
 
 member_described : {g : TextWord Json} (d : ℕ) → Described (Branch is_start d) g → Described (Item Object d) (member_of g)
-member_described d v = map_by (tuple_by (pair_by (Item Object d) text_described (spaced_by (Behind 58 (Branch is_start d)) (behind_by 58 (omega arith) (Branch is_start d) v))
+member_described d v = map_by (tuple_by (pair_by (Item Object d) text_described (spaced_by (Behind 58 (Branch is_start d))
+    (behind_by 58 (omega arith) (Branch is_start d) v))
     (λ xs ys e name h. member_ends d xs ys name e h) (no_name d) (λ xs h. absurd h)) _) _
 
 -- values
@@ -225,8 +226,10 @@ value_described : (d : ℕ) → Described (Branch is_start d) (value_of d)
 value_described zero = described_as (branch_as 0) (branch_or is_scalar is_open 0 (scalar_described 0) deep_described)
 value_described (suc d) =
     let value = value_described d in
-    let array = map_by (tuple_by (brackets_described Array d (list_described Array d (described_as (element_item d) value)) (token_by 93 (small_closing Array))) _) _ in
-    let object = map_by (tuple_by (brackets_described Object d (list_described Object d (member_described d value)) (token_by 125 (small_closing Object))) _) _ in
+    let elements = list_described Array d (described_as (element_item d) value) in
+    let members = list_described Object d (member_described d value) in
+    let array = map_by (tuple_by (brackets_described Array d elements (token_by 93 (small_closing Array))) _) _ in
+    let object = map_by (tuple_by (brackets_described Object d members (token_by 125 (small_closing Object))) _) _ in
     branch_or (λ b. is_scalar b || b == 91) (λ b. b == 123) (suc d) (branch_or is_scalar (λ b. b == 91) (suc d) (scalar_described (suc d)) array) object
 
 -- whole texts

@@ -116,8 +116,8 @@ one_of_by set h =
     let same = chars-IsAscii set (ascii set h) in
     subst (λ xs. Described (Gives (after_byte (is_listed xs))) (one_of_of set)) same
     (by (satisfy_worded text_model plain_errors (λ x. x) Kind.OneOf (char_within_worded (λ x. x) (Contains (chars set))))
-    (head_described (λ x b. IsTrue b ↔ Contains (chars set) x) (is_listed (chars set)) (subst (λ xs. IsFlat (is_listed xs) false) (sym same) (none_listed set h))
-    (listed_is (chars set)) None _ _))
+    (head_described (λ x b. IsTrue b ↔ Contains (chars set) x) (is_listed (chars set))
+    (subst (λ xs. IsFlat (is_listed xs) false) (sym same) (none_listed set h)) (listed_is (chars set)) None _ _))
 
 pub hex_by : Described (Gives (after_byte is_hex_digit_code)) (Tokens.hex_of text_model plain_errors IsScalar)
 hex_by = by (satisfy_worded text_model plain_errors (λ x. x) Kind.Satisfy

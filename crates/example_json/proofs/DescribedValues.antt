@@ -151,8 +151,8 @@ TurnSays R xs (Ends (Stop (Fails c))) = R xs Failing
 TurnSays R xs (Ends (Stop (Needs k))) = ⊥
 
 -- where a list ends
-ended : {T : Type 0} (V : Type 0) (R Q : Endings) (us : T) (xs : List ℕ) (o : Outcome (Unit {0})) → (R xs Refusing → Q xs (Leaving xs)) → (R xs Failing → Q xs Failing) →
-    TurnSays {V = V} R xs (Ends o) → EndsSo Q xs (after 0 (λ _. us) o)
+ended : {T : Type 0} (V : Type 0) (R Q : Endings) (us : T) (xs : List ℕ) (o : Outcome (Unit {0})) → (R xs Refusing → Q xs (Leaving xs)) →
+    (R xs Failing → Q xs Failing) → TurnSays {V = V} R xs (Ends o) → EndsSo Q xs (after 0 (λ _. us) o)
 ended V R Q us xs (Accept n w) none fails h =
     let e : n ≡ 0 = h.0 in
     (xs, subst (λ n. Cut xs n xs) (omega (arith, e)) (cut_none xs), none h.1)
@@ -346,8 +346,8 @@ bracket_branch o d xs (Leaving zs) (b, (found, only)) =
 bracket_branch o d xs Refusing n = λ b r v. let w = opened o v b in n b w.place w.inside
 bracket_branch o d xs Failing (b, deep) = (b, λ r v. let w = opened o v b in let h = deep w.place w.inside in omega (arith, h, w.deeper))
 
-module _ {O P : Type 0} {g : TextWord O} {h : TextWord P} (o : Bracket) (d : ℕ) (list : Described (Items o d) g) (close : Described (Gives (after_token (closing o))) h)
-  where
-    pub brackets_described : Described (Branch (λ b. b == opening o) (suc d)) (pair_of (token_of (opening o)) (pair_of g h))
-    brackets_described = described_as (bracket_branch o d) (behind_by (opening o) (small_opening o) (Inside o d) (pair_by (Inside o d) list close (inside_ends o d)
-        (λ xs h. absurd h) (inside_fails o d)))
+module _ {O P : Type 0} {g : TextWord O} {h : TextWord P} (o : Bracket) (d : ℕ) (list : Described (Items o d) g)
+    (close : Described (Gives (after_token (closing o))) h) where
+  pub brackets_described : Described (Branch (λ b. b == opening o) (suc d)) (pair_of (token_of (opening o)) (pair_of g h))
+  brackets_described = described_as (bracket_branch o d) (behind_by (opening o) (small_opening o) (Inside o d)
+      (pair_by (Inside o d) list close (inside_ends o d) (λ xs h. absurd h) (inside_fails o d)))

@@ -1,7 +1,7 @@
 -- Steps by `?`. A function that runs parsers one after another, each by a `?`, and returns their outputs together answers as the tuple of these
 -- parsers does. With these as its rules the check finds so: `#[tactic(auto, using(nom::specs::Chains::steps))]` on the function.
 use Rattle.std.specs.Prelude.{◌≡◌, ℕ, ◌+◌, Bool, Ok, Err}
-use Rattle.std.proofs.Common.{refl, ap, subst, sym, ◌∙◌}
+use Rattle.std.proofs.Common.{refl, ap, subst, sym}
 use Rattle.nom_error.specs.declared.answer.Err as Answer
 use Rattle.nom_internal.specs.Prelude.{IResult, Needed, OutOfMemory, Model, InputLaws, IsSuffixOf, rest_rest, Grammar, Parses, Outcome, Accept, Refuse, Stop}
 use Rattle.nom_internal.specs.Prelude.{Fails, Needs, ParseRanOut, Parsed, RunsOutFirst, RunsOutNext, RunsOutInPart, bytes_lawful, text_lawful}
@@ -9,7 +9,7 @@ use Rattle.nom_internal.specs.Mapped as Mapped
 use Rattle.nom_internal.specs.Sequence as Sequence
 use Rattle.nom_internal.specs.Sequence.ThenBlames.{BlamesFirst, BlamesNext}
 use Rattle.nom_internal.specs.Tuples as Tuples
-use Rattle.nom_internal.specs.Word.{Answers, Word, answers_by, answers_same, parses_by}
+use Rattle.nom_internal.specs.Word.{Answers, Word, answers_by, parses_by}
 use Rattle.nom_internal.specs.TupleWords.{tuple_of_eight, tuple_of_five, tuple_of_four, tuple_of_seven, tuple_of_six, tuple_of_three, tuple_of_two}
 use Rattle.nom_internal.specs.Words.{map_of, map_worded, pair_of, pair_worded, tuple_of, tuple_worded}
 

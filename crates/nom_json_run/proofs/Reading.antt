@@ -103,7 +103,8 @@ module _ {P Q T : Type 0} (tree : P → Q → T) (f g : Modes → Modes) (r : Pa
     (joins : (t : Bool) (xs : List ℕ) (n m : ℕ) → Fact p true xs n → Fact q t (drop n xs) m → Fact r t xs (n + m))
     (first : (xs : List ℕ) (n : ℕ) → Fact p false xs n → Fact r false xs n) (ends : (s : Bool) (xs : List ℕ) → Ends p s xs → Ends r s xs)
     (next : (s : Bool) (xs : List ℕ) (n : ℕ) → Fact p true xs n → Ends q s (drop n xs) → Ends r s xs) where
-  after_outcome : (xs : List ℕ) (n : ℕ) (u : P) (o : Outcome Q) → OutcomeIs p k xs (Accept n u) → OutcomeIs q l (drop n xs) o → OutcomeIs r (k + l) xs (after n (tree u) o)
+  after_outcome : (xs : List ℕ) (n : ℕ) (u : P) (o : Outcome Q) → OutcomeIs p k xs (Accept n u) → OutcomeIs q l (drop n xs) o →
+      OutcomeIs r (k + l) xs (after n (tree u) o)
   after_outcome xs n u (Accept m v) h h' = (omega (arith, h.0, h'.0), joins true xs n m h.1 h'.1)
   after_outcome xs n u Refuse h h' = next false xs n h.1 h'
   after_outcome xs n u (Stop (Fails c)) h h' = next true xs n h.1 h'
@@ -237,7 +238,8 @@ module _ {P : Type 0} {test : ℕ → Bool} {next other : After} {k l : ℕ} {a 
   refused_outcome xs Refuse e h = h
   refused_outcome xs (Stop why) e h = h
 
-  either_outcome : (i : Bytes) (o x : Outcome P) → a.answers false i x → GoesOnRefused (b.answers false i) x o → OutcomeIs (Any (choose test next other)) l i.now o
+  either_outcome : (i : Bytes) (o x : Outcome P) → a.answers false i x → GoesOnRefused (b.answers false i) x o →
+      OutcomeIs (Any (choose test next other)) l i.now o
   either_outcome i o (Accept n v) h e =
       let x = ra.outcomes i (Accept n v) h in
       subst (OutcomeIs (Any (choose test next other)) l i.now) (sym e) (omega (arith, le, x.0), chosen test next other (led_first test next x.1) x.1)

@@ -1,5 +1,5 @@
 -- Grammars, for the contracts of functions that parse. Each word is the grammar of the parser of its name, and the very one that its
--- implementation is proved to parse; those of leaves stand in `Leaves`, and all of them, at one input type, in `Bytes` and `Texts`.
+-- implementation is proved to parse; those of leaves stand in `Leaves`, and those that are cited at one input type in `Bytes` and `Texts`.
 use Rattle.std.specs.Prelude.{◌≡◌, ℕ, Bool, List, Option, Vec}
 use Rattle.nom_internal.specs.Prelude.{IResult, Errors, Model, Slice, View, Grammar, map_by}
 use Rattle.nom_internal.specs.Judged.{map_opt_by}
