@@ -1,4 +1,5 @@
--- How parts over texts end in the complete mode, by the bytes that they are given: by the meanings of parsers, one lemma for each combinator.
+-- How a parser over texts ends in the complete mode, by the bytes that it is given: one lemma for each combinator, by its meaning. So a grammar is
+-- described by functions and relations of lists.
 use Rattle.std.specs.Prelude.{◌≡◌, ℕ, ◌+◌, Bool, false, List, [], ◌++◌, Option, Some, None, chars, drop, encode_utf8_all, length}
 use Rattle.std.specs.Char.{len_utf8}
 use Rattle.std.proofs.Common.{arith, sym, ◌∙◌, ap, refl, subst, inl, inr, append_assoc, length-append}
@@ -22,13 +23,13 @@ use Rattle.nom.specs.Texts.{Text, TextWord, alt_of, map_of, opt_of, or_of, pair_
 use Rattle.nom_json_run.specs.Json.{and_then}
 use Rattle.nom_json_run.proofs.Grammars.{sliced_is}
 
--- how a part ends: it leaves some bytes, it refuses, or it fails
+-- how a parser ends: it leaves some bytes, it refuses, or it fails
 pub data Ending : Type 0 where
   Leaving : List ℕ → Ending
   Refusing : Ending
   Failing : Ending
 
--- which endings a part has, by the bytes before it
+-- which endings a parser has, by its input's bytes
 abbrev pub Endings : Type 1
 Endings = List ℕ → Ending → Type 0
 
@@ -78,7 +79,7 @@ ends_as R Q f Refuse h = f Refusing h
 ends_as R Q f (Stop (Fails c)) h = f Failing h
 ends_as R Q f (Stop (Needs k)) h = h
 
--- Each outcome of a part is one of these endings.
+-- Each outcome is one of these endings.
 pub record Describes {V : Type 0} (R : Endings) (m : Meaning Text V (Error Text)) : Type 0 where
   pub ends : (i : Text) (o : Outcome V) → text_model.IsKnown i → m.answers false i o → EndsSo R i.now o
 

@@ -24,7 +24,7 @@ is_mark_of_more b = b == 46 || is_listed (codes "eE") b
 abbrev pub IsBrokenOff : List ℕ → Type 0
 IsBrokenOff ys = first_is is_mark_of_more ys ≡ true
 
--- a first character can't pass one test and be another character
+-- the first byte can't be one that fails a test, and pass it
 pub apart : (c : ℕ) (test : ℕ → Bool) (xs : List ℕ) → test c ≡ false → begins c xs ≡ true → first_is test xs ≡ true → ⊥
 apart c test xs n e h = differ (test c) (subst (λ zs. first_is test zs ≡ true) (head_is c xs e) h) n
 
@@ -73,7 +73,7 @@ pub record IsRead (test : ℕ → Bool) (d : ℕ) (xs ys : List ℕ) : Type 0 wh
   pub found : Shallow d xs ys ⊎ IsBrokenOff ys
   pub only : (r : List ℕ) → JsonValue xs r → r ≡ ys
 
--- A branch for the values whose first character passes a test, in which that many brackets lie in each other at most: it is refused where there is
+-- A branch for the values whose first byte passes a test, in which that many brackets lie in each other at most: it is refused where there is
 -- none, and fails where all of them lie deeper.
 abbrev pub Branch : (ℕ → Bool) → ℕ → Endings
 Branch test d xs (Leaving ys) = IsRead test d xs ys
@@ -244,7 +244,7 @@ number_agrees : (xs : List ℕ) → Agrees IsBrokenOff (parsed_number xs) (after
 number_agrees xs = subst (λ o. Agrees IsBrokenOff o (after_number xs)) (sym (parsed_is xs))
     (agrees_then IsBrokenOff (after_integer (unsigned_from xs)) parsed_more after_more (λ ys. more_by ys (fraction_agrees ys)))
 
--- the first character of a number
+-- the first byte of a number
 abbrev pub is_number : ℕ → Bool
 is_number b = b == 45 || is_dec_digit_code b
 

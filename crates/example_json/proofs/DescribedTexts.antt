@@ -33,7 +33,7 @@ use Rattle.example_json.proofs.DescribedStrings.{Alone, Quoted, string_described
 use Rattle.example_json.proofs.DescribedTokens.{AtEnd, end_by, one_of_by, spaces_by, token_by}
 use Rattle.example_json.proofs.DescribedValues.{Behind, Item, behind_by, brackets_described, list_described, opened, small_closing}
 
--- the first characters of values
+-- the first bytes of values
 abbrev is_scalar : ℕ → Bool
 is_scalar b = (is_word b || is_number b) || b == 34
 

@@ -1,4 +1,4 @@
--- Parts without parts, described: a character, a run of characters, a word, white space, the end.
+-- Parsers without parts, described: a character, a run of characters, a word, white space, the end.
 use Rattle.std.specs.Prelude.{◌≡◌, ℕ, ◌==◌, ◌⊎◌, ◌↔◌, ◌++◌, Bool, true, false, if◌then◌else◌, IsTrue, List, [], ◌∷◌, Option, None, Some}
 use Rattle.std.specs.Prelude.{◌<◌, ◌≤◌, ◌||◌, suc, chars, encode_utf8, encode_utf8_all, length, nat_lt}
 use Rattle.std.specs.Char.{IsScalar, len_utf8}

@@ -1,4 +1,4 @@
--- Values with brackets, described; and whole texts.
+-- Lists of items, and values with brackets, described.
 use Rattle.std.specs.Prelude.{◌≡◌, ℕ, zero, suc, max, ◌+◌, ◌==◌, ◌<◌, ◌≤◌, ◌⊎◌, true, false, List, [], ◌∷◌, Option, None, Some, codes}
 use Rattle.std.proofs.Common.{arith, sym, ◌∙◌, ap, refl, subst, inl, inr}
 use Rattle.nom_error.specs.declared.value.Error.{Error}

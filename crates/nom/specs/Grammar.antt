@@ -1,6 +1,6 @@
 -- The words of grammars, for the contracts of functions that parse. Each is named as its parser, and is the grammar that its
 -- implementation is proved to parse. A contract `Parses word streaming input result` needs no proof of its own. Those of leaves stand in
--- `Leaves`, and all, at one type of input, in `Bytes` and `Texts`. What a word means is in the module `grammars`.
+-- `Leaves`, and all, at one type of input, in `Bytes` and `Texts`. What a word means is said by its law, as `many0_worded`.
 use Rattle.std.specs.Prelude.{◌≡◌, ℕ, Bool, false, List, Option, Vec}
 use Rattle.nom_internal.specs.Prelude.{Errors, Model, View}
 use Rattle.nom_internal.specs.Words as Internal

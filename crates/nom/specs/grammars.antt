@@ -1,4 +1,3 @@
 pub mod Bytes
 pub mod Grammar
-pub mod Leaves
 pub mod Texts

@@ -1,13 +1,15 @@
--- Grammars over texts, with `Error`: those words of `Grammar` and `Leaves` that are cited at `&str`. Any other is written at `text_model` and `plain_errors`.
-use Rattle.std.specs.Prelude.{ℕ, Bool, ◌⊎◌, List, Vec, chars}
+-- Grammars over texts, with `Error`: leaves, and the words of `Grammar` at `&str`.
+use Rattle.std.specs.Prelude.{◌↔◌, ℕ, Bool, not, IsTrue, ◌⊎◌, List, Vec, Contains, chars}
 use Rattle.std.specs.Borrow.{Bor}
 use Rattle.nom_internal.specs.Prelude.{IResult, text_model, Slice}
+use Rattle.nom_error.specs.declared.kind.ErrorKind.TheVariants as Kind
 use Rattle.nom_error.specs.declared.value.Error.{Error}
+use Rattle.nom_bytes.specs.ParsedRuns.{run1_meaning}
+use Rattle.nom_character_first.specs.FirstItem.{char_meaning}
 pub use Rattle.nom_error.specs.PlainErrors.{plain_errors}
 use Rattle.nom.specs.grammars.Grammar as Grammars
-use Rattle.nom.specs.grammars.Grammar.{Grammar}
+use Rattle.nom.specs.grammars.Grammar.{Grammar, sliced, valued}
 pub use Rattle.nom.specs.grammars.Grammar.{map_of, opt_of}
-use Rattle.nom.specs.grammars.Leaves as Leaves
 
 abbrev pub Text : Type 0
 Text = Bor (List ℕ)
@@ -20,10 +22,10 @@ abbrev pub Parses : {V O : Type 0} → TextGrammar V O → Bool → Text → IRe
 Parses = Grammars.Parses text_model
 
 abbrev pub is_not_of : List ℕ → TextGrammar (Slice text_model) Text
-is_not_of set = Leaves.is_not_of text_model plain_errors (chars set)
+is_not_of set = sliced text_model (run1_meaning text_model (λ item b. IsTrue (not b) ↔ Contains (chars set) item) plain_errors Kind.IsNot)
 
 abbrev pub char_of : ℕ → TextGrammar ℕ ℕ
-char_of = Leaves.char_of text_model plain_errors
+char_of c = valued (char_meaning text_model (λ x. x) plain_errors c)
 
 abbrev pub pair_of : {V O U P : Type 0} → TextGrammar V O → TextGrammar U P → TextGrammar (V × U) (O × P)
 pair_of = Grammars.pair_of text_model
