@@ -6,8 +6,8 @@ use Rattle.nom_error.specs.declared.value.Error.{Error}
 use Rattle.nom_error.specs.PlainErrors.{plain_errors}
 use Rattle.nom_internal.specs.Prelude.{ErrorKind, Model, Slice}
 use Rattle.nom_bytes.specs.ParsedRuns.{run1_meaning}
-use Rattle.nom.specs.grammars.Leaves.{char_of}
-use Rattle.nom.specs.grammars.Grammar.{Grammar, all_consuming_of, complete_of, cut_of, many0_of, opt_of, pair_of, preceded_of, sliced, terminated_of}
+use Rattle.nom.specs.grammars.Grammar.{Grammar, all_consuming_of, char_of, complete_of, cut_of, many0_of, opt_of, pair_of, preceded_of, sliced}
+use Rattle.nom.specs.grammars.Grammar.{terminated_of}
 use Rattle.nom_settings_run.specs.Settings.{SectionTree, settings_of, value_of}
 
 -- one character at least that a set doesn't hold; a refusal is of a kind

@@ -4,8 +4,8 @@ use Rattle.nom_error.specs.declared.value.Error.{Error}
 use Rattle.nom_error.specs.PlainErrors.{plain_errors}
 use Rattle.nom_internal.specs.Prelude.{Model, Slice}
 use Rattle.nom_bytes.specs.ParsedRuns.{run_meaning}
-use Rattle.nom.specs.grammars.Leaves.{char_of, is_not_of}
-use Rattle.nom.specs.grammars.Grammar.{Grammar, all_consuming_of, complete_of, cut_of, many0_of, opt_of, pair_of, preceded_of, sliced, terminated_of}
+use Rattle.nom.specs.grammars.Grammar.{Grammar, all_consuming_of, char_of, complete_of, cut_of, is_not_of, many0_of, opt_of, pair_of, preceded_of}
+use Rattle.nom.specs.grammars.Grammar.{sliced, terminated_of}
 
 -- no end of a line
 abbrev pub in_value : ℕ → Bool

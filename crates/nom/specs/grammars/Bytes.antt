@@ -1,11 +1,10 @@
 -- Grammars over slices of bytes, with `Error`: leaves, and the words of `Grammar` at `&[u8]`.
-use Rattle.std.specs.Prelude.{◌≡◌, ◌↔◌, ℕ, ℤ, pos, ◌-◌, Some, length, Bool, not, IsTrue, ◌⊎◌, List, Vec, Contains}
+use Rattle.std.specs.Prelude.{◌≡◌, ℕ, ℤ, pos, ◌-◌, Some, length, Bool, ◌⊎◌, List, Vec}
 use Rattle.std.specs.Borrow.{Bor}
 use Rattle.nom_internal.specs.Prelude.{IResult, bytes_model, Slice, ComparesBytes, View}
 use Rattle.nom_error.specs.declared.kind.ErrorKind.TheVariants as Kind
 use Rattle.nom_error.specs.declared.value.Error.{Error}
 use Rattle.nom_traits.specs.declared.character.AsciiClass.TheVariants as Class
-use Rattle.nom_bytes.specs.ParsedRuns.{run1_meaning}
 use Rattle.nom_bytes.specs.Tags.{tag_meaning}
 use Rattle.nom_bytes.specs.Takes.{take_meaning}
 use Rattle.nom_character.specs.ClassRuns.{class_meaning}
@@ -40,7 +39,7 @@ abbrev pub take_of : ℕ → BytesGrammar (Slice bytes_model) Bytes
 take_of count = sliced bytes_model (take_meaning bytes_model plain_errors (λ count xs. Some (count - length xs)) count)
 
 abbrev pub is_not_of : List ℕ → BytesGrammar (Slice bytes_model) Bytes
-is_not_of set = sliced bytes_model (run1_meaning bytes_model (λ item b. IsTrue (not b) ↔ Contains set item) plain_errors Kind.IsNot)
+is_not_of = Grammars.is_not_of bytes_model plain_errors
 
 abbrev pub digit1_of : BytesGrammar (Slice bytes_model) Bytes
 digit1_of = sliced bytes_model (class_meaning bytes_model (λ x. x) plain_errors Class.Digit (Some Kind.Digit))

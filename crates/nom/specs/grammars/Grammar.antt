@@ -1,8 +1,11 @@
 -- Grammars that unfold, for proofs that take them apart. Each is the grammar of the parser of its name, and the very one that its implementation is
 -- proved to parse; those at one type of input stand in `Bytes` and `Texts`.
-use Rattle.std.specs.Prelude.{◌≡◌, ℕ, Bool, List, Option, Vec}
+use Rattle.std.specs.Prelude.{◌≡◌, ◌↔◌, ℕ, Bool, not, IsTrue, List, Option, Vec, Contains}
+use Rattle.nom_error.specs.declared.kind.ErrorKind.TheVariants as Kind
 use Rattle.nom_internal.specs.Prelude.{IResult, Errors, Model, Slice, View, Grammar, map_by}
+use Rattle.nom_bytes.specs.ParsedRuns.{run1_meaning}
 use Rattle.nom_calls.specs.Func.{AnswersBy}
+use Rattle.nom_character_first.specs.FirstItem.{char_meaning}
 use Rattle.nom_multi.specs.Lengths as Lengths
 use Rattle.nom_multi.specs.Values as Values
 pub use Rattle.nom_internal.specs.Grammar.{Grammar, Parses, sliced, valued}
@@ -20,6 +23,14 @@ AnswersAsPart w view g streaming i r = AnswersBy w view g.IsOutput g.meaning str
 -- what a function gives for each output
 abbrev pub map_of : {I V O P E : Type 0} → (O → P) → Grammar I V O E → Grammar I V P E
 map_of f = map_by (λ _. Unit {0}) (λ o p. p ≡ f o)
+
+module _ {I E : Type 0} (w : Model I ℕ) (errs : Errors I E) where
+  abbrev pub char_of : ℕ → Grammar I ℕ ℕ E
+  char_of c = valued (char_meaning w (λ x. x) errs c)
+
+  -- the items that aren't in a list, one at least
+  abbrev pub is_not_of : List ℕ → Grammar I (Slice w) I E
+  is_not_of set = sliced w (run1_meaning w (λ item b. IsTrue (not b) ↔ Contains set item) errs Kind.IsNot)
 
 module _ {I A E : Type 0} (w : Model I A) (errs : Errors I E) where
   -- a length, and that many items; `lack` is what is needed where there are fewer

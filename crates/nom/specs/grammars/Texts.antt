@@ -1,11 +1,8 @@
 -- Grammars over texts, with `Error`: leaves, and the words of `Grammar` at `&str`.
-use Rattle.std.specs.Prelude.{◌↔◌, ℕ, Bool, not, IsTrue, ◌⊎◌, List, Vec, Contains, chars}
+use Rattle.std.specs.Prelude.{ℕ, Bool, ◌⊎◌, List, Vec, chars}
 use Rattle.std.specs.Borrow.{Bor}
 use Rattle.nom_internal.specs.Prelude.{IResult, text_model, Slice}
-use Rattle.nom_error.specs.declared.kind.ErrorKind.TheVariants as Kind
 use Rattle.nom_error.specs.declared.value.Error.{Error}
-use Rattle.nom_bytes.specs.ParsedRuns.{run1_meaning}
-use Rattle.nom_character_first.specs.FirstItem.{char_meaning}
 pub use Rattle.nom_error.specs.PlainErrors.{plain_errors}
 use Rattle.nom.specs.grammars.Grammar as Grammars
 use Rattle.nom.specs.grammars.Grammar.{Grammar, sliced, valued}
@@ -22,10 +19,10 @@ abbrev pub Parses : {V O : Type 0} → TextGrammar V O → Bool → Text → IRe
 Parses = Grammars.Parses text_model
 
 abbrev pub is_not_of : List ℕ → TextGrammar (Slice text_model) Text
-is_not_of set = sliced text_model (run1_meaning text_model (λ item b. IsTrue (not b) ↔ Contains (chars set) item) plain_errors Kind.IsNot)
+is_not_of set = Grammars.is_not_of text_model plain_errors (chars set)
 
 abbrev pub char_of : ℕ → TextGrammar ℕ ℕ
-char_of c = valued (char_meaning text_model (λ x. x) plain_errors c)
+char_of = Grammars.char_of text_model plain_errors
 
 abbrev pub pair_of : {V O U P : Type 0} → TextGrammar V O → TextGrammar U P → TextGrammar (V × U) (O × P)
 pair_of = Grammars.pair_of text_model
