@@ -1,5 +1,5 @@
--- How a parser over texts ends in the complete mode, by the bytes that it is given: one lemma for each combinator, by its meaning. So a grammar is
--- described by functions and relations of lists.
+-- Parsers over texts, described by how they end in the complete mode: by functions and relations of lists, of the bytes that they are given. One
+-- lemma for each combinator, by its meaning.
 use Rattle.std.specs.Prelude.{◌≡◌, ℕ, ◌+◌, Bool, false, List, [], ◌++◌, Option, Some, None, chars, drop, encode_utf8_all, length}
 use Rattle.std.specs.Char.{len_utf8}
 use Rattle.std.proofs.Common.{arith, sym, ◌∙◌, ap, refl, subst, inl, inr, append_assoc, length-append}

@@ -1,4 +1,4 @@
--- What is left after a character, and after what follows it, is shorter.
+-- Lemmas on rests: after a character, and what follows it, less is left.
 use Rattle.std.proofs.Common.{◌≡◌, ℕ, ◌+◌, ◌<◌, false, Ok, Err, arith, refl, sym, subst}
 use Rattle.std.specs.Prelude.{IfOk}
 use Rattle.nom_internal.specs.Prelude.{GoesOn, Needed, input_len, text_model, text_lawful, Outcome, Accept, Refuse, Stop, after}

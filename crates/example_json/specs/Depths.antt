@@ -1,4 +1,4 @@
--- How deep the brackets of a JSON text lie in each other, and what is decided of a text up to a depth.
+-- The depth of brackets in a JSON text, and what is decided of a text up to a depth.
 use Rattle.std.specs.Prelude.{ℕ, suc, max, ◌<◌, ◌≤◌, List, Ok, Err}
 use Rattle.nom_internal.specs.Prelude.{IResult}
 use Rattle.nom_error.specs.declared.answer.Err.TheVariants as Answered

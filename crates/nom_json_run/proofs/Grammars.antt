@@ -1,4 +1,4 @@
--- What the words of grammars read, and so the grammars of numbers and of strings.
+-- Lemmas on words of grammars over bytes, by what they read; so the grammars of numbers and of strings.
 use Rattle.std.specs.Prelude.{◌≡◌, ℕ, ◌+◌, ◌≤◌, ◌↔◌, ◌==◌, ◌<◌, Bool, true, false, if◌then◌else◌, List, [], ◌∷◌, Option, None, Some, IsTrue}
 use Rattle.std.specs.Prelude.{chars, codes, length, nat_lt, slice_index_or}
 use Rattle.std.specs.Char.{len_utf8}

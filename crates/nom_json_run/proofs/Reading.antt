@@ -1,4 +1,4 @@
--- What parsers over bytes read of a list, in the complete mode: by the meanings of parsers, one lemma for each combinator.
+-- Parsers over bytes by what they read of a list, in the complete mode: one lemma for each combinator, by its meaning.
 use Rattle.std.specs.Prelude.{◌≡◌, ℕ, ◌+◌, ◌≤◌, ◌++◌, Bool, true, false, List, Option, Some, drop}
 use Rattle.std.proofs.Common.{arith, sym, ◌∙◌, ap, refl, subst, inl, inr}
 use Rattle.std.proofs.lemmas.List.{drop-drop}

@@ -1,4 +1,4 @@
--- What parsers without parts read: of a byte, of a run of bytes, and of a word.
+-- Parsers without parts, by what they read: a byte, a run of bytes, and a word.
 use Rattle.std.specs.Prelude.{◌≡◌, ℕ, ◌+◌, ◌≤◌, ◌==◌, ◌⊎◌, ◌++◌, Bool, true, false, if◌then◌else◌, List, [], ◌∷◌, length, drop, Option, None, Some}
 use Rattle.std.specs.List.{All}
 use Rattle.std.proofs.Common.{arith, sym, ◌∙◌, ap, refl, subst, inl, inr, length-append}
