@@ -12,6 +12,8 @@ use Rattle.nom_internal.specs.Prelude.{Passes, Refuse}
 use Rattle.nom_internal.specs.Prelude.{Stop, after, case_meaning, closed_case, closed_meaning, items_len, labelled, leaf_meaning, map_case}
 use Rattle.nom_internal.specs.Prelude.{map_meaning, mode_of, or_meaning, plain_case, premised, sequence_meaning, text_model}
 use Rattle.nom_traits.specs.Text.{items_len-text}
+use Rattle.nom_repeat.specs.Repeat.{Turn}
+use Rattle.nom_repeat.specs.Repeat.Turn.{Ends, Takes}
 use Rattle.nom_internal.specs.Tuples.{built_meaning}
 use Rattle.nom_internal.specs.Words.{map_worded, pair_worded, tuple_worded}
 use Rattle.nom_branch.specs.Words.{alt_worded, or_worded}
@@ -273,3 +275,30 @@ module _ {O : Type 0} {f : After} {g : TextWord O} (d : Described (Gives f) g) w
 
     pub terminated_gives : Described Both (terminated_of g h)
     terminated_gives = terminated_by Both d b both_left (λ xs e. ap (λ o. and_then o k) e) (λ xs h. h)
+
+-- what a turn of a repetition says, by what the parser for it says
+abbrev pub TurnSays : {V : Type 0} → Endings → List ℕ → Turn V (Unit {0}) → Type 0
+TurnSays R xs (Takes n v) = (ys : List ℕ) × Cut xs n ys × R xs (Leaving ys)
+TurnSays R xs (Ends (Accept n w)) = (n ≡ 0) × R xs Refusing
+TurnSays R xs (Ends Refuse) = ⊥
+TurnSays R xs (Ends (Stop (Fails c))) = R xs Failing
+TurnSays R xs (Ends (Stop (Needs k))) = ⊥
+
+-- where it ends
+pub ended : {T : Type 0} (V : Type 0) (R Q : Endings) (us : T) (xs : List ℕ) (o : Outcome (Unit {0})) → (R xs Refusing → Q xs (Leaving xs)) →
+    (R xs Failing → Q xs Failing) → TurnSays {V = V} R xs (Ends o) → EndsSo Q xs (after 0 (λ _. us) o)
+ended V R Q us xs (Accept n w) none fails h =
+    let e : n ≡ 0 = h.0 in
+    (xs, subst (λ n. Cut xs n xs) (omega (arith, e)) (cut_none xs), none h.1)
+ended V R Q us xs Refuse none fails h = absurd h
+ended V R Q us xs (Stop (Fails c)) none fails h = fails h
+ended V R Q us xs (Stop (Needs k)) none fails h = absurd h
+
+-- where it goes on
+pub one_more : {T : Type 0} (A B Q : Endings) (us : T) (xs ys : List ℕ) (a n : ℕ) (o : Outcome (Unit {0})) → Cut xs a ys → A xs (Leaving ys) →
+    ((zs : List ℕ) → A xs (Leaving ys) → B ys (Leaving zs) → Q xs (Leaving zs)) → (B ys Refusing → ⊥) → (A xs (Leaving ys) → B ys Failing → Q xs Failing) →
+    EndsSo B ys (after n (λ _. us) o) → EndsSo Q xs (after (a + n) (λ _. us) o)
+one_more A B Q us xs ys a n (Accept q w) c i goes none fails h = (h.0, subst (λ n. Cut xs n h.0) (omega arith) (cut_then c h.1), goes h.0 i h.2)
+one_more A B Q us xs ys a n Refuse c i goes none fails h = absurd (none h)
+one_more A B Q us xs ys a n (Stop (Fails z)) c i goes none fails h = fails i h
+one_more A B Q us xs ys a n (Stop (Needs k)) c i goes none fails h = h

@@ -28,7 +28,7 @@ use Rattle.nom_json_run.proofs.Values.{differ, head_is, text_same}
 use Rattle.example_json.specs.Json.{string_of}
 use Rattle.example_json.specs.Scalars.{characters_of, text_of, uncut}
 use Rattle.example_json.proofs.Described.{After, Cut, Described, Describes, Ending, Endings, EndsSo, Failing, Gives, Leaving, Refusing, alt_by, by, cut_none}
-use Rattle.example_json.proofs.Described.{cut_rest, cut_then, like_described, map_by, one_cut, or_else, or_gives, pair_by, pair_gives}
+use Rattle.example_json.proofs.Described.{TurnSays, cut_rest, ended, one_more, like_described, map_by, one_cut, or_else, or_gives, pair_by, pair_gives}
 use Rattle.example_json.proofs.Described.{preceded_gives, recognize_by, same_gives, terminated_gives, tuple_by}
 use Rattle.example_json.proofs.DescribedScalars.{Branch, then_some}
 use Rattle.example_json.proofs.DescribedTokens.{char_by, hex_by, one_of_by, plain_by, spaces_by}
@@ -37,13 +37,13 @@ use Rattle.example_json.proofs.DescribedTokens.{char_by, hex_by, one_of_by, plai
 abbrev is_letter : ℕ → Bool
 is_letter = is_listed (codes "\"\\/bfnrt")
 
-or_none : (p o : Option (List ℕ)) → o ≡ None → p ≡ or_else p o
-or_none (Some xs) o e = refl
-or_none None o e = sym e
+else_none : (p o : Option (List ℕ)) → o ≡ None → p ≡ or_else p o
+else_none (Some xs) o e = refl
+else_none None o e = sym e
 
 long_or : (t : Bool) (zs : List ℕ) (f : After) (o : Option (List ℕ)) → (t ≡ true → o ≡ None) →
     (if t then f zs else o) ≡ or_else (and_then (if t then Some zs else None) f) o
-long_or true zs f o n = or_none (f zs) o (n refl)
+long_or true zs f o n = else_none (f zs) o (n refl)
 long_or false zs f o n = refl
 
 no_letter : (xs : List ℕ) → begins 117 xs ≡ true → after_byte is_letter xs ≡ None
@@ -112,13 +112,6 @@ Runs xs (Leaving ys) = Run xs ys
 Runs xs Refusing = ⊥
 Runs xs Failing = ⊥
 
--- what a turn says
-abbrev TurnSays : {V : Type 0} → List ℕ → Turn V (Unit {0}) → Type 0
-TurnSays xs (Takes n v) = (ys : List ℕ) × Cut xs n ys × (piece xs ≡ Some ys)
-TurnSays xs (Ends (Accept n w)) = (n ≡ 0) × (piece xs ≡ None)
-TurnSays xs (Ends Refuse) = ⊥
-TurnSays xs (Ends (Stop why)) = ⊥
-
 module _ {V : Type 0} {m : Meaning Text V (Error Text)} (d : Describes (Gives piece) m) where
   abbrev Turns : ℕ → Text → Turn V (Unit {0}) → Type 0
   Turns = TurnsBy None (item_turn (any_limits Kind.Many0Count)) (λ _. m.answers false)
@@ -127,54 +120,40 @@ module _ {V : Type 0} {m : Meaning Text V (Error Text)} (d : Describes (Gives pi
   not_empty xs ys c e = omega (arith, piece_shorter xs ys e, ap length (one_cut c (cut_none xs)))
 
   turn_says : (k : ℕ) (i : Text) (x : Option (Outcome V)) → text_model.IsKnown i → Replies None (λ _. m.answers false) k i x →
-      TurnSays i.now (item_turn (any_limits Kind.Many0Count) k x)
+      TurnSays (Gives piece) i.now (item_turn (any_limits Kind.Many0Count) k x)
   turn_says k i (Some (Accept zero v)) known h =
       let s = d.ends i (Accept 0 v) known h.1 in
       absurd (not_empty i.now s.0 s.1 s.2)
   turn_says k i (Some (Accept (suc n) v)) known h = d.ends i (Accept (suc n) v) known h.1
   turn_says k i (Some Refuse) known h =
       let none : ltb k 0 ≡ false = le-ltb k 0 (omega arith) in
-      subst (λ t. TurnSays {V = V} i.now (refused_turn t)) (sym none) (refl, d.ends i Refuse known h.1)
+      subst (λ t. TurnSays {V = V} (Gives piece) i.now (refused_turn t)) (sym none) (refl, d.ends i Refuse known h.1)
   turn_says k i (Some (Stop (Fails c))) known h = absurd (d.ends i (Stop (Fails c)) known h.1)
   turn_says k i (Some (Stop (Needs n))) known h = absurd (d.ends i (Stop (Needs n)) known h.1)
   turn_says k i None known h = absurd (h tt)
 
-  says : (k : ℕ) (i : Text) (t : Turn V (Unit {0})) → text_model.IsKnown i → Turns k i t → TurnSays i.now t
-  says k i t known h = subst (TurnSays i.now) (sym h.fact) (turn_says k i h.reply known h.replied)
+  says : (k : ℕ) (i : Text) (t : Turn V (Unit {0})) → text_model.IsKnown i → Turns k i t → TurnSays (Gives piece) i.now t
+  says k i t known h = subst (TurnSays (Gives piece) i.now) (sym h.fact) (turn_says k i h.reply known h.replied)
 
-  ended : (us : List V) (xs : List ℕ) (o : Outcome (Unit {0})) → TurnSays {V = V} xs (Ends o) → EndsSo Runs xs (after 0 (λ _. us) o)
-  ended us xs (Accept n w) h =
-      let none : n ≡ 0 = h.0 in (
-        xs,
-        subst (λ n. Cut xs n xs) (omega (arith, none)) (cut_none xs),
-        record { same = λ r. (λ s. s, λ s. s); no_plain = λ p. p; no_piece = h.1 },
-      )
-  ended us xs Refuse h = absurd h
-  ended us xs (Stop why) h = absurd h
+  at_end : (xs : List ℕ) → piece xs ≡ None → Run xs xs
+  at_end xs e = record { same = λ r. (λ s. s, λ s. s); no_plain = λ p. p; no_piece = e }
 
-  one_more : (us : List V) (xs ys : List ℕ) (a n : ℕ) (o : Outcome (Unit {0})) → Cut xs a ys → piece xs ≡ Some ys → EndsSo Runs ys (after n (λ _. us) o) →
-      EndsSo Runs xs (after (a + n) (λ _. us) o)
-  one_more us xs ys a n (Accept q w) c e h =
-      let run : Run ys h.0 = h.2 in
+  past_piece : (xs ys zs : List ℕ) → piece xs ≡ Some ys → Run ys zs → Run xs zs
+  past_piece xs ys zs e run =
       let f = piece_left xs ys e in
-      let stopped : first_is is_plain_code ys ≡ false = ap (first_is is_plain_code) (sym f.1.2) ∙ stops_first is_plain_code f.1.0 in (
-        h.0,
-        subst (λ n. Cut xs n h.0) (omega arith) (cut_then c h.1),
-        record { same = λ r. both (piece_same xs ys e r) (run.same r); no_plain = λ _. run.no_plain stopped; no_piece = run.no_piece },
-      )
-  one_more us xs ys a n Refuse c e h = h
-  one_more us xs ys a n (Stop (Fails z)) c e h = h
-  one_more us xs ys a n (Stop (Needs z)) c e h = h
+      let stopped : first_is is_plain_code ys ≡ false = ap (first_is is_plain_code) (sym f.1.2) ∙ stops_first is_plain_code f.1.0 in
+      record { same = λ r. both (piece_same xs ys e r) (run.same r); no_plain = λ _. run.no_plain stopped; no_piece = run.no_piece }
 
   runs : (us : List V) (o : Outcome (Unit {0})) (k : ℕ) (i : Text) → text_model.IsKnown i → (vs : List V) (n : ℕ) →
       Pieces text_model Turns (λ k j. Turns k j (Ends o)) k i vs n → EndsSo Runs i.now (after n (λ _. us) o)
   runs us o k i known [] n p =
-      subst (λ n. EndsSo Runs i.now (after n (λ _. us) o)) (sym p.0) (ended us i.now o (says k i (Ends o) known p.1))
+      subst (λ n. EndsSo Runs i.now (after n (λ _. us) o)) (sym p.0)
+      (ended V (Gives piece) Runs us i.now o (at_end i.now) (λ f. f) (says k i (Ends o) known p.1))
   runs us o k i known (v ∷ vs) n (a, l, j, t, s, p, e) =
       let h = says k i (Takes a v) known t in
       let there = one_cut h.1 (cut_rest known s) in
-      subst (λ n. EndsSo Runs i.now (after n (λ _. us) o)) (sym e) (one_more us i.now j.now a l o (cut_rest known s)
-      (subst (λ ys. piece i.now ≡ Some ys) there h.2) (runs us o (k + 1) j s.known vs l p))
+      subst (λ n. EndsSo Runs i.now (after n (λ _. us) o)) (sym e) (one_more (Gives piece) Runs Runs us i.now j.now a l o (cut_rest known s)
+      (subst (λ ys. piece i.now ≡ Some ys) there h.2) (λ zs. past_piece i.now j.now zs) (λ x. x) (λ _ f. f) (runs us o (k + 1) j s.known vs l p))
 
   many_described : Describes Runs (items_meaning text_model plain_errors (any_limits Kind.Many0Count) ⊥ m)
   many_described = record {

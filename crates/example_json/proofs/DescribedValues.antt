@@ -18,8 +18,9 @@ use Rattle.example_json.specs.Depths.{nesting, nesting_inside, nesting_item, nes
 use Rattle.example_json.specs.Json.{after_comma, list_of, list_turn, list_worded}
 use Rattle.example_json.specs.Json.{item_at}
 use Rattle.example_json.specs.Scalars.{token_of}
-use Rattle.example_json.proofs.Described.{Described, Describes, Ending, Endings, EndsSo, Failing, Gives, Leaving, Refusing, by, cut_none, cut_rest, cut_then}
-use Rattle.example_json.proofs.Described.{described_as, like_described, map_by, one_cut, pair_by, tuple_by, Cut}
+use Rattle.example_json.proofs.Described.{Described, Describes, Ending, Endings, EndsSo, Failing, Gives, Leaving, Refusing, by, cut_rest}
+use Rattle.example_json.proofs.Described.{TurnSays, ended, one_more}
+use Rattle.example_json.proofs.Described.{described_as, like_described, map_by, one_cut, pair_by, tuple_by}
 use Rattle.example_json.proofs.DescribedScalars.{Branch, IsBrokenOff, apart, is_mark_of_more, is_number}
 use Rattle.example_json.proofs.DescribedScalars.{number_starts}
 use Rattle.example_json.proofs.DescribedTokens.{after_token, token_by, token_left, token_not}
@@ -141,33 +142,6 @@ abbrev pub Items : Bracket → ℕ → Endings
 Items o d xs (Leaving ys) = IsListRead o d xs ys
 Items o d xs Refusing = ⊥
 Items o d xs Failing = (begins (closing o) xs ≡ false) × ((r : List ℕ) (v : JsonItems o xs r) → begins (closing o) r ≡ true → d < nesting_items v)
-
--- what a turn says, by what the part for it says
-abbrev TurnSays : {V : Type 0} → Endings → List ℕ → Turn V (Unit {0}) → Type 0
-TurnSays R xs (Takes n v) = (ys : List ℕ) × Cut xs n ys × R xs (Leaving ys)
-TurnSays R xs (Ends (Accept n w)) = (n ≡ 0) × R xs Refusing
-TurnSays R xs (Ends Refuse) = ⊥
-TurnSays R xs (Ends (Stop (Fails c))) = R xs Failing
-TurnSays R xs (Ends (Stop (Needs k))) = ⊥
-
--- where a list ends
-ended : {T : Type 0} (V : Type 0) (R Q : Endings) (us : T) (xs : List ℕ) (o : Outcome (Unit {0})) → (R xs Refusing → Q xs (Leaving xs)) →
-    (R xs Failing → Q xs Failing) → TurnSays {V = V} R xs (Ends o) → EndsSo Q xs (after 0 (λ _. us) o)
-ended V R Q us xs (Accept n w) none fails h =
-    let e : n ≡ 0 = h.0 in
-    (xs, subst (λ n. Cut xs n xs) (omega (arith, e)) (cut_none xs), none h.1)
-ended V R Q us xs Refuse none fails h = absurd h
-ended V R Q us xs (Stop (Fails c)) none fails h = fails h
-ended V R Q us xs (Stop (Needs k)) none fails h = absurd h
-
--- where it goes on
-one_more : {T : Type 0} (A B Q : Endings) (us : T) (xs ys : List ℕ) (a n : ℕ) (o : Outcome (Unit {0})) → Cut xs a ys → A xs (Leaving ys) →
-    ((zs : List ℕ) → A xs (Leaving ys) → B ys (Leaving zs) → Q xs (Leaving zs)) → (B ys Refusing → ⊥) → (A xs (Leaving ys) → B ys Failing → Q xs Failing) →
-    EndsSo B ys (after n (λ _. us) o) → EndsSo Q xs (after (a + n) (λ _. us) o)
-one_more A B Q us xs ys a n (Accept q w) c i goes none fails h = (h.0, subst (λ n. Cut xs n h.0) (omega arith) (cut_then c h.1), goes h.0 i h.2)
-one_more A B Q us xs ys a n Refuse c i goes none fails h = absurd (none h)
-one_more A B Q us xs ys a n (Stop (Fails z)) c i goes none fails h = fails i h
-one_more A B Q us xs ys a n (Stop (Needs k)) c i goes none fails h = h
 
 module _ {O : Type 0} {g : TextWord O} (o : Bracket) (d : ℕ) (item : Described (Item o d) g) where
   next_described : Described (Behind 44 (Item o d)) (after_comma g)

@@ -12,7 +12,7 @@ use Rattle.nom_json_run.specs.Json.JsonValue.{null, truth, untruth, number, text
 use Rattle.nom_json_run.specs.declared.bracket.Bracket.{Bracket}
 
 abbrev mutual
-  -- how many brackets lie in each other, at most
+  -- the most brackets that lie in each other
   pub nesting : {i r : List ℕ} → JsonValue i r → ℕ
   nesting (null s) = 0
   nesting (truth s) = 0
