@@ -14,7 +14,8 @@ use nom::{Err, IResult, Items, OutOfMemory, Parser, parse_growing};
 use nom_io::counted::Counted;
 use nom_io::stream::Sink;
 use nom_run::error::RunError;
-use nom_run::program::status_of;
+use nom_run::folder::Disk;
+use nom_run::program::{read_words, status_by};
 use nom_run::report::{Report, beginning_len, write_built};
 use nom_run::text::{add_bytes, add_decided, add_error, add_failure, add_need, add_rest};
 use std::alloc::Allocator;
@@ -77,7 +78,7 @@ fn text_of<A: Allocator + Copy>(
     requires { NoneAbove cuts.now (length bytes.now) }
     ensures { IfOk result (λ r. IsReport bytes.now cuts.now (string_bytes r.0) r.1) }
 {
-    bytes.prove_known();
+    bytes.known();
     let record = tag::<_, _, Error<&[u8]>>(&b"R"[..]).and(take(4usize));
     let grown = parse_growing(record, bytes, cuts);
     let beginning = beginning_len(bytes.len(), cuts, grown.index);
@@ -88,7 +89,7 @@ fn text_of<A: Allocator + Copy>(
 struct Record;
 
 impl Report for Record {
-    ghost is_report = { IsReport };
+    ghost is_report = { λ _. IsReport };
 
     fn write<A: Allocator + Copy, W: Sink>(
         &self,
@@ -102,6 +103,8 @@ impl Report for Record {
 }
 
 fn main(rt: HostRuntime) -> ExitCode {
+    let words = read_words(&rt);
     let mut sink = Counted::new(io::writer(&rt));
-    ExitCode::from(status_of(&rt, &Record, &mut sink))
+    let status = status_by(rt.alloc(), words, &Record, &mut Disk::new(&rt), &mut sink);
+    ExitCode::from(status)
 }

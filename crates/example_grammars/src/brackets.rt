@@ -16,7 +16,7 @@ use nom::{IResult, Items, Parser, func};
 pub fn nested_brackets(input: &[u8]) -> IResult<&[u8], usize>
     ensures { ParsesMeaning bytes_model (λ t n. n ≡ t) brackets_meaning false input.entry result }
 {
-    input.prove_known();
+    input.known();
     let mut open = char::<&[u8], Error<&[u8]>>('(');
     match open.parse_complete(input) {
         Ok(accepted) => {

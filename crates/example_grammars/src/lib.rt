@@ -4,6 +4,7 @@
 
 mod bits;
 mod brackets;
+pub mod classes;
 pub mod closures;
 mod configuration;
 pub mod field;

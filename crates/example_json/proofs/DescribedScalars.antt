@@ -6,8 +6,8 @@ use Rattle.nom_traits.specs.Classes.{is_dec_digit_code, is_listed, is_multispace
 use Rattle.nom_json_run.specs.Json.{JsonValue, after_all, after_byte, after_digits1, after_exponent, after_fraction, after_integer, after_number, after_one}
 use Rattle.nom_json_run.specs.Json.{after_spaces, after_word, and_then, begins, first_is, rest}
 use Rattle.nom_json_run.specs.Json.JsonValue.{null, truth, untruth, number}
-use Rattle.nom_json_run.specs.Walk.{BeginsWord, is_mark}
-use Rattle.nom_json_run.specs.Walk.BeginsWord.{as_null, as_true, as_false}
+use Rattle.nom_json_run.specs.Parts.{BeginsWord, is_mark}
+use Rattle.nom_json_run.specs.Parts.BeginsWord.{as_null, as_true, as_false}
 use Rattle.nom_json_run.proofs.Decisions.{if_some}
 use Rattle.nom_json_run.proofs.Strings.{some_is}
 use Rattle.nom_json_run.proofs.Values.{differ, head_is, number_same, word_begins, word_same}

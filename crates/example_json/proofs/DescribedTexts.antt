@@ -20,7 +20,7 @@ use Rattle.nom_json_run.proofs.Strings.{some_is}
 use Rattle.nom_json_run.proofs.Decisions.{if_not, if_some}
 use Rattle.nom_json_run.proofs.Grammars.{same_truth}
 use Rattle.nom_json_run.proofs.Values.{differ, head_is, word_begins}
-use Rattle.nom_json_run.specs.Walk.BeginsWord.{as_null, as_true, as_false}
+use Rattle.nom_json_run.specs.Parts.BeginsWord.{as_null, as_true, as_false}
 use Rattle.example_json.specs.Depths.{DecidesJson, nesting, nesting_item}
 use Rattle.example_json.specs.Json.{json_text_of, member_of, scalar_of, value_of}
 use Rattle.example_json.specs.Scalars.{deep_of, spaces_of}

@@ -102,11 +102,11 @@ pub fn decoded<'a, A: Allocator + Copy>(alloc: A, written: &'a str) -> Answer<'a
     ensures shown { Parses decoded_of false written.entry result }
     ensures lent { IfOk result (λ a. IsLent written.entry a.1) }
 {
-    written.prove_known();
+    written.known();
     let mut plain = take_while::<_, &'a str, Error<&'a str>>(is_plain);
     let (rest, text) = plain.parse_complete(written)?;
     if rest.is_empty() {
-        text.prove_known();
+        text.known();
         return Ok((rest, CowStr::Borrowed(text)));
     }
     let (rest, text) = unescaped(alloc, written)?;

@@ -100,7 +100,7 @@ fn object<'a>(alloc: Global, depth: usize, input: &'a str) -> Answer<'a, Json<'a
 fn elements<'a>(alloc: Global, depth: usize, start: Place<'a>) -> Answer<'a, Vec<Json<'a>>>
     ensures { Parses (list_of (value_of depth)) false start.entry.text result }
 {
-    start.text.prove_known();
+    start.text.known();
     let mut list = Vec::new(alloc);
     let answer = value(alloc, depth, start.text);
     if is_refused(&answer) {
@@ -133,7 +133,7 @@ fn members<'a>(
 ) -> Answer<'a, Vec<(&'a str, Json<'a>)>>
     ensures { Parses (list_of (member_of (value_of depth))) false start.entry.text result }
 {
-    start.text.prove_known();
+    start.text.known();
     let mut list = Vec::new(alloc);
     let answer = member(alloc, depth, start.text);
     if is_refused(&answer) {
@@ -231,7 +231,7 @@ pub fn json_text<'a>(alloc: Global, depth: usize, input: &'a str) -> Answer<'a, 
     ensures shown { Parses (json_text_of depth) false input.entry result }
     ensures decided { DecidesJson depth input.entry result }
 {
-    input.prove_known();
+    input.known();
     whole(alloc, depth, input)
 }
 

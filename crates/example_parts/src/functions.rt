@@ -23,7 +23,7 @@ type Fail<'a> = Error<&'a [u8]>;
 pub fn first(input: &[u8]) -> IResult<&[u8], u8>
     ensures { TellsItems bytes_model itself first_outcome input.entry result }
 {
-    input.prove_known();
+    input.known();
     match input.split_first() {
         Some((byte, after)) => Ok((after, *byte)),
         None => Err(Err::Incomplete(Needed::Unknown)),
@@ -34,7 +34,7 @@ pub fn first(input: &[u8]) -> IResult<&[u8], u8>
 pub fn small(input: &[u8]) -> IResult<&[u8], u8>
     ensures { TellsItems bytes_model itself small_outcome input.entry result }
 {
-    input.prove_known();
+    input.known();
     match input.split_first() {
         Some((byte, after)) => {
             if *byte < 128 {
@@ -129,7 +129,11 @@ pub fn even(input: &[u8]) -> IResult<&[u8], u8> {
     even.parse(input)
 }
 
-/// The first byte, by a closure that counts how often it is asked. It runs, and what it is keeps no law.
+/// The first byte, by a closure that counts how often it is asked, and accepts the first time alone.
+///
+/// Proved is that the call is safe: the closure takes each byte, and that is all that a call asks. Nothing is said of the answer.
+/// The closure answers one byte in two ways, so no law holds of this parser: `has_one_outcome(&once)` would be refused, and so
+/// would `parse_growing`, which both ask for one outcome. The edit `counts_its_calls` shows that of `even`.
 pub fn at_first(input: &[u8]) -> IResult<&[u8], u8> {
     let calls = Cell::new(0u8);
     let mut once = verify(be_u8::<_, Fail>(), |_: &u8| {

@@ -48,8 +48,8 @@ impl Items for Nested<'_> {
 
     ghost model = { nested_model };
 
-    fn prove_known(self) {
-        self.text.prove_known();
+    fn known(self) {
+        self.text.known();
     }
 
     ghost lawful = { moving_lawful depths text_model text_lawful };

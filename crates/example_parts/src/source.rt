@@ -25,8 +25,8 @@ impl Items for Source<'_> {
 
     ghost model = { source_model };
 
-    fn prove_known(self) {
-        self.text.prove_known();
+    fn known(self) {
+        self.text.known();
     }
 
     ghost lawful = { wrapped_lawful (λ s. s.text) name text_model text_lawful };

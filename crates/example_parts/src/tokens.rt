@@ -47,7 +47,7 @@ impl Items for Tokens<'_> {
 
     ghost model = { tokens_model (λ t. t.tokens) (λ t. t.offset) };
 
-    fn prove_known(self) {
+    fn known(self) {
         let _offset = self.offset;
     }
 
@@ -68,7 +68,7 @@ impl<'a> Input for Tokens<'a> {
     }
 
     fn take(&self, index: usize) -> Self {
-        self.prove_known();
+        self.known();
         Tokens {
             tokens: &self.tokens[..index],
             offset: self.offset,
@@ -76,7 +76,7 @@ impl<'a> Input for Tokens<'a> {
     }
 
     fn take_from(&self, index: usize) -> Self {
-        self.prove_known();
+        self.known();
         Tokens {
             tokens: &self.tokens[index..],
             offset: self.offset.saturating_add(index),

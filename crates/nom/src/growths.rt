@@ -3,7 +3,7 @@
 //!
 //! All say the same, provided that the parts are frugal and the error type takes no memory. Memory runs out
 //! only if outputs are built and a first item was accepted. A call that fails with nothing to keep is
-//! therefore wrong. If room that is requested in advance isn't there, items are still read.
+//! therefore wrong.
 ghost use Rattle.std.specs.Prelude.{◌≡◌};
 ghost use Rattle.nom.specs.Growths.{GrowsByCounted, GrowsByItems, GrowsByPieces, GrowsBySeparated, GrowsUntil};
 

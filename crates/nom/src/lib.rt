@@ -54,6 +54,6 @@ pub use nom_traits::offset::Offset;
 pub use nom_traits::rests::{CountItems, CutRest};
 pub use nom_traits::view::Viewed;
 pub use nom_values::hex::HexDisplay;
-pub use nom_values::parse::ParseTo;
+pub use nom_values::parse::{ParseTo, ReadFromText};
 pub use nom_values::range::NomRange;
 pub use nom_values::saturating::SaturatingIterator;

@@ -22,7 +22,7 @@ fn whole_byte<I: Input<Item = u8>>(input: (I, usize)) -> I
     ensures { IsSuffixOf (bits_model I.model) input (bits_ahead I.model input) (result, 0) }
 {
     let (bytes, position) = input;
-    bytes.prove_known();
+    bytes.known();
     match skipped(bytes, position / 8 + (position % 8 + 7) / 8) {
         Some(rest) => rest,
         None => bytes.take_from(bytes.input_len()),
@@ -139,7 +139,7 @@ where
 
     #[inline(always)]
     fn process<OM: OutputMode>(&mut self, input: I) -> PResult<I, P::Output, E> {
-        input.prove_known();
+        input.known();
         match self
             .parser
             .process::<OutputM<OM::Output, OM::Error, Streaming>>((input, 0))

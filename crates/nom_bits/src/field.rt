@@ -27,7 +27,7 @@ fn following<I: Input<Item = u8>>(start: (I, usize), count: usize) -> Option<(I,
         (λ rest. IsSuffixOf (bits_model I.model) start count rest × StandsAfter I.model start count rest) }
 {
     let (bytes, offset) = start;
-    bytes.prove_known();
+    bytes.known();
     let end = offset + count;
     match skipped(bytes, end / 8) {
         Some(rest) => {
@@ -54,7 +54,7 @@ pub fn next_field<I: Input<Item = u8>>(input: (I, usize), count: usize) -> Optio
     requires { count ≤ 128 }
     ensures { MatchOption result (length ((bits_model I.model).elements input) < count) (λ f. SplitsAt I.model input count f.start f.rest) }
 {
-    input.0.prove_known();
+    input.0.known();
     if count == 0 {
         Some(Field {
             start: input,

@@ -28,7 +28,7 @@ where
         (N.members (N.state members.old)) N.none) (modes OM.Output.BUILDS OM.Error.BUILDS OM.Incomplete.STREAMING) input result }
     ensures kept { N.state members.new ≡ N.state members.old }
 {
-    input.prove_known();
+    input.known();
     let mut slots = N::slots();
     let mut rest = input;
     loop {

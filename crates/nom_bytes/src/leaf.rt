@@ -77,7 +77,7 @@ pub(crate) fn answer<OM: OutputMode, T: Copy, I: Input + Compare<T>, E: ParseErr
         (tag_meaning I.model E.errors I.tag_size (compares_by I.compares I.compares_no_case ignores_case) (I.tag_model tag))
         (modes OM.Output.BUILDS OM.Error.BUILDS OM.Incomplete.STREAMING) input result }
 {
-    input.prove_known();
+    input.known();
     match compared {
         CompareResult::Ok => {
             let n = I::tag_len(tag);

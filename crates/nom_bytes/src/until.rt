@@ -42,7 +42,7 @@ impl<T: Copy, I: Input + FindSubstring<T>, E: ParseError<I>> Parser<I> for TakeU
 
     #[inline(always)]
     fn process<OM: OutputMode>(&mut self, input: I) -> PResult<I, I, E> {
-        input.prove_known();
+        input.known();
         match input.find_substring(self.tag) {
             Some(index) => Ok((input.take_from(index), front::<OM::Output, I>(input, index))),
             None if OM::Incomplete::STREAMING => Err(Err::Incomplete(Needed::Unknown)),
@@ -87,7 +87,7 @@ impl<T: Copy, I: Input + FindSubstring<T>, E: ParseError<I>> Parser<I> for TakeU
 
     #[inline(always)]
     fn process<OM: OutputMode>(&mut self, input: I) -> PResult<I, I, E> {
-        input.prove_known();
+        input.known();
         match input.find_substring(self.tag) {
             Some(0) => Err(refusal::<OM::Error, I, E>(input, ErrorKind::TakeUntil)),
             Some(n) => Ok((input.take_from(n), front::<OM::Output, I>(input, n))),

@@ -5,7 +5,18 @@ use Rattle.nom_internal.specs.Prelude.{Built}
 use Rattle.nom_bytes_escaped.specs.declared.next_piece.Piece.{Piece}
 use Rattle.nom_bytes_escaped.specs.declared.next_piece.Piece.TheVariants.{Normal, Escapable}
 use Rattle.nom_bytes_escaped.specs.NextPieces.{IsPiece}
-use Rattle.nom_bytes_escaped.specs.Texts.{Adds, AddAll, IsAppended, IsExtended}
+use Rattle.nom_bytes_escaped.specs.Texts.{Adds, AddAll, GrowsFor, GrowsForPiece, IsAppended, IsExtended}
+
+-- a text that has to grow is there
+grows_is_some : {T V : Type 0} (grows : V → T → Type 0) (text : Option T) (value : Option V) → GrowsFor grows text value → IsSome text
+grows_is_some grows (Some t) (Some v) h = refl
+grows_is_some grows (Some t) None h = absurd h
+grows_is_some grows None value h = absurd h
+
+pub growing_is_some : {T O X : Type 0} (normal_grows : O → T → Type 0) (escapable_grows : X → T → Type 0) (text : Option T)
+    (piece : Piece (Option O) (Option X)) → GrowsForPiece normal_grows escapable_grows text piece → IsSome text
+growing_is_some normal_grows escapable_grows text (Normal value) h = grows_is_some normal_grows text value h
+growing_is_some normal_grows escapable_grows text (Escapable value) h = grows_is_some escapable_grows text value h
 
 -- there is a value only where values are built
 pub some_is_built : {T : Type 0} (P : T → Type 0) (builds : Bool) (o : Option T) → IsSome o → Built builds P o → builds ≡ true

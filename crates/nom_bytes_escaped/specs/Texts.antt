@@ -23,6 +23,17 @@ IsAppended parts added (Some text) (Some value) None = ⊥
 IsAppended parts added (Some text) None new = new ≡ Some text
 IsAppended parts added None value new = new ≡ None
 
+-- both are built, and the text has to grow before the value fits
+abbrev pub GrowsFor : {T V : Type 0} → (V → T → Type 0) → Option T → Option V → Type 0
+GrowsFor grows (Some text) (Some value) = grows value text
+GrowsFor grows (Some text) None = ⊥
+GrowsFor grows None value = ⊥
+
+-- the same for the value of a piece
+abbrev pub GrowsForPiece : {T O X : Type 0} → (O → T → Type 0) → (X → T → Type 0) → Option T → Piece (Option O) (Option X) → Type 0
+GrowsForPiece normal_grows escapable_grows text (Normal value) = GrowsFor normal_grows text value
+GrowsForPiece normal_grows escapable_grows text (Escapable value) = GrowsFor escapable_grows text value
+
 -- the text with the value of a piece more
 abbrev pub IsExtended : {T O X P : Type 0} → (T → List P) → (O → List P) → (X → List P) → Option T → Piece (Option O) (Option X) → Option T → Type 0
 IsExtended parts normal_adds escapable_adds text (Normal value) new = IsAppended parts normal_adds text value new

@@ -104,7 +104,7 @@ where
     ensures normal_kept { F.state normal.new ≡ F.state normal.old }
     ensures escapable_kept { G.state escapable.new ≡ G.state escapable.old }
 {
-    input.prove_known();
+    input.known();
     if input.input_len() == 0 {
         return lacks::<OM::Incomplete, I, _, F::Error>(input, Needed::Unknown, NextPiece::Done);
     }

@@ -49,7 +49,7 @@ where
     // Inlined, so that what `normal` takes is a constant: its lists and classes are known where the parser is made.
     #[inline(always)]
     fn process<OM: OutputMode>(&mut self, input: I) -> PResult<I, I, F::Error> {
-        input.prove_known();
+        input.known();
         let lack = Needed::new(1);
         let mut rest = input;
         loop {

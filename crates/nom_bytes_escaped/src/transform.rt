@@ -1,8 +1,8 @@
 //! Texts with escapes, returned with the escapes replaced.
-ghost use Rattle.std.specs.Prelude.{◌≡◌, ℕ, List, [], IsSome, OnOk, OnErr};
+ghost use Rattle.std.specs.Prelude.{◌≡◌, ℕ, List, [], OnOk, OnErr};
 ghost use Rattle.nom_internal.specs.Prelude.{Built};
 ghost use Rattle.nom_bytes_escaped.specs.declared.next_piece.Piece.{Piece};
-ghost use Rattle.nom_bytes_escaped.specs.Texts.{AddAll, IsAppended, IsExtended};
+ghost use Rattle.nom_bytes_escaped.specs.Texts.{AddAll, GrowsFor, GrowsForPiece, IsAppended, IsExtended};
 ghost use Rattle.nom_bytes_escaped.specs.Escapes.{escaped_transform_meaning};
 ghost use Rattle.nom_bytes_escaped.specs.Words as Words;
 
@@ -42,14 +42,14 @@ fn no_text<M: Mode, A: Allocator + Copy, X: Builder + Drop, I: ExtendInto<A, Ext
     }
 }
 
-/// Appends a value, if texts are built.
+/// Appends a value, if texts are built. It fails only if the text has to grow for it.
 #[inline(always)]
 fn append<A: Allocator + Copy, X: Builder + Drop, O: ExtendInto<A, Extender = X> + Drop>(
     text: &mut Option<X>,
     value: Option<O>,
 ) -> Result<(), OutOfMemory>
     ensures kept { OnOk result (IsAppended X.parts O.added text.old value text.new) }
-    ensures refused { OnErr result (IsSome text.old) }
+    ensures full { OnErr result (GrowsFor O.grows text.old value) }
 {
     match (text, value) {
         (Some(text), Some(value)) => value.extend_into(text),
@@ -66,7 +66,7 @@ fn extend<
     P: ExtendInto<A, Extender = X> + Drop,
 >(text: &mut Option<X>, piece: Piece<Option<O>, Option<P>>) -> Result<(), OutOfMemory>
     ensures kept { OnOk result (IsExtended X.parts O.added P.added text.old piece text.new) }
-    ensures refused { OnErr result (IsSome text.old) }
+    ensures full { OnErr result (GrowsForPiece O.grows P.grows text.old piece) }
 {
     match piece {
         Piece::Normal(value) => append::<A, X, O>(text, value),
@@ -110,7 +110,7 @@ where
 
     #[inline]
     fn process<OM: OutputMode>(&mut self, input: I) -> PResult<I, X, F::Error> {
-        input.prove_known();
+        input.known();
         let mut rest = input;
         let mut text = no_text::<OM::Output, A, X, I>(&input, self.alloc);
         loop {

@@ -83,7 +83,7 @@ impl<I: CutRest, O: Viewed + Drop, E: ParseError<I>, F: Fn(I) -> IResult<I, O, E
 
     #[inline(always)]
     fn process<OM: OutputMode>(&mut self, input: I) -> PResult<I, O, E> {
-        input.prove_known();
+        input.known();
         let answer = (self.f)(input);
         passed_on::<OM, I, O, E>(input, answer)
     }

@@ -45,7 +45,7 @@ impl<
 
     #[inline(always)]
     fn process<OM: OutputMode>(&mut self, input: I) -> PResult<I, O, E> {
-        input.prove_known();
+        input.known();
         let answer = (self.f)(self.alloc, input);
         passed_on::<OM, I, O, E>(input, answer)
     }

@@ -62,7 +62,7 @@ pub fn parse_growing<I: Input, P: StreamParser<I> + Drop>(
     // Where it never fails, it has no such outcome.
     ensures failures { HasNoFailure I.model (P.grammar (P.state parser)).meaning }
 {
-    whole.prove_known();
+    whole.known();
     for (index, cut) in cuts.iter().enumerate() {
         let beginning = whole.take(*cut);
         let answer = parser.parse(beginning);

@@ -116,7 +116,7 @@ where
     I::Item: AsChar,
     ensures { AfterSign I.model I.Item.code signed input result }
 {
-    input.prove_known();
+    input.known();
     match sign_at(input, signed) {
         Some(sign) => Unsigned {
             negative: sign.as_char() == '-',

@@ -42,7 +42,7 @@ impl<I: Items, F: Parser<I> + Drop> Parser<I> for Cond<F> {
             let (rest, output) = self.parser.process::<OM>(input)?;
             Ok((rest, built::<OM::Output, Option<F::Output>>(output)))
         } else {
-            input.prove_known();
+            input.known();
             Ok((input, built::<OM::Output, Option<F::Output>>(None)))
         }
     }

@@ -49,7 +49,7 @@ impl<I: Items, O: Clone, E: ParseError<I>> Parser<I> for Success<O, I, E> {
 
     #[inline(always)]
     fn process<OM: OutputMode>(&mut self, input: I) -> PResult<I, O, E> {
-        input.prove_known();
+        input.known();
         match cloned::<OM::Output, O>(&self.value) {
             Ok(output) => Ok((input, output)),
             Err(_) => Err(Err::OutOfMemory),

@@ -51,7 +51,7 @@ impl<I: Input, E: ParseError<I>> Parser<I> for Eof<I, E> {
     #[inline(always)]
     fn process<OM: OutputMode>(&mut self, input: I) -> PResult<I, I, E> {
         if input.input_len() == 0 {
-            input.prove_known();
+            input.known();
             Ok((input, built::<OM::Output, I>(input)))
         } else {
             Err(refusal::<OM::Error, I, E>(input, ErrorKind::Eof))
@@ -94,7 +94,7 @@ impl<I: Input, E: ParseError<I>> Parser<I> for Rest<I, E> {
 
     #[inline(always)]
     fn process<OM: OutputMode>(&mut self, input: I) -> PResult<I, I, E> {
-        input.prove_known();
+        input.known();
         Ok((
             input.take_from(input.input_len()),
             built::<OM::Output, I>(input),
@@ -140,7 +140,7 @@ impl<I: Input, E: ParseError<I>> Parser<I> for RestLen<I, E> {
 
     #[inline(always)]
     fn process<OM: OutputMode>(&mut self, input: I) -> PResult<I, usize, E> {
-        input.prove_known();
+        input.known();
         Ok((input, built::<OM::Output, usize>(input.input_len())))
     }
 

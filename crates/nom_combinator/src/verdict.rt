@@ -93,7 +93,7 @@ impl<I: Items, F: Parser<I> + Drop> Parser<I> for Opt<F> {
 
     #[inline(always)]
     fn process<OM: OutputMode>(&mut self, input: I) -> PResult<I, Self::Output, Self::Error> {
-        input.prove_known();
+        input.known();
         match self
             .parser
             .process::<OutputM<OM::Output, Check, OM::Incomplete>>(input)
@@ -144,7 +144,7 @@ impl<I: Items, F: Parser<I> + Drop> Parser<I> for Peek<F> {
 
     #[inline(always)]
     fn process<OM: OutputMode>(&mut self, input: I) -> PResult<I, Self::Output, Self::Error> {
-        input.prove_known();
+        input.known();
         let (_, output) = self.parser.process::<OM>(input)?;
         Ok((input, output))
     }
@@ -187,7 +187,7 @@ impl<I: Items, F: Parser<I> + Drop> Parser<I> for Not<F> {
 
     #[inline(always)]
     fn process<OM: OutputMode>(&mut self, input: I) -> PResult<I, Self::Output, Self::Error> {
-        input.prove_known();
+        input.known();
         match self
             .parser
             .process::<OutputM<Check, Check, OM::Incomplete>>(input)

@@ -60,7 +60,7 @@ impl<
             Some(output) => output,
             None => unreachable!(),
         };
-        bound.prove_known();
+        bound.known();
         let (_, output) = self.second.process::<OM>(bound)?;
         Ok((rest, output))
     }

@@ -1,5 +1,5 @@
 -- The faults of a reader or a writer.
-use Rattle.std.specs.Prelude.{◌≡◌, ℕ, ◌+◌, ◌-◌, ◌^◌, ◌<◌, ◌≤◌, None, Some, Result, MatchResult}
+use Rattle.std.specs.Prelude.{◌≡◌, ℕ, ◌-◌, ◌^◌, ◌<◌, ◌≤◌, None, Some, Result, MatchResult}
 use Rattle.std.specs.IoError.{error_kind}
 use Rattle.std_io.specs.declared.io.error.Error.{Error}
 use Rattle.std_io.specs.declared.io.kind.ErrorKind.TheVariants.{Interrupted, WriteZero}
@@ -27,10 +27,10 @@ module _ (old new : Faults) where
   abbrev pub OneFault : Error → Type 0
   OneFault e = (new.count ≡ one_more old.count) × (new.last ≡ Some e)
 
-  -- a call gave this error: the interruption is passed over, or the call failed, and no other error is counted as an interruption
+  -- A call gave this error. An interruption is counted, and passed over while its count has room for more. Else the call failed.
   abbrev pub CountsError : Error → Type 0
-  CountsError e = (IsPassed new e → NoFault × (new.interruptions ≡ old.interruptions + 1)) × ((IsPassed new e → ⊥) → OneFault e) ×
-      ((error_kind e ≡ Interrupted → ⊥) → new.interruptions ≡ old.interruptions)
+  CountsError e = (error_kind e ≡ Interrupted → new.interruptions ≡ one_more old.interruptions) ×
+      ((error_kind e ≡ Interrupted → ⊥) → new.interruptions ≡ old.interruptions) × (IsPassed new e → NoFault) × ((IsPassed new e → ⊥) → OneFault e)
 
   -- of one read
   abbrev pub CountsRead : {T : Type 0} → Result T Error → Type 0

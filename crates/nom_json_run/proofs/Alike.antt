@@ -2,12 +2,15 @@
 use Rattle.std.proofs.Common.{arith, ◌≡◌, ◌∙◌, ℕ, ◌+◌, ◌==◌, ◌<◌, ◌≤◌, Bool, true}
 use Rattle.std.proofs.Common.{List, [], ◌∷◌, length, take, drop, ap, sym, refl, subst}
 use Rattle.std.proofs.lemmas.List.{drop-drop, drop-take, length-take, take-take}
-use Rattle.std.specs.Prelude.{Result, Ok, Err, ◌↔◌}
-use Rattle.nom_json_run.specs.Json.{Spaced, after_spaces, begins, first_is, rest}
+use Rattle.std.specs.Prelude.{None, Result, Ok, Err, ◌↔◌}
+use Rattle.std.specs.Borrow.{Bor}
+use Rattle.nom_json_run.specs.Json.{Spaced, after_spaces, after_word, begins, first_is, rest}
 use Rattle.nom_json_run.specs.Scans.{BeginsAs, EndsAt, EndsNowhere, FailsAt, FailsFor, SameEnds, Scans, ScansFor}
-use Rattle.nom_json_run.specs.Walk.{BeginsWord}
-use Rattle.nom_json_run.specs.Walk.BeginsWord.{as_null, as_true, as_false}
+use Rattle.nom_json_run.specs.Parts.{BeginsWord, IsPart}
+use Rattle.nom_json_run.specs.Parts.BeginsWord.{as_null, as_true, as_false}
 use Rattle.nom_json_run.specs.declared.bracket.Fault.{Fault}
+use Rattle.nom_json_run.specs.declared.bracket.Missing as Part
+use Rattle.nom_json_run.specs.declared.bracket.Missing.TheVariants as Missing
 
 pub both : {A B C : Type 0} → (A ↔ B) → (B ↔ C) → A ↔ C
 both f g = (λ a. g.0 (f.0 a), λ c. f.1 (g.1 c))
@@ -64,6 +67,7 @@ pub for_all : (bytes : List ℕ) (Fails : List ℕ → Type 0) (start : ℕ) (fa
 for_all bytes Fails start fault h = record {
   begins = h.begins;
   within = h.within;
+  part = h.part;
   here = h.fails bytes refl;
   fails = λ bs s m. h.fails bs s;
 }
@@ -73,10 +77,11 @@ pub scans_for_all : (bytes : List ℕ) (Ends : List ℕ → List ℕ → Type 0)
 scans_for_all bytes Ends start (Ok n) h = h
 scans_for_all bytes Ends start (Err f) h = for_all bytes (λ i. EndsNowhere (Ends i)) start f h
 
--- another fault at the same place
-pub same_place : (bytes : List ℕ) (Fails : List ℕ → Type 0) (start : ℕ) (fault other : Fault) → other.at ≡ fault.at → FailsAt bytes Fails start fault →
-    FailsFor bytes Fails start other
-same_place bytes Fails start fault other e h = for_all bytes Fails start other (record {
+-- another part is missing at the same place
+pub same_place : (bytes : List ℕ) (Fails : List ℕ → Type 0) (start : ℕ) (fault other : Fault) → other.at ≡ fault.at →
+    IsPart other.missing (drop other.at bytes) → FailsAt bytes Fails start fault → FailsFor bytes Fails start other
+same_place bytes Fails start fault other e part h = for_all bytes Fails start other (record {
+  part = part;
   begins = subst (λ n. start ≤ n) (sym e) h.begins;
   within = subst (λ n. n ≤ length bytes) (sym e) h.within;
   fails = λ bs s. h.fails bs (subst (λ n. BeginsAs bytes n bs) e s);
@@ -88,17 +93,19 @@ pub fails_map : (bytes : List ℕ) (Fails Others : List ℕ → Type 0) (i j : �
 fails_map bytes Fails Others i j fault le other h = record {
   begins = omega (arith, h.begins, le);
   within = h.within;
+  part = h.part;
   fails = λ bs s. other bs (before bytes bs j fault.at h.begins s) (h.fails bs s);
 }
 
-pub fails_for_map : (bytes : List ℕ) (Fails Others : List ℕ → Type 0) (i j : ℕ) (fault : Fault) → i ≤ j →
-    ((bs : List ℕ) → BeginsAs bytes j bs → Fails (drop j bs) → Others (drop i bs)) → FailsFor bytes Fails j fault → FailsFor bytes Others i fault
-fails_for_map bytes Fails Others i j fault le other h = record {
-  begins = omega (arith, h.begins, le);
-  within = h.within;
-  here = other bytes refl h.here;
-  fails = λ bs s m. other bs (before bytes bs j fault.at h.begins s) (h.fails bs s m);
-}
+-- a word is missing
+pub word_missing : (bytes : List ℕ) (Fails : List ℕ → Type 0) (at : ℕ) (word : Bor (List ℕ)) (fault : Fault) → at ≤ length bytes → fault.at ≡ at →
+    fault.missing ≡ Missing.Word word → BeginsWord word.now (drop at bytes) → after_word word.now (drop at bytes) ≡ None →
+    ((bs : List ℕ) → BeginsAs bytes at bs → after_word word.now (drop at bs) ≡ None → Fails (drop at bs)) → FailsFor bytes Fails at fault
+word_missing bytes Fails at word fault within there missing first none fails =
+    let make : ℕ → Part.Missing → Fault = λ n m. record { at = n; missing = m } in
+    let same : make at (Missing.Word word) ≡ fault = ap (λ n. make n (Missing.Word word)) (sym there) ∙ ap (make fault.at) (sym missing) in
+    let here : at ≤ at = omega arith in
+    subst (FailsFor bytes Fails at) same (record { begins = here; within = within; part = (first, none); here = fails bytes refl none; fails = fails })
 
 -- a part that ends where another does, from a place on that isn't behind it
 pub ends_map : (bytes : List ℕ) (Part Whole : List ℕ → List ℕ → Type 0) (i j n : ℕ) → i ≤ j →

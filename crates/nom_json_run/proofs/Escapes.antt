@@ -14,6 +14,7 @@ use Rattle.nom_repeat.specs.Repeat.{OnReply, Pieces, Replies, Turn, TurnsBy}
 use Rattle.nom_repeat.specs.Repeat.Turn.{Ends, Takes}
 use Rattle.nom_json_run.specs.Grammars.{Bytes}
 use Rattle.nom_json_run.specs.Json.{JsonCharacters, begins, first_is, is_plain_code}
+use Rattle.nom_json_run.proofs.Blames.{Blaming, IsBlamed, Where}
 use Rattle.nom_json_run.proofs.Decisions.{Decides, Finds, led}
 use Rattle.nom_json_run.proofs.Reading.{By, Led, Placed, Reads, OutcomeIs, later_placed, moved, rest_from}
 use Rattle.nom_json_run.proofs.Strings.{Passes, after_piece, passes_finds, passes_more, passes_none, piece_lacks, piece_past}
@@ -130,3 +131,21 @@ module _ {V : Type 0} {m : Meaning Bytes V (Error Bytes)} (r : Reads (Led (λ b.
         let x = reached (TurnsBy None (item_turn (any_limits Kind.Many0Count)) (λ _. m.answers mode.streaming)) _ 0 i h.trees h.taken h.pieces in
         elim x.2 [ inl y ↦ no_memory (mode.errors ≡ true) (mode.outputs ≡ true) x.0 y.reply y.fact | inr y ↦ r.frugal _ x.1 y.1 ];
   }
+
+  -- of the errors of the pieces, those of failures alone are told
+  module _ (b : Blaming (Where (λ b. b == 92) true) m) where
+    failed_told : (i j : Bytes) (k : ℕ) (e : Error Bytes) (x : Option (Outcome V)) → Replies None (λ _. m.answers false) k j x →
+        ItemBlames plain_errors (any_limits Kind.Many0Count) i j x (m.blames false j) e → IsBlamed e
+    failed_told i j k e (Some (Accept zero v)) h x = absurd (omega (arith, (r.outcomes j (Accept 0 v) h.1).0))
+    failed_told i j k e (Some (Accept (suc n) v)) h x = absurd x
+    failed_told i j k e (Some Refuse) h x = absurd x
+    failed_told i j k e (Some (Stop (Fails c))) h x = b.told j (Stop (Fails c)) e h.1 tt x (r.outcomes j (Stop (Fails c)) h.1)
+    failed_told i j k e (Some (Stop (Needs n))) h x = absurd x
+    failed_told i j k e None h x = absurd x
+
+    pub many_blames : Blaming (λ i e. IsBlamed e) (items_meaning bytes_model plain_errors (any_limits Kind.Many0Count) ⊥ m)
+    many_blames = record {
+      told = λ i o e h t x.
+          let f = ended (Blamed i e) 0 i x.trees x.taken x.pieces in
+          failed_told i f.at f.count e f.fact.reply f.fact.replied f.fact.fact;
+    }

@@ -16,6 +16,7 @@ use Rattle.nom_traits.specs.Classes.{is_dec_digit_code, is_hex_digit_code, is_li
 use Rattle.nom_traits.specs.declared.character.AsciiClass.TheVariants as Class
 use Rattle.nom_internal.specs.Prelude.{Accept, ComparesBytes, Grammar, IsSliced, Model, Outcome, Passes, Refuse, Slice, Stop, bytes_model, labelled}
 use Rattle.nom_internal.specs.Prelude.{with_outputs}
+use Rattle.nom_internal.specs.TupleWords.{tuple_of_four}
 use Rattle.nom_internal.specs.Word.{word}
 use Rattle.nom_internal.specs.Words.{pair_of, pair_worded, tuple_of, tuple_worded}
 use Rattle.nom_bytes.specs.Tests.{passing_worded}
@@ -32,7 +33,7 @@ use Rattle.nom_sequence.specs.Words.{preceded_of, preceded_worded, terminated_of
 use Rattle.nom_json_run.specs.Grammars.{Bytes, BytesWord, char_of, digits_of, escape_of, exponent_of, hex_of, number_of, one_of, plain_of, spaces_of}
 use Rattle.nom_json_run.specs.Grammars.{string_of, tag_of}
 use Rattle.nom_json_run.specs.Json.{JsonCharacters, after_all, after_byte, after_digits1, after_escape, after_exponent, after_fraction}
-use Rattle.nom_json_run.specs.Json.{after_number, after_unsigned, and_then, first_is, is_plain_code, rest}
+use Rattle.nom_json_run.specs.Json.{after_hex, after_number, after_unsigned, and_then, first_is, is_plain_code, rest}
 use Rattle.nom_json_run.proofs.Decisions.{Decides, Finds, choose, decides_as, led}
 use Rattle.nom_json_run.proofs.Escapes.{Escaped, many_reads}
 use Rattle.nom_json_run.proofs.Reading.{After, Any, By, Led, Part, Reads, Sure, built_reads, closed_reads, cut_reads, either_reads, like_reads, opt_reads}
@@ -63,20 +64,20 @@ module _ {O : Type 0} {k : ℕ} {g : BytesWord O} where
   led_any : {test : ℕ → Bool} {next : After} → ReadsBy (Led test next) k g → ReadsBy (Any (led test next)) k g
   led_any {test} {next} a = record { meant = reads_as a.meant (Any (led test next)) k (omega arith) (λ t xs n h. h) (λ s xs e. tt) }
 
-  cut_by : {f : After} → ReadsBy (Any f) k g → ReadsBy (Sure f) k (cut_of g)
+  pub cut_by : {f : After} → ReadsBy (Any f) k g → ReadsBy (Sure f) k (cut_of g)
   cut_by a = by (cut_worded refl) (cut_reads a.meant)
 
-  opt_by : {test : ℕ → Bool} {next : After} → ReadsBy (Led test next) k g → ReadsBy (Sure (choose test next Some)) 0 (opt_of g)
+  pub opt_by : {test : ℕ → Bool} {next : After} → ReadsBy (Led test next) k g → ReadsBy (Sure (choose test next Some)) 0 (opt_of g)
   opt_by a = by (opt_worded refl) (opt_reads a.meant)
 
-  tuple_by : {F : Type 0} (pairs : F → O) {p : Part} → ReadsBy p k g → ReadsBy p k (tuple_of pairs g)
+  pub tuple_by : {F : Type 0} (pairs : F → O) {p : Part} → ReadsBy p k g → ReadsBy p k (tuple_of pairs g)
   tuple_by pairs a = by (tuple_worded pairs refl) (built_reads a.meant)
 
   recognize_by : {p : Part} → ReadsBy p k g → ReadsBy p k (recognize_of bytes_model g)
   recognize_by a = by (recognize_worded bytes_model refl)
       (like_reads a.meant (λ _. false) (λ i. Passes (λ n u o. IsSliced bytes_model i n o)) (sliced_is bytes_model))
 
-  alt_by : {l : ℕ} {h : BytesWord O} {test : ℕ → Bool} {next other : After} → ReadsBy (Led test next) k g → ReadsBy (Any other) l h → l ≤ k →
+  pub alt_by : {l : ℕ} {h : BytesWord O} {test : ℕ → Bool} {next other : After} → ReadsBy (Led test next) k g → ReadsBy (Any other) l h → l ≤ k →
       ReadsBy (Any (choose test next other)) l (alt_of plain_errors (or_of plain_errors g h))
   alt_by a b le = by (alt_worded plain_errors (or_worded plain_errors refl refl)) (closed_reads (either_reads
       (like_reads a.meant (λ b. b) (λ i a o. o ≡ labelled inl a) (λ i a o e. (inl, e)))
@@ -87,17 +88,17 @@ module _ {O P : Type 0} {k l : ℕ} {g : BytesWord O} {h : BytesWord P} {y : Aft
   pair_any a b = by (pair_worded bytes_model refl refl) (sequence_reads (λ u v. (u, v)) (λ o. o) (λ o. o) a.meant b.meant)
 
   module _ {test : ℕ → Bool} {next : After} (a : ReadsBy (Led test next) k g) (b : ReadsBy (Sure y) l h) where
-    pair_by : ReadsBy (Led test (λ bs. and_then (next bs) y)) (k + l) (pair_of bytes_model g h)
+    pub pair_by : ReadsBy (Led test (λ bs. and_then (next bs) y)) (k + l) (pair_of bytes_model g h)
     pair_by = by (pair_worded bytes_model refl refl) (sequence_leads (λ u v. (u, v)) (λ o. o) (λ o. o) a.meant b.meant)
 
-    preceded_by : ReadsBy (Led test (λ bs. and_then (next bs) y)) (k + l) (preceded_of bytes_model g h)
+    pub preceded_by : ReadsBy (Led test (λ bs. and_then (next bs) y)) (k + l) (preceded_of bytes_model g h)
     preceded_by = by (preceded_worded bytes_model refl refl) (sequence_leads (λ u v. v) (with_outputs false) (λ o. o) a.meant b.meant)
 
-    terminated_by : ReadsBy (Led test (λ bs. and_then (next bs) y)) (k + l) (terminated_of bytes_model g h)
+    pub terminated_by : ReadsBy (Led test (λ bs. and_then (next bs) y)) (k + l) (terminated_of bytes_model g h)
     terminated_by = by (terminated_worded bytes_model refl refl) (sequence_leads (λ u v. u) (λ o. o) (with_outputs false) a.meant b.meant)
 
 -- bytes, runs and words
-char_by : (c : ℕ) → ReadsBy (Led (λ b. b == c) Some) 1 (char_of c)
+pub char_by : (c : ℕ) → ReadsBy (Led (λ b. b == c) Some) 1 (char_of c)
 char_by c = by (char_worded bytes_model plain_errors (λ x. x) c)
     (head_reads (Unit {0}) (Unit {0}) (λ x b. b ≡ (x == c)) (λ b. b == c) (λ x b e. e) (Some (len_utf8 c)) (OfChar c))
 
@@ -112,21 +113,21 @@ listed_is set x b e = same_truth b (is_listed set x) (λ t. containing set x (e.
 pub ascii : (set : List ℕ) → list_all (λ b. nat_lt b 128) set ≡ true → IsAscii set
 ascii set h = IsAscii-from_all set (λ k d l. ltb-true (slice_index_or set k d) 128 (AllPass-from_list_all (λ b. nat_lt b 128) set h k d l))
 
-one_of_by : (set : List ℕ) → list_all (λ b. nat_lt b 128) set ≡ true → ReadsBy (Led (is_listed set) Some) 1 (one_of set)
+pub one_of_by : (set : List ℕ) → list_all (λ b. nat_lt b 128) set ≡ true → ReadsBy (Led (is_listed set) Some) 1 (one_of set)
 one_of_by set h = subst (λ xs. ReadsBy (Led (is_listed xs) Some) 1 (one_of set)) (chars-IsAscii set (ascii set h))
     (by (satisfy_worded bytes_model plain_errors (λ x. x) Kind.OneOf (char_within_worded (λ x. x) (Contains (chars set))))
     (head_reads (Unit {0}) (Unit {0}) (λ x b. IsTrue b ↔ Contains (chars set) x) (is_listed (chars set)) (listed_is (chars set)) None (OfKind Kind.OneOf)))
 
-hex_by : ReadsBy (Led is_hex_digit_code Some) 1 hex_of
+pub hex_by : ReadsBy (Led is_hex_digit_code Some) 1 hex_of
 hex_by = by (satisfy_worded bytes_model plain_errors (λ x. x) Kind.Satisfy
     (char_passing_worded (λ x. x) (λ b. b < 256) (λ _. Unit {0}) (λ b t. t ≡ is_hex_digit_code b)))
     (head_reads _ _ (λ b t. t ≡ is_hex_digit_code b) is_hex_digit_code (λ x b e. e) None (OfKind Kind.Satisfy))
 
-plain_by : ReadsBy (Sure after_plain) 0 plain_of
+pub plain_by : ReadsBy (Sure after_plain) 0 plain_of
 plain_by = by (run_worded bytes_model (passing_worded (λ b. b < 256) (λ _. Unit {0}) (λ b t. t ≡ is_plain_code b)))
     (run0_reads is_plain_code (λ b t. t ≡ is_plain_code b) (λ x b e. e) _ _ (λ _ _. ⊥) (λ i e x. absurd x))
 
-digits_by : ReadsBy (Led is_dec_digit_code (λ bs. Some (after_all is_dec_digit_code bs))) 1 digits_of
+pub digits_by : ReadsBy (Led is_dec_digit_code (λ bs. Some (after_all is_dec_digit_code bs))) 1 digits_of
 digits_by = by (class_worded bytes_model plain_errors (λ x. x) Class.Digit (Some Kind.Digit))
     (run1_reads is_dec_digit_code (IsOf (λ x. x) Class.Digit) (λ x b e. sym e) (Unit {0}) (Unit {0}) (λ i. plain_errors.of_kind i Kind.Digit)
     (λ i e x. ap (λ y. y.input) x))
@@ -138,11 +139,11 @@ spaces_read = by (class_worded bytes_model plain_errors (λ x. x) Class.MultiSpa
 pub word_reads : (w : List ℕ) → ReadsBy (By (Worded w)) (length w) (tag_of w)
 word_reads w = by (tag_worded bytes_model plain_errors length ComparesBytes w) (tag_reads w)
 
-letter_by : (c : ℕ) → ReadsBy (Led (λ b. b == c) Some) 1 (tag_of (c ∷ []))
+pub letter_by : (c : ℕ) → ReadsBy (Led (λ b. b == c) Some) 1 (tag_of (c ∷ []))
 letter_by c = by (tag_worded bytes_model plain_errors length ComparesBytes (c ∷ [])) (letter_reads c)
 
 -- numbers
-cut_digits : ReadsBy (Sure after_digits1) 1 (cut_of digits_of)
+pub cut_digits : ReadsBy (Sure after_digits1) 1 (cut_of digits_of)
 cut_digits = cut_by (led_any digits_by)
 
 one_then : (t : Bool) (xs ys : List ℕ) (f : After) → and_then (if t then Some xs else Some ys) f ≡ f (if t then xs else ys)
@@ -152,7 +153,7 @@ one_then false xs ys f = refl
 abbrev is_sign : ℕ → Bool
 is_sign = is_listed (codes "+-")
 
-exponent_reads : ReadsBy (Any after_exponent) 0 exponent_of
+pub exponent_reads : ReadsBy (Any after_exponent) 0 exponent_of
 exponent_reads = as_any (λ bs. ap (λ o. if first_is (is_listed (codes "eE")) bs then o else Some bs)
     (sym (one_then (first_is is_sign (rest bs)) (rest (rest bs)) (rest bs) after_digits1)))
     (sure_any (opt_by (preceded_by (pair_by (one_of_by (codes "eE") refl) (opt_by (one_of_by (codes "+-") refl))) cut_digits)))
@@ -170,20 +171,30 @@ and_some (Some bs) = refl
 hex_any : ReadsBy (Any (after_byte is_hex_digit_code)) 1 hex_of
 hex_any = led_any hex_by
 
+hexes_any : ReadsBy (Any (after_hex 4)) 4 (tuple_of_four bytes_model hex_of hex_of hex_of hex_of)
+hexes_any =
+    tuple_by _ (pair_any hex_any (pair_any hex_any (pair_any hex_any (as_any (λ bs. and_some (after_byte is_hex_digit_code bs)) hex_any))))
+
+pub long_by : ReadsBy (Led (λ b. b == 117) (after_hex 4)) 5 (terminated_of bytes_model (char_of 117)
+    (cut_of (tuple_of_four bytes_model hex_of hex_of hex_of hex_of)))
+long_by = terminated_by (char_by 117) (cut_by hexes_any)
+
 escape_reads : ReadsBy (Led (λ b. b == 92) after_escape) 2 escape_of
-escape_reads = preceded_by (char_by 92) (cut_by (alt_by (terminated_by (char_by 117) (cut_by (tuple_by _
-    (pair_any hex_any (pair_any hex_any (pair_any hex_any (as_any (λ bs. and_some (after_byte is_hex_digit_code bs)) hex_any)))))))
-    (led_any (one_of_by (codes "\"\\/bfnrt") refl)) (omega arith)))
+escape_reads = preceded_by (char_by 92) (cut_by (alt_by long_by (led_any (one_of_by (codes "\"\\/bfnrt") refl)) (omega arith)))
+
+pub piece_by : ReadsBy (Led (λ b. b == 92) after_piece) 1 (terminated_of bytes_model escape_of plain_of)
+piece_by = record {
+  meant = reads_as (terminated_by escape_reads plain_by).meant (Led (λ b. b == 92) after_piece) 1 (omega arith) (λ t xs n h. h) (λ s xs h. h);
+}
 
 pub dropped_is : {V : Type 0} (a o : Outcome V) → Passes (λ n v o. o ≡ Accept n v) a o → (f : V → V) × (o ≡ labelled f a)
 dropped_is (Accept n v) o e = (λ u. u, e)
 dropped_is Refuse o e = (λ u. u, e)
 dropped_is (Stop why) o e = (λ u. u, e)
 
-escapes_read : ReadsBy (By Escaped) 0 (many0_count_of bytes_model plain_errors (terminated_of bytes_model escape_of plain_of))
-escapes_read = by (many0_count_worded bytes_model plain_errors refl) (many_reads (like_reads
-    (reads_as (terminated_by escape_reads plain_by).meant (Led (λ b. b == 92) after_piece) 1 (omega arith) (λ t xs n h. h) (λ s xs h. h))
-    (λ _. false) (λ i. Passes (λ n v o. o ≡ Accept n v)) (λ i. dropped_is)))
+pub escapes_read : ReadsBy (By Escaped) 0 (many0_count_of bytes_model plain_errors (terminated_of bytes_model escape_of plain_of))
+escapes_read = by (many0_count_worded bytes_model plain_errors refl)
+    (many_reads (like_reads piece_by.meant (λ _. false) (λ i. Passes (λ n v o. o ≡ Accept n v)) (λ i. dropped_is)))
 
 -- escapes, and the quote after them, where no plain character stands
 abbrev Closed : Bool → List ℕ → ℕ → Type 0

@@ -1,8 +1,11 @@
 pub mod Alike
+pub mod Blamed
+pub mod Blames
 pub mod Decisions
 pub mod Escapes
 pub mod Grammars
 pub mod Listed
+pub mod Numbers
 pub mod Reading
 pub mod Runs
 pub mod Scanned

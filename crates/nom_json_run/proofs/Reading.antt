@@ -210,13 +210,14 @@ module _ {P : Type 0} {test : ℕ → Bool} {next : After} {k : ℕ} {m : Meanin
       (λ i a o e. subst (Turned (Led test next) (Sure (choose test next Some)) k 0 i.now a) (sym e) (opt_turned i.now a)) (λ i a e b. b) (λ mode i a x. x)
 
 -- a choice, closed: the error of its refusal stays
-module _ {P : Type 0} {m : Meaning Bytes P (Error Bytes)} {p : Part} {k : ℕ} (r : Reads p k m) where
-  closed_blamed : (i : Bytes) (a : Outcome P) (e : Error Bytes) → Closed (λ other e. e ≡ other) a (m.blames false i) e → m.blames false i e
-  closed_blamed i (Accept n u) e x = absurd x
-  closed_blamed i Refuse e x = subst (m.blames false i) (sym x.2) x.1
-  closed_blamed i (Stop (Fails c)) e x = x
-  closed_blamed i (Stop (Needs n)) e x = absurd x
+pub closed_blamed : {P : Type 0} (m : Meaning Bytes P (Error Bytes)) (i : Bytes) (a : Outcome P) (e : Error Bytes) →
+    Closed (λ other e. e ≡ other) a (m.blames false i) e → m.blames false i e
+closed_blamed m i (Accept n u) e x = absurd x
+closed_blamed m i Refuse e x = subst (m.blames false i) (sym x.2) x.1
+closed_blamed m i (Stop (Fails c)) e x = x
+closed_blamed m i (Stop (Needs n)) e x = absurd x
 
+module _ {P : Type 0} {m : Meaning Bytes P (Error Bytes)} {p : Part} {k : ℕ} (r : Reads p k m) where
   closed_asks : (Asked : Type 0) (a : Outcome P) → OnRefused (Asked × ⊥) a → ⊥
   closed_asks Asked (Accept n u) x = x
   closed_asks Asked Refuse x = x.1
@@ -224,11 +225,17 @@ module _ {P : Type 0} {m : Meaning Bytes P (Error Bytes)} {p : Part} {k : ℕ} (
 
   pub closed_reads : Reads p k (closed_meaning (λ _ other e. e ≡ other) ⊥ m)
   closed_reads = case_reads r (closed_case (λ _ other e. e ≡ other) ⊥) p k (λ i j e. e) refl
-      (λ i a o e. subst (Turned p p k k i.now a) (sym e) (λ h. (h, λ t. (t, λ n x. x)))) closed_blamed (λ mode i. closed_asks (mode.errors ≡ true))
+      (λ i a o e. subst (Turned p p k k i.now a) (sym e) (λ h. (h, λ t. (t, λ n x. x)))) (closed_blamed m) (λ mode i. closed_asks (mode.errors ≡ true))
 
   -- a part whose outputs are built
   pub built_reads : Reads p k (built_meaning m)
   built_reads = record { outcomes = r.outcomes; places = r.places; frugal = λ mode i h. r.frugal (with_outputs true mode) i h }
+
+pub failure_is : {P : Type 0} (o : Outcome P) → IsFailure o → (c : Cause) × (o ≡ Stop (Fails c))
+failure_is (Accept n u) h = absurd h
+failure_is Refuse h = absurd h
+failure_is (Stop (Fails c)) h = (c, refl)
+failure_is (Stop (Needs n)) h = absurd h
 
 -- the first of two parts that isn't refused, where the first byte decides which
 module _ {P : Type 0} {test : ℕ → Bool} {next other : After} {k l : ℕ} {a b : Meaning Bytes P (Error Bytes)} (ra : Reads (Led test next) k a)
@@ -246,12 +253,6 @@ module _ {P : Type 0} {test : ℕ → Bool} {next other : After} {k l : ℕ} {a 
   either_outcome i o Refuse h h' = refused_outcome i.now o (ra.outcomes i Refuse h) (rb.outcomes i o h')
   either_outcome i o (Stop (Fails c)) h e = subst (OutcomeIs (Any (choose test next other)) l i.now) (sym e) tt
   either_outcome i o (Stop (Needs n)) h e = absurd (ra.outcomes i (Stop (Needs n)) h)
-
-  failure_is : (o : Outcome P) → IsFailure o → (c : Cause) × (o ≡ Stop (Fails c))
-  failure_is (Accept n u) h = absurd h
-  failure_is Refuse h = absurd h
-  failure_is (Stop (Fails c)) h = (c, refl)
-  failure_is (Stop (Needs n)) h = absurd h
 
   other_placed : (i : Bytes) (o : Outcome P) (e : Error Bytes) → a.answers false i Refuse → b.answers false i o → IsFault o → b.blames false i e →
       Placed (Decides (choose test next other) false) i.now e.input.now

@@ -1,6 +1,6 @@
 -- Answers, by the places in the bytes of which a part was read.
-use Rattle.std.specs.Prelude.{◌≡◌, ℕ, ◌+◌, ◌<◌, ◌≤◌, Bool, true, false, List, Result, Ok, Err, IfOk, length, drop}
-use Rattle.std.proofs.Common.{arith, refl, sym, ap, subst, length-drop}
+use Rattle.std.specs.Prelude.{◌≡◌, ℕ, ◌+◌, ◌<◌, ◌≤◌, Bool, true, false, List, Result, Ok, Err, IfErr, IfOk, length, drop}
+use Rattle.std.proofs.Common.{arith, refl, sym, ◌∙◌, ap, subst, length-drop}
 use Rattle.std.proofs.lemmas.List.{drop-drop}
 use Rattle.nom_error.specs.Answers.{IResult}
 use Rattle.nom_error.specs.declared.answer.Err.TheVariants as Answer
@@ -8,9 +8,12 @@ use Rattle.nom_error.specs.declared.value.Error.{Error}
 use Rattle.nom_internal.specs.Prelude.{Accept, Fails, Needs, Outcome, ParseRanOut, Parsed, ParsesOutcome, Refuse, Stop, bytes_model, modes}
 use Rattle.nom_internal.specs.Word.{parses_by}
 use Rattle.nom_json_run.specs.Grammars.{Bytes, BytesWord, Parses}
+use Rattle.nom_json_run.specs.Parts.{IsPart, missing_of}
 use Rattle.nom_json_run.specs.Scans.{BeginsAs, EndsAt, FailsAt, EndsNowhere, IsPlaced, IsStop, Scans}
 use Rattle.nom_json_run.specs.declared.bracket.Fault.{Fault}
 use Rattle.nom_json_run.proofs.Alike.{later}
+use Rattle.nom_json_run.proofs.Blamed.{ToldBy}
+use Rattle.nom_json_run.proofs.Blames.{IsBlamed}
 use Rattle.nom_json_run.proofs.Decisions.{EndsIf, Finds}
 use Rattle.nom_json_run.proofs.Reading.{Fact, Part, Placed, rest_from}
 use Rattle.nom_json_run.proofs.Grammars.{ReadsBy}
@@ -72,6 +75,48 @@ module _ {p : Part} {k : ℕ} {h : BytesWord Bytes} (reads : ReadsBy p k h) (byt
     stopped_at (Err (Answer.Incomplete n)) x t s = absurd t
     stopped_at (Err Answer.OutOfMemory) x t s = absurd t
 
+    -- what is missing there, by the errors of the word
+    module _ (told : ToldBy (λ i e. IsBlamed e) h) where
+      abbrev Told : IResult Bytes Bytes (Error Bytes) → Type 0
+      Told (Ok x) = Unit {0}
+      Told (Err (Answer.Error e)) = IsBlamed e
+      Told (Err (Answer.Failure e)) = IsBlamed e
+      Told (Err (Answer.Incomplete n)) = Unit {0}
+      Told (Err Answer.OutOfMemory) = Unit {0}
+
+      outcome_told : (i : Bytes) (r : IResult Bytes Bytes (Error Bytes)) (o : Outcome h.Tree) → h.grammar.meaning.answers false i o →
+          ParsesOutcome bytes_model h.grammar.IsOutput i (h.grammar.meaning.blames false i) o r → Told r
+      outcome_told i r (Accept n v) a s = subst Told (sym s.4) tt
+      outcome_told i r Refuse a s = subst Told (sym s.2) (told.meant.told i Refuse s.0 a tt s.1)
+      outcome_told i r (Stop (Fails c)) a s = subst Told (sym s.2) (told.meant.told i (Stop (Fails c)) s.0 a tt s.1)
+      outcome_told i r (Stop (Needs n)) a s = absurd (reads.meant.outcomes i (Stop (Needs n)) a)
+
+      answer_told : (i : Bytes) (r : IResult Bytes Bytes (Error Bytes)) → Parses h i r → Told r
+      answer_told i r a = elim (parses_by bytes_model {h = h} {g = h.grammar} refl a) [
+        | ParseRanOut e x ↦ absurd (reads.meant.frugal (modes true true false) i x)
+        | Parsed o x s ↦ outcome_told i r o x s
+      ]
+
+      part_there : (e : Error Bytes) (fault : Fault) (n : ℕ) → e.input.now ≡ drop n (drop start bytes) → fault.at ≡ start + n →
+          fault.missing ≡ missing_of e.code → IsBlamed e → IsPart fault.missing (drop fault.at bytes)
+      part_there e fault n there at missing b =
+          let same : e.input.now ≡ drop fault.at bytes = there ∙ (drop-drop n start bytes ∙ ap (λ k. drop k bytes) (sym at)) in
+          subst (λ m. IsPart m (drop fault.at bytes)) (sym missing) (subst (IsPart (missing_of e.code)) same b)
+
+      part_of : (r : IResult Bytes Bytes (Error Bytes)) (x : Result ℕ Fault) → AnswerIs p k (drop start bytes) r → Told r → IsStop bytes r x →
+          IfErr x (λ f. IsPart f.missing (drop f.at bytes))
+      part_of (Ok y) x t b s = subst (λ z. IfErr z (λ f. IsPart f.missing (drop f.at bytes))) (sym s.1) tt
+      part_of (Err (Answer.Error e)) x t b s = subst (λ z. IfErr z (λ f. IsPart f.missing (drop f.at bytes))) (sym s.1)
+          (part_there e s.0 t.place t.there (same_place false t.place s.0.at e.input.now t.there t.holds s.2) s.3 b)
+      part_of (Err (Answer.Failure e)) x t b s = subst (λ z. IfErr z (λ f. IsPart f.missing (drop f.at bytes))) (sym s.1)
+          (part_there e s.0 t.place t.there (same_place false t.place s.0.at e.input.now t.there t.holds s.2) s.3 b)
+      part_of (Err (Answer.Incomplete n)) x t b s = absurd t
+      part_of (Err Answer.OutOfMemory) x t b s = absurd t
+
+      pub part_missing : (i : Bytes) (r : IResult Bytes Bytes (Error Bytes)) → i.now ≡ drop start bytes → Parses h i r → (x : Result ℕ Fault) →
+          IsStop bytes r x → IfErr x (λ f. IsPart f.missing (drop f.at bytes))
+      part_missing i r from a x s = part_of r x (answer_is i r from a) (answer_told i r a) s
+
     pub stopped : (i : Bytes) (r : IResult Bytes Bytes (Error Bytes)) → i.now ≡ drop start bytes → Parses h i r → (x : Result ℕ Fault) → IsStop bytes r x →
         Stopped p k bytes start x
     stopped i r from a x s = stopped_at r x (answer_is i r from a) s
@@ -89,19 +134,24 @@ module _ (Ends : List ℕ → List ℕ → Type 0) (bytes : List ℕ) (start : �
     ends = λ bs s. ends_later true Ends bs start n (f.ends (drop start bs) (later bytes bs start n s));
   })
 
-  lacking : (n : ℕ) (fault : Fault) → fault.at ≡ start + n → Finds Ends false (drop start bytes) n → FailsAt bytes (λ i. EndsNowhere (Ends i)) start fault
-  lacking n fault e f = record {
+  lacking : (n : ℕ) (fault : Fault) → fault.at ≡ start + n → Finds Ends false (drop start bytes) n → IsPart fault.missing (drop fault.at bytes) →
+      FailsAt bytes (λ i. EndsNowhere (Ends i)) start fault
+  lacking n fault e f part = record {
     begins = omega (arith, e);
     within = omega (arith, e, f.within, length-drop start bytes, le);
+    part = part;
     fails = λ bs s. f.ends (drop start bs) (later bytes bs start n (subst (λ m. BeginsAs bytes m bs) e s));
   }
 
-  module _ {p : Part} {k : ℕ} {h : BytesWord Bytes} (reads : ReadsBy p k h)
+  module _ {p : Part} {k : ℕ} {h : BytesWord Bytes} (reads : ReadsBy p k h) (told : ToldBy (λ i e. IsBlamed e) h)
       (finds : (t : Bool) (xs : List ℕ) (n : ℕ) → Fact p t xs n → Finds Ends t xs n) where
-    scanned : (x : Result ℕ Fault) → Stopped p k bytes start x → Scans bytes Ends start x × (0 < k → IfOk x (λ n. start < n))
-    scanned (Ok stop) s = (found s.0 stop s.2 (finds true (drop start bytes) s.0 s.3), λ some. omega (arith, s.1, s.2, some))
-    scanned (Err fault) s = (lacking s.0 fault s.1 (finds false (drop start bytes) s.0 s.2), λ some. tt)
+    scanned : (x : Result ℕ Fault) → Stopped p k bytes start x → IfErr x (λ f. IsPart f.missing (drop f.at bytes)) →
+        Scans bytes Ends start x × (0 < k → IfOk x (λ n. start < n))
+    scanned (Ok stop) s part = (found s.0 stop s.2 (finds true (drop start bytes) s.0 s.3), λ some. omega (arith, s.1, s.2, some))
+    scanned (Err fault) s part = (lacking s.0 fault s.1 (finds false (drop start bytes) s.0 s.2) part, λ some. tt)
 
     pub scans : (i : Bytes) (r : IResult Bytes Bytes (Error Bytes)) → i.now ≡ drop start bytes → Parses h i r → (x : Result ℕ Fault) → IsStop bytes r x →
         Scans bytes Ends start x × (0 < k → IfOk x (λ n. start < n))
-    scans i r from a x s = scanned x (stopped reads bytes start (λ t xs n f. (finds t xs n f).within) le i r from a x s)
+    scans i r from a x s =
+        let within : (t : Bool) (xs : List ℕ) (n : ℕ) → Fact p t xs n → n ≤ length xs = λ t xs n f. (finds t xs n f).within in
+        scanned x (stopped reads bytes start within le i r from a x s) (part_missing reads bytes start within le told i r from a x s)

@@ -1,15 +1,15 @@
 -- Values, by their first byte.
-use Rattle.std.specs.Prelude.{◌≡◌, ℕ, ◌+◌, ◌<◌, ◌==◌, ◌↔◌, ◌++◌, Bool, true, false, if◌then◌else◌, List, [], ◌∷◌, Option, None, Some}
+use Rattle.std.specs.Prelude.{◌≡◌, ℕ, ◌+◌, ◌<◌, ◌≤◌, ◌==◌, ◌↔◌, ◌++◌, Bool, true, false, if◌then◌else◌, List, [], ◌∷◌, Option, None, Some}
 use Rattle.std.specs.Prelude.{codes, length, drop, refl}
-use Rattle.std.proofs.Common.{arith, sym, ◌∙◌, ap, subst}
+use Rattle.std.proofs.Common.{arith, sym, ◌∙◌, ap, subst, length-drop}
 use Rattle.std.proofs.lemmas.Bool.{eqb-true}
 use Rattle.nom_json_run.specs.Json.{JsonCharacters, JsonInside, JsonItem, JsonString, JsonValue, Leaves, Spaced, after_number, after_spaces, after_word}
 use Rattle.nom_json_run.specs.Json.{begins, closing, first_is, opening, rest}
 use Rattle.nom_json_run.specs.Json.JsonValue.{null, truth, untruth, number, text, brackets}
 use Rattle.nom_json_run.specs.Json.JsonItem.{element, member}
 use Rattle.nom_json_run.specs.Scans.{EndsNowhere, EndsOnly, SameEnds}
-use Rattle.nom_json_run.specs.Walk.{BeginsWord, is_mark}
-use Rattle.nom_json_run.specs.Walk.BeginsWord.{as_null, as_true, as_false}
+use Rattle.nom_json_run.specs.Parts.{BeginsWord, is_mark}
+use Rattle.nom_json_run.specs.Parts.BeginsWord.{as_null, as_true, as_false}
 use Rattle.nom_json_run.specs.declared.bracket.Bracket.{Bracket}
 use Rattle.nom_json_run.specs.declared.bracket.Bracket.TheVariants.{Array, Object}
 use Rattle.nom_json_run.proofs.Alike.{rest_at}
@@ -78,6 +78,15 @@ untruth_from i r (number s) = absurd (no_some s.0 s.1)
 untruth_from i r (text t) = absurd (no_true t.0)
 untruth_from i r (brackets Array j e h s) = absurd (no_true e)
 untruth_from i r (brackets Object j e h s) = absurd (no_true e)
+
+begun_within : (c : ℕ) (bytes : List ℕ) (at : ℕ) → begins c (drop at bytes) ≡ true → at ≤ length bytes
+begun_within c bytes at b = omega (arith, ap length (head_is c (drop at bytes) b), length-drop at bytes)
+
+-- a word begins within the bytes
+pub named_within : (w bytes : List ℕ) (at : ℕ) → BeginsWord w (drop at bytes) → at ≤ length bytes
+named_within w bytes at (as_null e b) = begun_within 110 bytes at b
+named_within w bytes at (as_true e b) = begun_within 116 bytes at b
+named_within w bytes at (as_false e b) = begun_within 102 bytes at b
 
 pub word_same : (w i : List ℕ) → BeginsWord w i → SameEnds (JsonValue i) (Spaced (Leaves (after_word w)) i)
 word_same w i (as_null e b) r = (

@@ -3,7 +3,7 @@ use Rattle.std.proofs.Common.{arith, ◌≡◌, ℕ, zero, suc, ◌-◌, ◌<◌
 use Rattle.std.proofs.Common.{◌∙◌, ap, subst, sym, inl, inr}
 use Rattle.std.proofs.lemmas.List.{length-drop}
 use Rattle.std.proofs.Math.Seq.{take-length}
-use Rattle.std.specs.Prelude.{◌⊎◌, ◌||◌, MatchResult, slice_index_or}
+use Rattle.std.specs.Prelude.{◌⊎◌, ◌||◌, if◌then◌else◌, MatchResult, slice_index_or}
 use Rattle.std.specs.Borrow.{Bor}
 use Rattle.nom_report.specs.declared.value.Report.{Report}
 use Rattle.nom_report.specs.Around.{around}
@@ -15,8 +15,8 @@ use Rattle.nom_json_run.specs.declared.bracket.Bracket.{Bracket}
 use Rattle.nom_json_run.specs.declared.bracket.Bracket.TheVariants.{Array, Object}
 use Rattle.nom_json_run.specs.declared.bracket.Fault.{Fault}
 use Rattle.nom_json_run.specs.declared.bracket.Missing as Part
-use Rattle.nom_json_run.specs.Json.{closing}
-use Rattle.nom_json_run.specs.Report.{IsWanted, JoinsOf, TellsFault, Wanting}
+use Rattle.nom_json_run.specs.Json.{closing, opening}
+use Rattle.nom_json_run.specs.Report.{IsWanted, JoinsOf, TellsFault, Wanting, before_is, or_closing}
 
 abbrev Place : Type 0
 Place = Bor (List ℕ)
@@ -92,16 +92,21 @@ joins_of x y a b p q (Err e) f = tt
 
 -- a fault is told
 pub wanted_there : {E : Type 0} (bytes : List ℕ) (fault : Fault) (missing : Part.Missing) (ws : List Wanted) (place : Place) →
-    fault.missing ≡ missing → IsWanted missing ws → (r : Result (Report Place) E) → IfOk r (Wanting place ws) → place.now ≡ drop fault.at bytes →
-    IfOk r (TellsFault bytes fault)
+    fault.missing ≡ missing → IsWanted (take fault.at bytes) missing ws → (r : Result (Report Place) E) → IfOk r (Wanting place ws) →
+    place.now ≡ drop fault.at bytes → IfOk r (TellsFault bytes fault)
 wanted_there bytes fault missing ws place m i (Ok x) w e = record {
   wanted = ws;
-  is_wanted = subst (λ z. IsWanted z ws) (sym m) i;
+  is_wanted = subst (λ z. IsWanted (take fault.at bytes) z ws) (sym m) i;
   place = place;
   place_is = e;
   wants = w;
 }
 wanted_there bytes fault missing ws place m i (Err x) w e = tt
+
+-- the closing bracket is wanted where the opening one stands before
+pub closing_wanted : (o : Bracket) (before : List ℕ) (wanted : Wanted) (t : Bool) → before_is (opening o) before ≡ t →
+    wanted ∷ (if t then WantedChar (closing o) ∷ [] else []) ≡ or_closing before o wanted
+closing_wanted o before wanted t e = ap (λ u. wanted ∷ (if u then WantedChar (closing o) ∷ [] else [])) (sym e)
 
 -- a closing bracket is no comma
 abbrev char_of : Wanted → ℕ

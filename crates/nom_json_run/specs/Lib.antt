@@ -1,6 +1,8 @@
+pub mod Asked
 pub mod Grammars
 pub mod Json
 pub mod JsonLines
+pub mod Parts
 pub mod Report
 pub mod Scans
 pub mod Tokens

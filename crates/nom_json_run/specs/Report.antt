@@ -1,5 +1,6 @@
 -- The report on a file.
-use Rattle.std.specs.Prelude.{◌≡◌, ℕ, ◌-◌, ◌^◌, ◌≤◌, ◌⊎◌, false, List, [], ◌∷◌, length, drop, min, codes, IsUtf8, Result, Ok}
+use Rattle.std.specs.Prelude.{◌≡◌, ℕ, ◌-◌, ◌^◌, ◌≤◌, ◌⊎◌, Bool, false, if◌then◌else◌, List, [], ◌∷◌, length, take, drop, reverse, min, codes, IsUtf8}
+use Rattle.std.specs.Prelude.{Result, Ok}
 use Rattle.std.specs.Borrow.{Bor}
 use Rattle.std.specs.Str.Lossy.{utf8_valid_len}
 use Rattle.nom_report.specs.declared.value.Report.{Report}
@@ -10,10 +11,12 @@ use Rattle.nom_report.specs.Left.{slice_place}
 use Rattle.nom_report.specs.Rendered.{IsRendered}
 use Rattle.nom_report.specs.Reports.{IsFurthest}
 use Rattle.nom_report.specs.Wanted.{Wanted, WantedChar, WantedLabel}
+use Rattle.nom_json_run.specs.declared.bracket.Bracket.{Bracket}
+use Rattle.nom_json_run.specs.declared.bracket.Bracket.TheVariants.{Array, Object}
 use Rattle.nom_json_run.specs.declared.bracket.Fault.{Fault}
 use Rattle.nom_json_run.specs.declared.bracket.Missing as Part
 use Rattle.nom_json_run.specs.declared.bracket.Missing.TheVariants as Missing
-use Rattle.nom_json_run.specs.Json.{IsJson, closing}
+use Rattle.nom_json_run.specs.Json.{IsJson, after_spaces, begins, closing, opening}
 use Rattle.nom_json_run.specs.Walk.{IsJsonFault}
 
 -- what is wanted at a place, in this order, and nothing else, in no context
@@ -28,23 +31,31 @@ abbrev pub JoinsOf : {E : Type 0} (first second : Result (Report (Bor (List ℕ)
 JoinsOf first second e =
     (a b : Report (Bor (List ℕ))) × (first ≡ Ok a) × (second ≡ Ok b) × IsFurthest slice_place a b e
 
--- What would have been accepted where a part is missing. Where the first item of brackets is missing, they may be closed too.
-abbrev pub IsWanted : Part.Missing → List Wanted → Type 0
-IsWanted Missing.Value ws = (ws ≡ WantedLabel (codes "a value") ∷ []) ⊎ (ws ≡ WantedLabel (codes "a value") ∷ WantedChar 93 ∷ [])
-IsWanted (Missing.Word word) ws = ws ≡ WantedLabel word.now ∷ []
-IsWanted Missing.Digit ws = ws ≡ WantedLabel (codes "a digit") ∷ []
-IsWanted Missing.Character ws = ws ≡ WantedLabel (codes "a character") ∷ WantedChar 34 ∷ []
-IsWanted Missing.Escape ws = ws ≡ WantedLabel (codes "the letter of an escape") ∷ []
-IsWanted Missing.Hex ws = ws ≡ WantedLabel (codes "a digit in base 16") ∷ []
-IsWanted Missing.Name ws = (ws ≡ WantedLabel (codes "a name in quotes") ∷ []) ⊎ (ws ≡ WantedLabel (codes "a name in quotes") ∷ WantedChar 125 ∷ [])
-IsWanted Missing.Colon ws = ws ≡ WantedChar 58 ∷ []
-IsWanted (Missing.Comma bracket) ws = ws ≡ WantedChar 44 ∷ WantedChar (closing bracket) ∷ []
-IsWanted Missing.End ws = ws ≡ WantedLabel (codes "the end of the text") ∷ []
+-- whether a byte is the last of some bytes, but for white space
+abbrev pub before_is : ℕ → List ℕ → Bool
+before_is byte bs = begins byte (after_spaces (reverse bs))
+
+-- what would be accepted; after an opening bracket the closing one would be too
+abbrev pub or_closing : (before : List ℕ) → Bracket → Wanted → List Wanted
+or_closing before o wanted = wanted ∷ (if before_is (opening o) before then WantedChar (closing o) ∷ [] else [])
+
+-- what would have been accepted where a part is missing, by what stands before
+abbrev pub IsWanted : (before : List ℕ) → Part.Missing → List Wanted → Type 0
+IsWanted before Missing.Value ws = ws ≡ or_closing before Array (WantedLabel (codes "a value"))
+IsWanted before (Missing.Word word) ws = ws ≡ WantedLabel word.now ∷ []
+IsWanted before Missing.Digit ws = ws ≡ WantedLabel (codes "a digit") ∷ []
+IsWanted before Missing.Character ws = ws ≡ WantedLabel (codes "a character") ∷ WantedChar 34 ∷ []
+IsWanted before Missing.Escape ws = ws ≡ WantedLabel (codes "the letter of an escape") ∷ []
+IsWanted before Missing.Hex ws = ws ≡ WantedLabel (codes "a digit in base 16") ∷ []
+IsWanted before Missing.Name ws = ws ≡ or_closing before Object (WantedLabel (codes "a name in quotes"))
+IsWanted before Missing.Colon ws = ws ≡ WantedChar 58 ∷ []
+IsWanted before (Missing.Comma bracket) ws = ws ≡ WantedChar 44 ∷ WantedChar (closing bracket) ∷ []
+IsWanted before Missing.End ws = ws ≡ WantedLabel (codes "the end of the text") ∷ []
 
 -- what is missing is wanted where it is missing
 pub record TellsFault (bytes : List ℕ) (fault : Fault) (e : Report (Bor (List ℕ))) : Type 0 where
   pub wanted : List Wanted
-  pub is_wanted : IsWanted fault.missing wanted
+  pub is_wanted : IsWanted (take fault.at bytes) fault.missing wanted
   pub place : Bor (List ℕ)
   pub place_is : place.now ≡ drop fault.at bytes
   pub wants : Wanting place wanted e
@@ -76,7 +87,3 @@ IsFaultReport name bytes inside place text = (IsJson bytes → ⊥) × (place �
 abbrev pub IsNamedReport : (name bytes text : List ℕ) → (status : ℕ) → Type 0
 IsNamedReport name bytes text status =
     (IsJson bytes × (text ≡ []) × (status ≡ 0)) ⊎ ((status ≡ 1) × ((place : ℕ) × IsFaultReport name bytes (length bytes) place text))
-
--- the same, in whichever parts the bytes come
-abbrev pub IsReport : (bytes cuts text : List ℕ) → (status : ℕ) → Type 0
-IsReport bytes cuts text status = (name : List ℕ) × IsNamedReport name bytes text status

@@ -8,6 +8,7 @@ use Rattle.nom_json_run.specs.declared.bracket.Fault.{Fault}
 use Rattle.nom_json_run.specs.declared.bracket.Missing as Part
 use Rattle.nom_json_run.specs.declared.bracket.Missing.TheVariants as Missing
 use Rattle.nom_json_run.specs.Json.{after_word}
+use Rattle.nom_json_run.specs.Parts.{IsPart, missing_of}
 
 -- the list, and no other, is one that the relation holds of
 abbrev pub EndsOnly : (List ℕ → Type 0) → List ℕ → Type 0
@@ -31,10 +32,11 @@ pub record EndsAt (bytes : List ℕ) (Ends : List ℕ → List ℕ → Type 0) (
 abbrev pub SameEnds : (Ends Others : List ℕ → Type 0) → Type 0
 SameEnds Ends Others = (r : List ℕ) → Ends r ↔ Others r
 
--- No part stands at `start`, whatever follows the byte at the place of a fault.
+-- No part stands at `start`, whatever follows the byte at the place of a fault, where what is missing isn't.
 pub record FailsAt (bytes : List ℕ) (Fails : List ℕ → Type 0) (start : ℕ) (fault : Fault) : Type 0 where
   pub begins : start ≤ fault.at
   pub within : fault.at ≤ length bytes
+  pub part : IsPart fault.missing (drop fault.at bytes)
   pub fails : (bs : List ℕ) → BeginsAs bytes fault.at bs → Fails (drop start bs)
 
 -- what is missing isn't there: of a word its first letter may be
@@ -46,6 +48,7 @@ IsMissing missing i = Unit {0}
 pub record FailsFor (bytes : List ℕ) (Fails : List ℕ → Type 0) (start : ℕ) (fault : Fault) : Type 0 where
   pub begins : start ≤ fault.at
   pub within : fault.at ≤ length bytes
+  pub part : IsPart fault.missing (drop fault.at bytes)
   pub here : Fails (drop start bytes)
   pub fails : (bs : List ℕ) → BeginsAs bytes fault.at bs → IsMissing fault.missing (drop fault.at bs) → Fails (drop start bs)
 
@@ -67,10 +70,12 @@ IsPlaced bytes (Err (Answer.Failure e)) = length e.input.now ≤ length bytes
 IsPlaced bytes (Err (Answer.Incomplete n)) = ⊥
 IsPlaced bytes (Err Answer.OutOfMemory) = ⊥
 
--- and that place
+-- and that place, with what is missing there
 abbrev pub IsStop : (bytes : List ℕ) → IResult Bytes Bytes (Error Bytes) → Result ℕ Fault → Type 0
 IsStop bytes (Ok x) stop = (n : ℕ) × (stop ≡ Ok n) × (n + length x.0.now ≡ length bytes)
-IsStop bytes (Err (Answer.Error e)) stop = (fault : Fault) × (stop ≡ Err fault) × (fault.at + length e.input.now ≡ length bytes)
-IsStop bytes (Err (Answer.Failure e)) stop = (fault : Fault) × (stop ≡ Err fault) × (fault.at + length e.input.now ≡ length bytes)
+IsStop bytes (Err (Answer.Error e)) stop = (fault : Fault) × (stop ≡ Err fault) × (fault.at + length e.input.now ≡ length bytes) ×
+    (fault.missing ≡ missing_of e.code)
+IsStop bytes (Err (Answer.Failure e)) stop = (fault : Fault) × (stop ≡ Err fault) × (fault.at + length e.input.now ≡ length bytes) ×
+    (fault.missing ≡ missing_of e.code)
 IsStop bytes (Err (Answer.Incomplete n)) stop = ⊥
 IsStop bytes (Err Answer.OutOfMemory) stop = ⊥

@@ -1,6 +1,7 @@
 -- The rest of a JSON text at a place within it, by the brackets that lie open there, the innermost first.
-use Rattle.std.specs.Prelude.{◌≡◌, ℕ, ◌<◌, ◌≤◌, ◌==◌, ◌||◌, ◌⊎◌, ◌↔◌, Bool, true, List, [], ◌∷◌, Option, MatchOption, length, drop, codes}
+use Rattle.std.specs.Prelude.{◌≡◌, ℕ, ◌<◌, ◌≤◌, ◌⊎◌, ◌↔◌, true, List, [], ◌∷◌, Option, MatchOption, length, drop}
 use Rattle.nom_json_run.specs.Json.{JsonInside, JsonItem, JsonItems, JsonValue, after_spaces, begins, closing, rest, IsValue}
+use Rattle.nom_json_run.specs.Parts.{IsPart}
 use Rattle.nom_json_run.specs.Scans.{BeginsAs, FailsFor, IsMissing}
 use Rattle.nom_json_run.specs.declared.bracket.Bracket.{Bracket}
 use Rattle.nom_json_run.specs.declared.bracket.Fault.{Fault}
@@ -43,19 +44,11 @@ pub record IsKey (bytes : List ℕ) (o : Bracket) (at stop : ℕ) : Type 0 where
   pub within : stop ≤ length bytes
   pub same : (bs : List ℕ) → BeginsAs bytes stop bs → (r : List ℕ) → JsonItem o (drop at bs) r ↔ JsonValue (drop stop bs) r
 
--- the first characters of values that are no number
-abbrev pub is_mark : ℕ → Bool
-is_mark b = b == 34 || b == 91 || b == 102 || b == 110 || b == 116 || b == 123
-
--- the first character of a word stands at the place
-pub data BeginsWord (word i : List ℕ) : Type 0 where
-  as_null : word ≡ codes "null" → begins 110 i ≡ true → BeginsWord word i
-  as_true : word ≡ codes "true" → begins 116 i ≡ true → BeginsWord word i
-  as_false : word ≡ codes "false" → begins 102 i ≡ true → BeginsWord word i
-
--- The fault of bytes that are no value: whatever follows the byte at its place, they are none, as long as what is missing is missing there.
+-- The fault of bytes that are no value: what is missing isn't at its place. Whatever follows the byte there, the bytes are none, as long as what is
+-- missing is missing there.
 pub record IsJsonFault (bytes : List ℕ) (fault : Fault) : Type 0 where
   pub within : fault.at ≤ length bytes
+  pub part : IsPart fault.missing (drop fault.at bytes)
   pub here : IsValue bytes → ⊥
   pub fails : (bs : List ℕ) → BeginsAs bytes fault.at bs → IsMissing fault.missing (drop fault.at bs) → IsValue bs → ⊥
 

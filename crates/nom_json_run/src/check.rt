@@ -1,10 +1,12 @@
 //! The check whether bytes are a JSON text.
 //!
 //! The open brackets are kept in a list. No nesting is too deep.
-ghost use Rattle.std.specs.Prelude.{◌≡◌, ◌≤◌, ◌∷◌, ◌<◌, [], IfOk, IfErr, MatchOption, OnErr, false, true, length, drop, reverse, vec_capacity, vec_len};
+ghost use Rattle.std.specs.Prelude.{◌≡◌, ◌==◌, ◌≤◌, ◌∷◌, ◌<◌, if◌then◌else◌, [], IfOk, IfErr, MatchOption, OnErr, false, true, length, drop};
+ghost use Rattle.std.specs.Prelude.{reverse, vec_capacity, vec_len};
 ghost use Rattle.nom_json_run.specs.Json.{JsonItem, JsonString, JsonValue, begins, closing, first_is, opening};
+ghost use Rattle.nom_json_run.specs.Parts.{BeginsWord, is_mark};
 ghost use Rattle.nom_json_run.specs.Scans.{EndsNowhere, FailsAt, Scans, ScansFor};
-ghost use Rattle.nom_json_run.specs.Walk.{ClosesAll, ClosesAfter, FinishesText, IsKey, BeginsWord, IsVerdict, Stepped, is_mark};
+ghost use Rattle.nom_json_run.specs.Walk.{ClosesAll, ClosesAfter, FinishesText, IsKey, IsVerdict, Stepped};
 
 use crate::bracket::{Awaits, Bracket, Fault, Missing, Step};
 use crate::scan::{byte_is, number, spaces, string, word};
@@ -72,7 +74,8 @@ fn named(bytes: &[u8], at: usize, wanted: &'static str) -> Result<usize, Fault>
 
 // Of a number of which nothing is there, a value is missing.
 fn value_fault(at: usize, fault: Fault) -> Fault
-    ensures { result.at ≡ fault.at }
+    ensures at { result.at ≡ fault.at }
+    ensures missing { result.missing ≡ (if fault.at == at then Missing.Value else fault.missing) }
 {
     Fault {
         at: fault.at,
@@ -216,7 +219,9 @@ fn inner_step<A: Allocator>(
     bracket: Bracket,
 ) -> Result<Step, OutOfMemory>
     requires { at ≤ length bytes.now }
-    ensures { IfOk result (λ s. Stepped bytes.now (ClosesAll (bracket ∷ reverse open.old.items)) at (reverse open.new.items) s) }
+    ensures steps { IfOk result (λ s. Stepped bytes.now (ClosesAll (bracket ∷ reverse open.old.items)) at (reverse open.new.items) s) }
+    ensures comma { begins 44 (drop at bytes.now) ≡ false → begins (closing bracket) (drop at bytes.now) ≡ false →
+        result ≡ Ok (Step.Stop (record { at = at; missing = Missing.Comma bracket })) }
 {
     if byte_is(bytes, at, closing_byte(bracket)) {
         return Ok(Step::Go(spaces(bytes, at + 1), Awaits::After));

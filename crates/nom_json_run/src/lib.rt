@@ -6,5 +6,6 @@
 pub mod bracket;
 pub mod check;
 pub mod lines;
+pub mod program;
 pub mod report;
 pub mod scan;

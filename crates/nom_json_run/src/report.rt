@@ -1,9 +1,9 @@
 //! The report on a file.
-ghost use Rattle.std.specs.Prelude.{◌≡◌, ◌≤◌, ◌∷◌, [], IfOk, MatchOption, length, string_bytes};
+ghost use Rattle.std.specs.Prelude.{◌≡◌, ◌≤◌, ◌∷◌, [], IfOk, MatchOption, length, string_bytes, take};
 ghost use Rattle.nom_report.specs.Wanted.{WantedChar, WantedLabel};
 ghost use Rattle.nom_json_run.specs.Json as Json;
 ghost use Rattle.nom_json_run.specs.Json.{IsJson};
-ghost use Rattle.nom_json_run.specs.Report.{IsFaultReport, IsOctetsReport, IsReport, IsTextReport, IsNamedReport, JoinsOf, TellsFault, Wanting};
+ghost use Rattle.nom_json_run.specs.Report.{IsFaultReport, IsOctetsReport, IsTextReport, IsNamedReport, JoinsOf, TellsFault, Wanting, before_is};
 
 use crate::bracket::{Bracket, Fault, Missing};
 use crate::check::verdict;
@@ -48,6 +48,7 @@ fn character<'a>(place: &'a [u8], wanted: char) -> Result<Error<'a>, OutOfMemory
 // Whether a byte, and white space after it, stands before a place.
 fn stands_before(bytes: &[u8], at: usize, byte: u8) -> bool
     requires { at ≤ length bytes.now }
+    ensures { result ≡ before_is byte (take at bytes.now) }
 {
     let mut at = at;
     while at > 0 {
@@ -190,7 +191,7 @@ pub struct Checked<'a> {
 }
 
 impl<'a> Report for Checked<'a> {
-    ghost is_report = { IsReport };
+    ghost is_report = { λ s bytes cuts. IsNamedReport s.name.now bytes };
 
     fn write<A: Allocator + Copy, W: Sink>(
         &self,

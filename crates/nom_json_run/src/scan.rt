@@ -1,11 +1,12 @@
 //! Texts without a value in them: white space, words, numbers and strings, of nom's parsers. Each function returns the
 //! place where it ends.
-ghost use Rattle.std.specs.Prelude.{◌≡◌, ℕ, ◌+◌, ◌<◌, ◌≤◌, List, IfOk, length, drop};
+ghost use Rattle.std.specs.Prelude.{◌≡◌, ℕ, ◌+◌, ◌<◌, ◌≤◌, List, None, IfErr, IfOk, length, drop};
 ghost use Rattle.nom_traits.specs.Classes.{is_hex_digit_code};
 ghost use Rattle.nom_json_run.specs.Grammars as Grammar;
 ghost use Rattle.nom_json_run.specs.Grammars.{Parses};
 ghost use Rattle.nom_json_run.specs.Json.{JsonCharacters, Leaves, after_number, after_spaces, after_word, begins, is_plain_code};
-ghost use Rattle.nom_json_run.specs.Scans.{BeginsAs, IsPlaced, IsStop, Scans, ScansFor};
+ghost use Rattle.nom_json_run.specs.Parts.{missing_of};
+ghost use Rattle.nom_json_run.specs.Scans.{BeginsAs, EndsAt, IsPlaced, IsStop, Scans};
 
 use crate::bracket::{Fault, Missing};
 use nom_branch::alt;
@@ -36,7 +37,9 @@ pub fn byte_is(bytes: &[u8], at: usize, byte: u8) -> bool
 
 /// Returns what is missing where a parser refuses with an error of a kind.
 #[inline(always)]
-fn missing(kind: ErrorKind) -> Missing {
+fn missing(kind: ErrorKind) -> Missing
+    ensures { result ≡ missing_of kind }
+{
     match kind {
         ErrorKind::Digit => Missing::Digit,
         ErrorKind::Satisfy => Missing::Hex,
@@ -45,7 +48,7 @@ fn missing(kind: ErrorKind) -> Missing {
     }
 }
 
-/// Returns the place of an answer: where its rest begins, or where its error is.
+/// Returns the place of an answer: where its rest begins, or where its error is, with what is missing there.
 #[inline(always)]
 fn place(bytes: &[u8], answer: Answer<'_>) -> Result<usize, Fault>
     requires { IsPlaced bytes.now answer }
@@ -116,7 +119,8 @@ fn word_of<'a>(input: &'a [u8], wanted: &'static str) -> Answer<'a>
 pub fn word(bytes: &[u8], start: usize, wanted: &'static str) -> Result<usize, Fault>
     requires { start ≤ length bytes.now }
     ensures length { IfOk result (λ n. start + length wanted.now ≤ n) }
-    ensures scans { ScansFor bytes.now (Leaves (after_word wanted.now)) start result }
+    ensures scans { IfOk result (EndsAt bytes.now (Leaves (after_word wanted.now)) start) }
+    ensures missing { IfErr result (λ f. (f.at ≡ start) × (f.missing ≡ Missing.Word wanted.entry) × (after_word wanted.now (drop start bytes.now) ≡ None)) }
 {
     match place(bytes, word_of(&bytes[start..], wanted)) {
         Ok(stop) => Ok(stop),

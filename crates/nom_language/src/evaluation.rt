@@ -1,11 +1,12 @@
 //! The value of an expression, as it is read.
-ghost use Rattle.std.specs.Prelude.{◌≡◌, ◌<◌, IfSome, IsSome, None, List, length};
+ghost use Rattle.std.specs.Prelude.{◌≡◌, ◌+◌, ◌<◌, IfSome, IsSome, None, List, length, vec_capacity};
 ghost use Rattle.nom_language.specs.Evaluated.{symbols_of_term};
 ghost use Rattle.nom_language.specs.helpers.Accumulated.{HasReadInto, PairPushes};
 ghost use Rattle.nom_operators.specs.Evaluations.{IsValueOf};
 ghost use Rattle.nom_operators.specs.Prefixes.{prefixes_in};
 ghost use Rattle.nom_operators.specs.OperatorTrees.{Symbol};
-ghost use Rattle.nom_operators.specs.Steps.{HasOutermost};
+ghost use Rattle.nom_operators.specs.Steps.{HasOutermost, waiting};
+ghost use Rattle.nom_operators.specs.helpers.Pending.{StackLacksRoom};
 ghost use Rattle.nom_operators.specs.declared.operation.Operation.{Operation};
 ghost use Rattle.nom_operators.specs.declared.precedences.Unary.{Unary};
 ghost use Rattle.nom_operators.specs.declared.precedences.Binary.{Binary};
@@ -52,11 +53,12 @@ impl<
     ghost CanPush = { λ k. IsSome k.waiting.partial × IfSome k.waiting.partial (λ r. HasOutermost r.innermost k.waiting.outer.items)
         × ((x : Operation P Q B O) → G.pre k.fold.now x) };
 
-    ghost IsFull = { λ _. Unit {0} };
+    ghost LacksRoom = { λ k x new. IfSome k.waiting.partial (λ r. StackLacksRoom (vec_capacity new.waiting.outer)
+        (length (waiting r.innermost k.waiting.outer.items) + (1 + length (prefixes_in x.1.0)))) };
 
     ghost Grows = { Unit {0} };
 
-    ghost fills = { λ _ _. tt };
+    ghost lacking = { λ _ _ _ _. tt };
 
     #[inline(always)]
     fn push(

@@ -92,11 +92,11 @@ impl<'a, H: Drop, O: Drop, G: Fn(O, H, O) -> O> Accumulator<(H, O)> for Folded<'
 
     ghost CanPush = { λ k. IsSome k.value × ((x : O) (h : H) (y : O) → G.pre k.builder.now x h y) };
 
-    ghost IsFull = { λ _. ⊥ };
+    ghost LacksRoom = { λ _ _ _. ⊥ };
 
     ghost Grows = { ⊥ };
 
-    ghost fills = { λ _ h. h };
+    ghost lacking = { λ _ _ _ h. h };
 
     #[inline(always)]
     fn push(&mut self, item: (H, O)) -> Result<(), OutOfMemory> {

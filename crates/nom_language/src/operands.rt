@@ -119,7 +119,7 @@ fn no_operator<OM: OutputMode, I: Items, C: Parser<I>>(
         (C.grammar (C.state binary.old)).meaning) (modes OM.Output.BUILDS OM.Error.BUILDS OM.Incomplete.STREAMING) input result }
     ensures kept { C.state binary.new ≡ C.state binary.old }
 {
-    input.prove_known();
+    input.known();
     match binary.process::<OutputM<Check, Check, OM::Incomplete>>(input) {
         Ok(_) => Err(refusal::<OM::Error, I, C::Error>(input, ErrorKind::Precedence)),
         Err(Err::Error(_)) => Ok((input, built::<OM::Output, ()>(()))),

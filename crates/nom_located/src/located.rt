@@ -84,8 +84,8 @@ impl<I: ByteItems, X: Copy> Items for Located<I, X> {
 
     ghost model = { located_model (λ x. x.fragment) (λ x. place x.offset x.line x.column) (λ x. x.extra) I.read I.model };
 
-    fn prove_known(self) {
-        self.fragment.prove_known();
+    fn known(self) {
+        self.fragment.known();
     }
 
     #[inline(always)]
@@ -112,7 +112,7 @@ impl<I: Input + ByteItems, X: Copy> Input for Located<I, X> {
 
     #[inline(always)]
     fn take(&self, index: usize) -> Self {
-        self.fragment.prove_known();
+        self.fragment.known();
         let fragment = self.fragment.take(index);
         Located {
             fragment,
@@ -125,7 +125,7 @@ impl<I: Input + ByteItems, X: Copy> Input for Located<I, X> {
 
     #[inline]
     fn take_from(&self, index: usize) -> Self {
-        self.fragment.prove_known();
+        self.fragment.known();
         let front = self.fragment.take(index);
         let fragment = self.fragment.take_from(index);
         let (line, column) = line_after(front.as_bytes(), self.offset, self.line, self.column);
@@ -260,7 +260,7 @@ impl<I: ByteItems, X: Copy> Located<I, X> {
     pub fn new_extra(fragment: I, extra: X) -> Located<I, X>
         ensures { (result.fragment ≡ fragment) × (result.offset ≡ 0) × (result.line ≡ 1) × (result.column ≡ 1) × (result.extra ≡ extra) }
     {
-        fragment.prove_known();
+        fragment.known();
         let _length = fragment.as_bytes().len();
         Located {
             fragment,

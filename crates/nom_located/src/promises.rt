@@ -21,7 +21,7 @@ pub fn stands_after<I: Input + ByteItems, X: Copy>(
     requires { IsSuffixOf (located_model (λ x. x.fragment) (λ x. place x.offset x.line x.column) (λ x. x.extra) I.read I.model) input _length _rest }
     ensures { IsAfter (place input.offset input.line input.column) (take _length (I.bytes input.fragment)) (place _rest.offset _rest.line _rest.column) }
 {
-    input.prove_known();
+    input.known();
 }
 
 /// A prefix has the place of the input.
@@ -43,7 +43,7 @@ pub fn rest_keeps_extra<I: Input + ByteItems, X: Copy>(
     requires { IsSuffixOf (located_model (λ x. x.fragment) (λ x. place x.offset x.line x.column) (λ x. x.extra) I.read I.model) input _length _rest }
     ensures { _rest.extra ≡ input.extra }
 {
-    input.prove_known();
+    input.known();
 }
 
 /// A prefix has the label of the input.

@@ -65,7 +65,7 @@ module _ {R A V : Type 0} (left : R → Option (List ℕ)) (grammar : Grammar By
   lawful_of : grammar.meaning.IsSound → (u t : Stream R A) (r : ItemResult Received) → Answers grammar u t r → IsLawful bytes_model grammar.meaning
   lawful_of sound u t r (Decided taken d g l e) = g.parses.lawful sound
   lawful_of sound u t r (AtEnd e k g h) = g.parses.lawful sound
-  lawful_of sound u t r (Full a b w e) = (w.1).parses.lawful sound
+  lawful_of sound u t r (Full g a b w e) = (w.1).parses.lawful sound
   lawful_of sound u t r (Faulted why b w e) = (w.1).parses.lawful sound
   lawful_of sound u t r (Lacking l b w e) = (w.1).parses.lawful sound
 

@@ -1,3 +1,4 @@
+pub mod Asked
 pub mod Back
 pub mod Forms
 pub mod Messages

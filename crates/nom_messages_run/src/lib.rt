@@ -6,6 +6,7 @@
 
 pub mod messages;
 pub mod pipe;
+pub mod program;
 pub mod promises;
 pub mod protocol;
 pub mod put;

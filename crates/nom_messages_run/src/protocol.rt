@@ -68,7 +68,7 @@ pub fn messages<'a, A: Allocator + Copy>(
         IsGrown bytes_model (messages_of {M = A}).IsOutput (messages_of {M = A}).meaning bytes.entry cuts.now result.index result.result ×
         HasNoFailure bytes_model (messages_of {M = A}).meaning }
 {
-    bytes.prove_known();
+    bytes.known();
     let number = pair(tag::<_, _, Error<&[u8]>>(&b"\x01"[..]), be_u32());
     let string = preceded(
         tag::<_, _, Error<&[u8]>>(&b"\x02"[..]),

@@ -48,14 +48,14 @@ fn text_of<A: Allocator + Copy>(
     requires { NoneAbove cuts.now (length bytes.now) }
     ensures { IfOk result (λ r. IsReport bytes.now cuts.now (string_bytes r.0) r.1) }
 {
-    bytes.prove_known();
+    bytes.known();
     let grown = messages(alloc, bytes, cuts);
     let beginning = beginning_len(bytes.len(), cuts, grown.index);
     tell(alloc, &Messages, grown.index, beginning, grown.result)
 }
 
 impl Report for Messages {
-    ghost is_report = { IsReport };
+    ghost is_report = { λ _. IsReport };
 
     fn write<A: Allocator + Copy, W: Sink>(
         &self,

@@ -143,7 +143,7 @@ pub fn write_message<W: Write, A: Allocator, B: Allocator>(
     }
     let body = room.as_slice();
     // It tells that they are bytes.
-    body.prove_known();
+    body.known();
     match write_frame(outgoing, body) {
         Ok(()) => Ok(()),
         Err(why) => Err(why_unsent(why)),

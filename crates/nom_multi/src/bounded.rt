@@ -3,12 +3,12 @@ ghost use Rattle.std.specs.Prelude.{ℕ, List};
 ghost use Rattle.nom_multi.specs.Bounded.{count_of, many_m_n_of};
 ghost use Rattle.nom_multi.specs.Words as Words;
 
-use nom_error::answer::PResult;
+use nom_error::answer::{Err, PResult};
 use nom_error::kind::ErrorKind;
 use nom_error::mode::OutputMode;
 use nom_error::value::ParseError;
 use nom_internal::parser::{Parser, StreamParser};
-use nom_repeat::ahead::list_ahead;
+use nom_repeat::ahead::{accept_first, list_ahead};
 use nom_repeat::bounds::bounded_items;
 use nom_repeat::exact::items_exactly;
 use nom_repeat::inverted::failure;
@@ -44,14 +44,13 @@ impl<I: Items, A: Allocator + Copy, F: Parser<I> + Drop> Parser<I> for Count<A, 
 
     #[inline]
     fn process<OM: OutputMode>(&mut self, input: I) -> PResult<I, Self::Output, Self::Error> {
-        let none = list_ahead::<OM::Output, I, F, A>(
-            &self.parser,
-            input,
-            self.alloc,
-            self.count,
-            self.count,
-        );
-        items_exactly::<OM, I, F, Vec<F::Output, A>>(&mut self.parser, input, none, self.count)
+        match list_ahead::<OM::Output, I, F, A>(&self.parser, input, self.alloc, self.count) {
+            Ok(none) => items_exactly::<OM, I, F, A>(&mut self.parser, input, none, self.count),
+            Err(_) => {
+                accept_first::<OM, I, F>(&mut self.parser, input);
+                Err(Err::OutOfMemory)
+            }
+        }
     }
 
     ghost lawful = { λ s k. count_lawful I.lawful F.Error.errors s.0 (F.lawful s.1 k) };
@@ -101,15 +100,20 @@ impl<I: Input, A: Allocator + Copy, F: Parser<I> + Drop> Parser<I> for ManyMN<A,
         if self.max < self.min {
             return Err(failure(input, ErrorKind::ManyMN));
         }
-        let none = list_ahead::<OM::Output, I, F, A>(&self.parser, input, self.alloc, self.max, 0);
-        bounded_items::<OM, I, F, Vec<F::Output, A>>(
-            &mut self.parser,
-            input,
-            none,
-            ErrorKind::ManyMN,
-            self.min,
-            self.max,
-        )
+        match list_ahead::<OM::Output, I, F, A>(&self.parser, input, self.alloc, self.max) {
+            Ok(none) => bounded_items::<OM, I, F, Vec<F::Output, A>>(
+                &mut self.parser,
+                input,
+                none,
+                ErrorKind::ManyMN,
+                self.min,
+                self.max,
+            ),
+            Err(_) => {
+                accept_first::<OM, I, F>(&mut self.parser, input);
+                Err(Err::OutOfMemory)
+            }
+        }
     }
 
     ghost lawful = { λ s k. many_m_n_lawful I.lawful F.Error.errors s.0 s.1 (F.lawful s.2 k) };

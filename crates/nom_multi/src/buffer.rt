@@ -88,7 +88,7 @@ pub fn fill_buffer<OM: OutputMode, I: Items, T: Drop, F: Parser<I, Output = T>>(
     ensures filled { IsFilled I.model (F.grammar (F.state parser.old)).IsOutput (F.grammar (F.state parser.old)).meaning
         (modes OM.Output.BUILDS OM.Error.BUILDS OM.Incomplete.STREAMING) input buffer.old buffer.new (IsRanOut result) }
 {
-    input.prove_known();
+    input.known();
     let mut rest = input;
     let mut count = 0usize;
     while count < buffer.len() {

@@ -3,11 +3,11 @@ ghost use Rattle.std.specs.Prelude.{List};
 ghost use Rattle.nom_multi.specs.Lengths.{length_count_of};
 ghost use Rattle.nom_multi.specs.LengthWords as Words;
 
-use nom_error::answer::PResult;
+use nom_error::answer::{Err, PResult};
 use nom_error::mode::{Emit, OutputM, OutputMode};
 use nom_error::value::ParseError;
 use nom_internal::parser::{Parser, StreamParser};
-use nom_repeat::ahead::list_ahead;
+use nom_repeat::ahead::{accept_first, list_ahead};
 use nom_repeat::exact::items_exactly;
 use nom_traits::convert::ToUsize;
 use nom_traits::input::Items;
@@ -54,8 +54,13 @@ impl<
             Some(length) => length.to_usize(),
             None => unreachable!(),
         };
-        let none = list_ahead::<OM::Output, I, G, A>(&self.parser, rest, self.alloc, count, count);
-        items_exactly::<OM, I, G, Vec<G::Output, A>>(&mut self.parser, rest, none, count)
+        match list_ahead::<OM::Output, I, G, A>(&self.parser, rest, self.alloc, count) {
+            Ok(none) => items_exactly::<OM, I, G, A>(&mut self.parser, rest, none, count),
+            Err(_) => {
+                accept_first::<OM, I, G>(&mut self.parser, rest);
+                Err(Err::OutOfMemory)
+            }
+        }
     }
 
     ghost lawful = { λ s k. length_count_lawful I.lawful F.Error.errors k.1.1 (F.lawful s.0 k.0) (G.lawful s.1 k.1.0) };

@@ -29,8 +29,10 @@ use std::alloc::Allocator;
 ///
 /// A refusal ends the list successfully, before the refused item. If an item is accepted without consuming
 /// input, the list refuses with `Many0`; no input can make it loop forever. Any other answer of the item is
-/// passed on. The list takes no memory in advance. It grows with each accepted item, and answers
-/// `OutOfMemory` if it can't.
+/// passed on.
+///
+/// The list grows with its accepted items. If `parser` takes a fixed number of items, as `be_u32` does, the list gets room for
+/// all outputs of which the input is certain before it reads them. If memory is refused, the answer is `OutOfMemory`.
 #[inline(always)]
 pub fn many0<A: Allocator + Copy, F>(alloc: A, parser: F) -> Many0<A, F>
     ensures alloc { result.alloc ≡ alloc }
@@ -57,9 +59,8 @@ pub fn many1<A: Allocator + Copy, F>(alloc: A, parser: F) -> Many1<A, F>
 /// `count(alloc, tag("ab"), 2)` on `"abababc"` returns `["ab", "ab"]` and leaves `"abc"`.
 ///
 /// If an item is refused, the list refuses with the item's error, to which `Count` is added at the start.
-/// Items may consume nothing. The list reserves room for its items in advance: for all of them if the parser
-/// takes a fixed number of items and the input has so many, as with `be_u32`, and else for 1,024 at most.
-/// Without the memory for it, and beyond that room, it grows with each accepted item.
+/// Items may consume nothing. The list gets room as that of `many0` does, and with its first accepted item for all `count`
+/// items, at most for 1,024.
 #[inline(always)]
 pub fn count<A: Allocator + Copy, F>(alloc: A, parser: F, count: usize) -> Count<A, F>
     ensures alloc { result.alloc ≡ alloc }
@@ -151,9 +152,7 @@ pub fn length_data<F>(parser: F) -> LengthData<F>
 /// If an item is refused, the whole is refused, and `Count` is added to its error at the place after the
 /// length. An item may consume nothing. Any other answer of an item is passed on.
 ///
-/// The list reserves room for its items in advance, as `count` does, whatever length is claimed. Without the
-/// memory for it, and beyond that room, it grows with each accepted item. It answers `OutOfMemory` if it can't
-/// grow.
+/// The list gets room as that of `count` does. So a large length that is only claimed takes memory for 1,024 items at most.
 #[inline(always)]
 pub fn length_count<A: Allocator + Copy, F, G>(
     alloc: A,

@@ -3,12 +3,12 @@ ghost use Rattle.std.specs.Prelude.{List};
 ghost use Rattle.nom_multi.specs.Many.{many0_of, many1_of};
 ghost use Rattle.nom_multi.specs.Words as Words;
 
-use nom_error::answer::PResult;
+use nom_error::answer::{Err, PResult};
 use nom_error::kind::ErrorKind;
 use nom_error::mode::OutputMode;
 use nom_error::value::ParseError;
 use nom_internal::parser::{Parser, StreamParser};
-use nom_repeat::ahead::list_ahead;
+use nom_repeat::ahead::{accept_first, list_ahead};
 use nom_repeat::bounds::{any_items, one_item};
 use nom_repeat::items::TooFew;
 use nom_traits::input::{Input, Items};
@@ -42,14 +42,18 @@ impl<I: Input, A: Allocator + Copy, F: Parser<I> + Drop> Parser<I> for Many0<A, 
 
     #[inline]
     fn process<OM: OutputMode>(&mut self, input: I) -> PResult<I, Self::Output, Self::Error> {
-        let none = list_ahead::<OM::Output, I, F, A>(
-            &self.parser,
-            input,
-            self.alloc,
-            usize::MAX,
-            0,
-        );
-        any_items::<OM, I, F, Vec<F::Output, A>>(&mut self.parser, input, none, ErrorKind::Many0)
+        match list_ahead::<OM::Output, I, F, A>(&self.parser, input, self.alloc, usize::MAX) {
+            Ok(none) => any_items::<OM, I, F, Vec<F::Output, A>>(
+                &mut self.parser,
+                input,
+                none,
+                ErrorKind::Many0,
+            ),
+            Err(_) => {
+                accept_first::<OM, I, F>(&mut self.parser, input);
+                Err(Err::OutOfMemory)
+            }
+        }
     }
 
     ghost lawful = { λ s k. many0_lawful I.lawful F.Error.errors (F.lawful s k) };
@@ -94,13 +98,18 @@ impl<I: Input, A: Allocator + Copy, F: Parser<I> + Drop> Parser<I> for Many1<A, 
 
     #[inline]
     fn process<OM: OutputMode>(&mut self, input: I) -> PResult<I, Self::Output, Self::Error> {
-        let none = list_ahead::<OM::Output, I, F, A>(
+        let none = match list_ahead::<OM::Output, I, F, A>(
             &self.parser,
             input,
             self.alloc,
             usize::MAX,
-            0,
-        );
+        ) {
+            Ok(none) => none,
+            Err(_) => {
+                accept_first::<OM, I, F>(&mut self.parser, input);
+                return Err(Err::OutOfMemory);
+            }
+        };
         let (rest, first) = one_item::<OM, OM::Error, I, F, Vec<F::Output, A>>(
             &mut self.parser,
             input,

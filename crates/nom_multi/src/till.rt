@@ -59,7 +59,7 @@ impl<
 
     #[inline]
     fn process<OM: OutputMode>(&mut self, input: I) -> PResult<I, Self::Output, Self::Error> {
-        input.prove_known();
+        input.known();
         let mut kept = none_yet::<OM::Output, F::Output, A>(self.alloc);
         let mut rest = input;
         loop {

@@ -73,7 +73,7 @@ fn within<OM: OutputMode, I: Input, G: Parser<I>>(
         Some(slice) => slice,
         None => unreachable!(),
     };
-    bound.prove_known();
+    bound.known();
     let (_, output) = settled::<OM, I, G>(parser, bound)?;
     Ok((rest, output))
 }

@@ -124,15 +124,19 @@ module _ {I A V E : Type 0} (w : Model I A) (l : InputLaws w) (errs : Errors I E
   pub few : (i : I) (n : ℕ) (ts : List V) → w.IsKnown i → input_len w i < 2 ^ 64 → (many1_count_meaning w errs m).answers s i (Accept n ts) → length ts < 2 ^ 64
   few i n ts known fits a = by_first i n ts known fits a.first a.answered a.goes_on
 
-module _ {I A V E : Type 0} {w : Model I A} (l : InputLaws w) (errs : Errors I E) (m : Meaning I V E) {mode : Modes} {i : I}
-    {before : Option ℕ} (none : Built mode.outputs (λ n. n ≡ 0) before) where
+module _ {I A V E : Type 0} {w : Model I A} (l : InputLaws w) (errs : Errors I E) (m : Meaning I V E) (lawful : m.IsSound → IsLawful w m) {mode : Modes}
+    {i : I} (known : w.IsKnown i) (fits : input_len w i < 2 ^ 64) {before : Option ℕ} (none : Built mode.outputs (λ n. n ≡ 0) before) where
   pub count1_shown : {j : I} {x : Option ℕ} {r : PResult I ℕ E} →
       ShowsMeaning w (CountAccumulated before) (items_meaning w errs (one_limits (Fresh Kind.Many1Count) true) ⊥ (dropped_meaning m)) mode i (Ok (j, x)) →
       ShowsMeaning w (CountAccumulated x) (items_meaning w errs (any_limits Kind.Many1Count) ⊥ (dropped_meaning m)) mode j r →
-      ShowsMeaning w IsCounted (many1_count_meaning w errs m) mode i r
+      ShowsMeaning w (IsCounted m.IsSound) (many1_count_meaning w errs m) mode i r
   count1_shown {j = j} {x = x} {r = r} h more =
       let a : Accepts w (CountAccumulated before) mode.outputs i
       ((items_meaning w errs (one_limits (Fresh Kind.Many1Count) true) ⊥ (dropped_meaning m)).answers mode.streaming i) j x = accepts h in
-      next_shown w l (λ vs us. vs ++ us) _ _ _ _ _ _ IsCounted mode i j a.length a.tree a.answered a.rest_is r
-      (shown_by (λ n us y b k. count_of_none (λ _ _. Unit {0}) mode.outputs none (a.tree ++ us) y
-      (kept_both CountPushes (λ _. Unit {0}) (λ _ _. Unit {0}) mode.outputs before x a.tree us y a.built_is k)) more)
+      next_shown w l (λ vs us. vs ++ us) _ _ _ _ _ _ (IsCounted m.IsSound) mode i j a.length a.tree a.answered a.rest_is r
+      (shown_by (λ n us y b k.
+      let number = count_of_none (λ _ _. Unit {0}) mode.outputs none (a.tree ++ us) y
+      (kept_both CountPushes (λ _. Unit {0}) (λ _ _. Unit {0}) mode.outputs before x a.tree us y a.built_is k) in (
+        (λ sound. omega (arith, number, both_fit w l errs m (lawful sound) mode.streaming i j a.length a.tree n us fits known a.answered a.rest_is b)),
+        number,
+      )) more)

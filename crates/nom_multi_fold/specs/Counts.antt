@@ -12,9 +12,9 @@ use Rattle.nom_repeat.specs.Bounds.{any_limits, one_limits, bounded_limits}
 abbrev pub IsNumber : {V : Type 0} → List V → ℕ → Type 0
 IsNumber vs n = n ≡ length vs
 
--- and as a count of 64 bits has it
-abbrev pub IsCounted : {V : Type 0} → List V → ℕ → Type 0
-IsCounted vs n = n ≡ length vs % 2 ^ 64
+-- the same of a part that is sound, and in any case as a count of 64 bits has it
+abbrev pub IsCounted : {V : Type 0} → Type 0 → List V → ℕ → Type 0
+IsCounted IsSound vs n = (IsSound → IsNumber vs n) × (n ≡ length vs % 2 ^ 64)
 
 -- what is accepted of an input whose length fits 64 bits are items whose number fits
 abbrev pub AcceptsFew : {I A V E : Type 0} → Model I A → Meaning I (List V) E → Type 0
@@ -38,13 +38,12 @@ many_m_n_count_meaning w errs least most m =
     unfit errs Kind.ManyMN true (most < least) (items_meaning w errs (bounded_limits Kind.ManyMN least most) ⊥ (dropped_meaning m))
 
 -- The number of items of a grammar, of any number, of one at least or of as many as two bounds say. Of one at least the first may be
--- empty, so that of a part which isn't sound more than 2 ^ 64 - 1 might come, and the count begins anew; of a sound one there are never
--- so many.
+-- empty. After an empty one a sound part has no other. One that isn't sound may have 2 ^ 64 items then, which no `usize` counts.
 abbrev pub many0_count_of : {I A V O E : Type 0} → Model I A → Errors I E → Grammar I V O E → Grammar I (List V) ℕ E
 many0_count_of w errs g = record { meaning = many0_count_meaning w errs g.meaning; IsOutput = IsNumber }
 
 abbrev pub many1_count_of : {I A V O E : Type 0} → Model I A → Errors I E → Grammar I V O E → Grammar I (List V) ℕ E
-many1_count_of w errs g = record { meaning = many1_count_meaning w errs g.meaning; IsOutput = IsCounted }
+many1_count_of w errs g = record { meaning = many1_count_meaning w errs g.meaning; IsOutput = IsCounted g.meaning.IsSound }
 
 abbrev pub many_m_n_count_of : {I A V O E : Type 0} → Model I A → Errors I E → ℕ → ℕ → Grammar I V O E → Grammar I (List V) ℕ E
 many_m_n_count_of w errs least most g = record { meaning = many_m_n_count_meaning w errs least most g.meaning; IsOutput = IsNumber }

@@ -72,7 +72,7 @@ fn fold_one<
         (one_limits (Fresh Kind.Many1) true) (IsPresent first)) (modes OM.Output.BUILDS OM.Error.BUILDS OM.Incomplete.STREAMING) input result }
     ensures kept { F.state parser.new ≡ F.state parser.old }
 {
-    input.prove_known();
+    input.known();
     match parser.process::<OutputM<OM::Output, Check, OM::Incomplete>>(input) {
         Ok((rest, item)) => match folded::<R, F::Output, G>(first, item, fold) {
             Ok(value) => Ok((rest, value)),
@@ -105,7 +105,7 @@ fn fold_items<
         (any_limits kind) (IsPresent first)) (modes OM.Output.BUILDS OM.Error.BUILDS OM.Incomplete.STREAMING) input result }
     ensures kept { F.state parser.new ≡ F.state parser.old }
 {
-    input.prove_known();
+    input.known();
     let mut rest = input;
     let mut value = first;
     loop {

@@ -87,7 +87,7 @@ impl<I: Input, F: Parser<I> + Drop> Parser<I> for Many1Count<F> {
 
     #[inline]
     fn process<OM: OutputMode>(&mut self, input: I) -> PResult<I, usize, F::Error> {
-        input.prove_known();
+        fits(input);
         let none = built::<OM::Output, usize>(0);
         let (rest, first) = one_item::<OM, Check, I, Dropped<F>, usize>(
             &mut self.item,
@@ -171,6 +171,6 @@ fn fits<I: Input>(input: I)
     ensures known { I.model.IsKnown input }
     ensures fits { input_len I.model input < 2 ^ 64 }
 {
-    input.prove_known();
+    input.known();
     let _length = input.input_len();
 }

@@ -20,11 +20,11 @@ impl<'a, T: Drop, R: Drop, G: Fn(R, T) -> R> Accumulator<T> for Folded<'a, R, G>
 
     ghost CanPush = { CanFold (λ k. k.value) (λ k. k.fold.now) G.pre };
 
-    ghost IsFull = { λ _. ⊥ };
+    ghost LacksRoom = { λ _ _ _. ⊥ };
 
     ghost Grows = { ⊥ };
 
-    ghost fills = { λ _ h. h };
+    ghost lacking = { λ _ _ _ h. h };
 
     ghost HasRoom = { λ _ _. Unit {0} };
 

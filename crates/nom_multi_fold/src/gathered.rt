@@ -22,11 +22,11 @@ impl<T, A: Allocator, C: Collection<T, A>> Accumulator<T> for Gathered<C, A> {
 
     ghost CanPush = { λ _. Unit {0} };
 
-    ghost IsFull = { λ k. (x : T) × C.grows x k.collection };
+    ghost LacksRoom = { λ k x _. C.grows x k.collection };
 
     ghost Grows = { Unit {0} };
 
-    ghost fills = { λ _ _. tt };
+    ghost lacking = { λ _ _ _ _. tt };
 
     #[inline(always)]
     fn push(&mut self, item: T) -> Result<(), OutOfMemory> {

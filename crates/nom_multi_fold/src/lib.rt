@@ -140,7 +140,7 @@ pub fn fold_many_m_n<F, H, G>(
 /// A refusal ends the list successfully, before the refused item. If the number of items before it is outside
 /// the range, the list refuses with the item's error. `Many` is added to that error at the item. An item that
 /// consumes nothing is refused with `Many`. If the range has two ends and nothing between them, the answer is
-/// a `Failure` with `Many`. The list takes no memory in advance.
+/// a `Failure` with `Many`. The list grows item by item.
 #[inline(always)]
 pub fn many<A: Allocator + Copy, R, F, C>(alloc: A, range: R, parser: F) -> Many<A, R, F, C>
     ensures alloc { result.alloc ≡ alloc }

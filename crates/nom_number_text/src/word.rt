@@ -60,7 +60,7 @@ where
     I::Item: AsChar,
     ensures { IsWordAt I.model I.Item.code word.now input result }
 {
-    input.prove_known();
+    input.known();
     let mut rest = input;
     for k in 0..word.len() {
         match first(rest) {

@@ -61,7 +61,7 @@ pub fn begin<
     ensures read { IfSome result (λ r. HasRead (G.post fold.now) (term_symbols (prefixes_in term.prefixes) term.operand term.postfixes.items)
         (waiting r.innermost outer.new.items) r.value) }
     ensures nested { IfSome result (λ r. HasOutermost r.innermost outer.new.items) }
-    ensures full { result ≡ None → StackLacksRoom (vec_capacity outer.old) (length (prefixes_in term.prefixes)) }
+    ensures full { result ≡ None → StackLacksRoom (vec_capacity outer.new) (length (prefixes_in term.prefixes)) }
 {
     read_term(None, outer, term, fold)
 }
@@ -91,7 +91,7 @@ pub fn put_term<
         HasRead (G.post fold.now) (ss ++ OfBinary operator ∷ term_symbols (prefixes_in term.prefixes) term.operand term.postfixes.items)
         (waiting r.innermost outer.new.items) r.value) }
     ensures nested { IfSome result (λ r. HasOutermost r.innermost outer.new.items) }
-    ensures full { result ≡ None → StackLacksRoom (vec_capacity outer.old)
+    ensures full { result ≡ None → StackLacksRoom (vec_capacity outer.new)
         (length (waiting partial.innermost outer.old.items) + (1 + length (prefixes_in term.prefixes))) }
 {
     let Partial { value, innermost } = partial;
@@ -163,7 +163,7 @@ fn read_term<
         HasRead (G.post fold.now) (ss ++ term_symbols (prefixes_in term.prefixes) term.operand term.postfixes.items)
         (waiting r.innermost outer.new.items) r.value) }
     ensures nested { IfSome result (λ r. HasOutermost r.innermost outer.new.items) }
-    ensures full { result ≡ None → StackLacksRoom (vec_capacity outer.old)
+    ensures full { result ≡ None → StackLacksRoom (vec_capacity outer.new)
         (length (waiting innermost outer.old.items) + length (prefixes_in term.prefixes)) }
 {
     let Term {
@@ -187,7 +187,7 @@ fn wait_all<P: Drop, B: Drop, R: Drop, A: Allocator>(
     requires nested { HasOutermost innermost outer.old.items }
     ensures waiting { IfSome result (λ new. waiting new outer.new.items ≡ with_prefixes (prefixes_in prefixes) (waiting innermost outer.old.items)) }
     ensures nested { IfSome result (λ new. HasOutermost new outer.new.items) }
-    ensures full { result ≡ None → StackLacksRoom (vec_capacity outer.old)
+    ensures full { result ≡ None → StackLacksRoom (vec_capacity outer.new)
         (length (waiting innermost outer.old.items) + length (prefixes_in prefixes)) }
 {
     let Prefixes { first, more } = prefixes;
@@ -213,7 +213,7 @@ fn wait_list<P: Drop, B: Drop, R: Drop, A: Allocator>(
     requires nested { HasOutermost innermost outer.old.items }
     ensures waiting { IfSome result (λ new. waiting new outer.new.items ≡ with_prefixes prefixes.items (waiting innermost outer.old.items)) }
     ensures nested { IfSome result (λ new. HasOutermost new outer.new.items) }
-    ensures full { result ≡ None → StackLacksRoom (vec_capacity outer.old)
+    ensures full { result ≡ None → StackLacksRoom (vec_capacity outer.new)
         (length (waiting innermost outer.old.items) + length prefixes.items) }
 {
     let mut inner = innermost;
@@ -320,7 +320,6 @@ fn end_operands<
         IsEnding (G.post fold.now) precedence from_left ss (waiting result.1 outer.new.items) result.0 }
     ensures none { EndsNone (waiting result.1 outer.new.items) precedence from_left }
     ensures nested { HasOutermost result.1 outer.new.items }
-    ensures capacity { vec_capacity outer.new ≡ vec_capacity outer.old }
     ensures fewer { length (waiting result.1 outer.new.items) ≤ length (waiting innermost outer.old.items) }
 {
     let mut value = value;

@@ -1,7 +1,8 @@
 //! The prefixes of a term, kept until its operand is read.
-ghost use Rattle.std.specs.Prelude.{◌≡◌, ◌≤◌, ◌++◌, ◌∷◌, [], IfNone, IsSome, vec_capacity, vec_len};
+ghost use Rattle.std.specs.Prelude.{◌≡◌, ◌++◌, ◌∷◌, [], IfNone, IsSome};
 ghost use Rattle.nom_internal.specs.Prelude.{Built};
 ghost use Rattle.nom_operators.specs.Prefixes.{prefixes_in, prefixes_view};
+ghost use Rattle.nom_repeat.specs.Lists.{ListLacksRoom};
 
 use nom_error::answer::OutOfMemory;
 use nom_error::mode::Mode;
@@ -27,11 +28,11 @@ impl<P: Drop, A: Allocator> Accumulator<P> for Prefixes<P, A> {
 
     ghost CanPush = { λ k. IfNone k.first (k.more.items ≡ []) };
 
-    ghost IsFull = { λ k. IsSome k.first × (vec_capacity k.more ≤ vec_len k.more) };
+    ghost LacksRoom = { λ old _ new. IsSome old.first × ListLacksRoom old.more new.more };
 
     ghost Grows = { Unit {0} };
 
-    ghost fills = { λ _ _. tt };
+    ghost lacking = { λ _ _ _ _. tt };
 
     #[inline(always)]
     fn push(&mut self, item: P) -> Result<(), OutOfMemory> {

@@ -5,6 +5,7 @@ ghost use Rattle.nom_operators.specs.Groups.{groups_left};
 ghost use Rattle.nom_operators.specs.Steps.{HasOutermost, Joined, Pushed, waiting};
 ghost use Rattle.nom_operators.specs.declared.operation.Operation.{Operation};
 ghost use Rattle.nom_operators.specs.declared.operation.Operation.TheVariants.{Binary};
+ghost use Rattle.nom_repeat.specs.Lists.{ListLacksRoom};
 
 use crate::operation::{Assoc, Operation};
 use core::mem::replace_with;
@@ -34,7 +35,7 @@ pub fn put<P: Drop, Q: Drop, B: Drop, O: Drop, A: Allocator, G: Fn(Operation<P, 
     ensures pushed { IfSome result (λ new. Pushed (groups_left levels.now) (λ c. c.0) (λ x c y z. G.post fold.now (Binary x c.1 y) z)
         (waiting held.innermost outer.old.items) held.value operator right (waiting new.innermost outer.new.items) new.value) }
     ensures nested { IfSome result (λ new. HasOutermost new.innermost outer.new.items) }
-    ensures full { result ≡ None → vec_capacity outer.old ≤ vec_len outer.old }
+    ensures full { result ≡ None → ListLacksRoom outer.old outer.new }
 {
     let Held { value, innermost } = held;
     let (left, under) = close(innermost, outer, value, levels, operator.0, fold);
@@ -119,9 +120,8 @@ pub fn next<E: Drop, A: Allocator>(outer: &mut Vec<E, A>) -> Option<E>
 #[inline(always)]
 pub fn keep<E: Drop, A: Allocator>(outer: &mut Vec<E, A>, innermost: Option<E>) -> bool
     ensures kept { IsTrue result → reverse outer.new.items ≡ waiting innermost outer.old.items }
-    ensures full { result ≡ false → vec_capacity outer.old ≤ vec_len outer.old }
-    ensures lacks { result ≡ false → vec_capacity outer.old < length (waiting innermost outer.old.items) }
-    ensures capacity { vec_capacity outer.old ≤ vec_capacity outer.new }
+    ensures full { result ≡ false → ListLacksRoom outer.old outer.new }
+    ensures lacks { result ≡ false → vec_capacity outer.new < length (waiting innermost outer.old.items) }
 {
     match innermost {
         Some(open) => {
@@ -144,7 +144,7 @@ pub fn keep<E: Drop, A: Allocator>(outer: &mut Vec<E, A>, innermost: Option<E>) 
 fn larger<E, A: Allocator>(list: Vec<E, A>, _x: ()) -> (Vec<E, A>, bool)
     ensures items { result.0.items ≡ list.items }
     ensures room { IsTrue result.1 → vec_len result.0 < vec_capacity result.0 }
-    ensures capacity { vec_capacity list ≤ vec_capacity result.0 }
+    ensures lacks { result.1 ≡ false → vec_capacity list ≤ vec_len list → vec_capacity result.0 ≤ vec_len result.0 }
 {
     let mut list = list;
     let has_room = match list.reserve(1) {

@@ -120,7 +120,7 @@ fn grown<P: Drop, Q: Drop, B: Drop, O: Drop, A: Allocator, G: Fn(Operation<P, Q,
     ensures grown { IfSome result (λ new. BuiltFromBoth true (λ k p n. Pushed (groups_left levels.now) (λ c. c.0)
         (λ x c y z. G.post fold.now (Binary x c.1 y) z) (waiting k.innermost outer.old.items) k.value p.0 p.1 (waiting n.innermost outer.new.items) n.value
         × HasOutermost n.innermost outer.new.items) held pair new) }
-    ensures full { result ≡ None → IsSome held × (vec_capacity outer.old ≤ vec_len outer.old) }
+    ensures full { result ≡ None → IsSome held × (vec_capacity outer.old ≤ vec_len outer.old) × (vec_capacity outer.new ≤ vec_len outer.new) }
 {
     match (held, pair) {
         (Some(held), Some(pair)) => {
@@ -189,7 +189,7 @@ pub fn pairs<
     ensures kept { AreKept (P.state prefix.new) (P.state prefix.old) (F.state operand.new) (F.state operand.old) (Q.state postfix.new) (Q.state postfix.old)
         (C.state binary.new) (C.state binary.old) }
 {
-    input.prove_known();
+    input.known();
     let mut rest = input;
     // The list stands apart from what is held, so that this stays in registers.
     let mut outer: Vec<(F::Output, (usize, B)), A> = Vec::new(alloc);

@@ -29,11 +29,11 @@ impl<'a, P: Drop, Q: Drop, B: Drop, O: Drop, G: Fn(Operation<P, Q, B, O>) -> O> 
 
     ghost CanPush = { λ k. IsSome k.value × ((x : Operation P Q B O) → G.pre k.fold.now x) };
 
-    ghost IsFull = { λ _. ⊥ };
+    ghost LacksRoom = { λ _ _ _. ⊥ };
 
     ghost Grows = { ⊥ };
 
-    ghost fills = { λ _ h. h };
+    ghost lacking = { λ _ _ _ h. h };
 
     #[inline(always)]
     fn push(&mut self, item: Q) -> Result<(), OutOfMemory> {

@@ -7,3 +7,4 @@ pub use nom_io::counted::Counted;
 pub use nom_io::stream::{Sink, Source};
 pub use nom_run::error::RunError;
 pub use nom_run::words::read_cuts;
+pub use report::run;

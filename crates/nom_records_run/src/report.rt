@@ -1,10 +1,11 @@
 //! The report on a file of records.
-ghost use Rattle.std.specs.Prelude.{IfOk, length, string_bytes};
+ghost use Rattle.std.specs.Prelude.{◌≡◌, ◌⊎◌, IfErr, IfOk, Err, length, string_bytes};
+ghost use Rattle.nom_io.specs.Account.{one_more};
 ghost use Rattle.nom_internal.specs.Prelude.{bytes_model};
 ghost use Rattle.nom_internal.specs.Promises.{HasNoFailure};
 ghost use Rattle.nom_calls.specs.Growing.{IsGrown};
 ghost use Rattle.nom_records_run.specs.Report.{IsReport, record_grammar, record_text, records_of};
-ghost use Rattle.nom_run.specs.Runs.{NoneAbove};
+ghost use Rattle.nom_run.specs.Runs.{CanGrow, CutAbove, Falls, MatchRunError, NoneAbove, Reported, Stopped};
 
 use nom::bytes::tag;
 use nom::error::Error;
@@ -13,9 +14,10 @@ use nom::number::be_u8;
 use nom::sequence::{preceded, terminated};
 use nom::{Grown, Items, parse_growing};
 use nom_error::answer::OutOfMemory;
-use nom_io::stream::Sink;
+use nom_io::stream::{Sink, Source};
 use nom_run::error::RunError;
 use nom_run::report::{Lines, Report, beginning_len, tell, write_built};
+use nom_run::run::run as run_report;
 use nom_run::text::add_bytes;
 use std::alloc::Allocator;
 
@@ -61,14 +63,14 @@ fn text_of<A: Allocator + Copy>(
     requires { NoneAbove cuts.now (length bytes.now) }
     ensures { IfOk result (λ r. IsReport bytes.now cuts.now (string_bytes r.0) r.1) }
 {
-    bytes.prove_known();
+    bytes.known();
     let grown = grown_records(alloc, bytes, cuts);
     let beginning = beginning_len(bytes.len(), cuts, grown.index);
     tell(alloc, &Records, grown.index, beginning, grown.result)
 }
 
 impl Report for Records {
-    ghost is_report = { IsReport };
+    ghost is_report = { λ _. IsReport };
 
     fn write<A: Allocator + Copy, W: Sink>(
         &self,
@@ -79,4 +81,28 @@ impl Report for Records {
     ) -> Result<u8, RunError> {
         write_built(text_of(alloc, bytes, cuts), sink)
     }
+}
+
+/// Reads to the reader's end, writes the report on its records, and returns the status.
+///
+/// The bytes are given in parts divided at the cuts (offsets in bytes). A cut below the one before is `Usage`, before anything
+/// is read. A cut above the length is `Usage`, after reading. Nothing was written then, nor after `Read` or `OutOfMemory`.
+/// After `Write`, a beginning of the report was. No failed call is tried again.
+pub fn run<A: Allocator + Copy, S: Source, W: Sink>(
+    alloc: A,
+    reader: &mut S,
+    cuts: &[usize],
+    writer: &mut W,
+) -> Result<u8, RunError>
+    ensures falls { Falls cuts.now → (result ≡ Err RunError.Usage) × (reader.new ≡ reader.old) × (writer.new ≡ writer.old) }
+    ensures status { IfOk result (λ status.
+        Reported IsReport (S.account reader.old) (S.account reader.new) (W.account writer.old) (W.account writer.new) cuts.now status) }
+    ensures error { IfErr result (λ e. MatchRunError e
+        ((writer.new ≡ writer.old) × ((S.account reader.new).failures ≡ one_more (S.account reader.old).failures))
+        (Stopped IsReport (S.account reader.old) (S.account reader.new) (W.account writer.old) (W.account writer.new) cuts.now)
+        ((writer.new ≡ writer.old) × CanGrow (S.account reader.old) (S.account reader.new) cuts.now)
+        ((writer.new ≡ writer.old)
+        × (((reader.new ≡ reader.old) × Falls cuts.now) ⊎ CutAbove (S.account reader.old) (S.account reader.new) cuts.now))) }
+{
+    run_report(alloc, &Records, reader, cuts, writer)
 }

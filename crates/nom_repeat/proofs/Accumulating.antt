@@ -3,7 +3,7 @@ use Rattle.std.proofs.Common.{◌≡◌, ◌++◌, ◌∷◌, [], List, Option, 
 use Rattle.std.specs.List.{AllZip}
 use Rattle.nom_internal.specs.Prelude.{Built}
 use Rattle.nom_internal.proofs.Shown.{built_error}
-use Rattle.nom_repeat.specs.Accumulated.{PushesBoth, AccumulatorIsFull, Adds, Accumulated}
+use Rattle.nom_repeat.specs.Accumulated.{PushesBoth, LacksRoomBoth, Adds, Accumulated}
 
 none_some : {X : Type 0} (x : X) → None ≡ Some x → ⊥
 none_some x e = absurd (cc (e))
@@ -89,11 +89,15 @@ module _ {V T K : Type 0} (Pushes : K → T → K → Type 0) (CanPush : K → T
 pub built_any : {X : Type 0} (builds : Bool) (P : X → Type 0) (x : Option X) → Built builds P x → Built builds (λ _. Unit {0}) x
 built_any builds P x h = built_error builds P (λ _. Unit {0}) x (λ _ _. tt) h
 
--- where there is no room, something is kept, so it is built
-pub room_built : {K : Type 0} (IsFull P : K → Type 0) (builds : Bool) (x : Option K) → Built builds P x → AccumulatorIsFull IsFull x → builds ≡ true
-room_built IsFull P true x b h = refl
-room_built IsFull P false x b h = absurd (subst (λ z. AccumulatorIsFull IsFull z) b h)
+-- where room is lacking, something is kept, so it is built
+pub room_built : {T K : Type 0} (LacksRoom : K → T → K → Type 0) (P : K → Type 0) (builds : Bool) (k : Option K) (x : Option T)
+    (new : Option K) → Built builds P k → LacksRoomBoth LacksRoom k x new → builds ≡ true
+room_built LacksRoom P true k x new b h = refl
+room_built LacksRoom P false k x new b h = absurd (subst (λ z. LacksRoomBoth LacksRoom z x new) b h)
 
-pub room_grows : {K : Type 0} (IsFull : K → Type 0) (Grows : Type 0) → ((k : K) → IsFull k → Grows) → (x : Option K) → AccumulatorIsFull IsFull x → Grows
-room_grows IsFull Grows f (Some k) h = f k h
-room_grows IsFull Grows f None h = absurd h
+pub room_grows : {T K : Type 0} (LacksRoom : K → T → K → Type 0) (Grows : Type 0) → ((k : K) (x : T) (new : K) → LacksRoom k x new → Grows) →
+    (k : Option K) (x : Option T) (new : Option K) → LacksRoomBoth LacksRoom k x new → Grows
+room_grows LacksRoom Grows f (Some k) (Some x) (Some new) h = f k x new h
+room_grows LacksRoom Grows f (Some k) (Some x) None h = absurd h
+room_grows LacksRoom Grows f (Some k) None new h = absurd h
+room_grows LacksRoom Grows f None x new h = absurd h

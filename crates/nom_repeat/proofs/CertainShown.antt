@@ -23,6 +23,10 @@ module _ {I A V E : Type 0} {w : Model I A} {m : Meaning I V E} where
   pub certain_moves : {i : I} {s : Bool} {n : ℕ} {v : V} → IsCertain w m i → m.answers s i (Accept n v) → 0 < n
   certain_moves {s = s} {n = n} {v = v} h a = let t = h.accepts s (Accept n v) a in let same : n ≡ t.0 = cc (t.3) in subst (λ z. 0 < z) (sym same) t.2
 
+  pub certain_first : {count : ℕ} {i : I} → 0 < count → AreCertain w m count i → IsCertain w m i
+  certain_first {count = zero} p h = absurd (omega (arith, p))
+  certain_first {count = suc count} p h = h.0
+
   -- the first of the row, and the others
   pub certain_next : {count done : ℕ} {i : I} → done < count → AreCertain w m (count - done) i →
       IsCertain w m i × ((s : Bool) (n : ℕ) (v : V) (j : I) → m.answers s i (Accept n v) → IsSuffixOf w i n j → AreCertain w m (count - (done + 1)) j)

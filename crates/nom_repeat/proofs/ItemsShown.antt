@@ -17,7 +17,7 @@ use Rattle.nom_repeat.specs.declared.items.Limits.{Limits}
 use Rattle.nom_repeat.specs.declared.items.TooFew.{TooFew}
 use Rattle.nom_repeat.specs.declared.items.TooFew.TheVariants.{Never, Passed, Added, Fresh}
 use Rattle.nom_repeat.proofs.Parts.{shown_at, part_refused, part_refusal}
-use Rattle.nom_repeat.proofs.Repeated.{IsNoRefusal, Collected, collected_more, ended, refused, ran_out, stopped, consumes}
+use Rattle.nom_repeat.proofs.Repeated.{IsNoRefusal, Collected, collected_more, ended, may_ask, refused, ran_out, stopped, consumes}
 
 -- an item is taken where it may be empty, and where it consumes
 pub taken_turn : {V : Type 0} (b : Limits) (k n : ℕ) (v : V) → (b.empty ≡ None) ⊎ (0 < n) → Takes n v ≡ item_turn b k (Some (Accept n v))
@@ -125,6 +125,21 @@ module _ {I A V E O : Type 0} {w : Model I A} (errs : Errors I E) (b : Limits) (
         pub items_lack_room : (b.empty ≡ None) ⊎ (0 < a.length) → mode.outputs ≡ true → Grows → ShowsItems w errs b Grows m IsOutput mode i (Err OutOfMemory)
         items_lack_room p o t = ran_out (items_rule errs b Grows) (λ vs _. vs) (always m) c (Some (Accept a.length a.tree)) (below, a.answered)
             (taken_asks b ((mode.errors ≡ true) × errs.grows) ((mode.outputs ≡ true) × Grows) (length c.trees) a.length a.tree p (o, t))
+
+-- nor for the first item, which consumes
+pub first_asks : {I A V E : Type 0} {w : Model I A} (l : InputLaws w) (errs : Errors I E) (b : Limits) (m : Meaning I V E) {mode : Modes} {i : I} →
+    w.IsKnown i → IsBelow b.most 0 → mode.outputs ≡ true → {n : ℕ} {v : V} → 0 < n → m.answers mode.streaming i (Accept n v) →
+    (items_meaning w errs b (Unit {0}) m).may_run_out mode i
+first_asks {w = w} l errs b m {mode} {i} known below o {n} {v} p a =
+    let none : Collected w (TurnsBy b.most (item_turn b) (λ _. m.answers mode.streaming)) (λ _. Unit {0}) i i = record {
+      trees = [];
+      taken = 0;
+      pieces = (refl, refl);
+      rest_is = record { known = known; front = []; whole = refl; length_is = refl; mark_is = sym (l.mark_none (w.mark i)) };
+      held = tt;
+    } in
+    may_ask (items_rule errs b (Unit {0})) (λ vs _. vs) (always m) none (Some (Accept n v)) (below, a)
+    (taken_asks b ((mode.errors ≡ true) × errs.grows) ((mode.outputs ≡ true) × Unit {0}) 0 n v (inr p) (o, tt))
 
 -- all else is passed on
 pub items_stopped : {I A V X E O : Type 0} {w : Model I A} (errs : Errors I E) (b : Limits) {Grows : Type 0} (m : Meaning I V E) {IsItem : V → X → Type 0}

@@ -4,13 +4,11 @@ use Rattle.std.specs.List.{AllZip}
 use Rattle.std.specs.declared.vec.Vec.{Vec}
 use Rattle.nom_internal.specs.Prelude.{Built}
 use Rattle.nom_repeat.specs.Accumulated.{Adds, Accumulated}
+pub use Rattle.nom_repeat.specs.Lists.{ListPushes}
 
 append_one : {T : Type 0} (xs : List T) (y : T) (ys : List T) → (xs ++ y ∷ []) ++ ys ≡ xs ++ y ∷ ys
 append_one [] y ys = refl
 append_one (x ∷ xs) y ys = ap (λ zs. x ∷ zs) (append_one xs y ys)
-
-abbrev pub ListPushes : {T A : Type 0} → Vec T A → T → Vec T A → Type 0
-ListPushes old x new = new.items ≡ old.items ++ x ∷ []
 
 module _ {V T A : Type 0} (P : V → T → Type 0) where
   list_adds : (list : Vec T A) (xs : List T) (new : Vec T A) → Adds ListPushes list xs new → new.items ≡ list.items ++ xs

@@ -99,6 +99,15 @@ module _ {I A P V T R E : Type 0} (w : Model I A) (r : Rule I P V T E) (tree : L
     blamed e h = reaches (λ k x. OnReply r.bound (λ k. (f.at k).answers s) (λ y. r.Blames i k x y ((f.at k).blames s x) e) k x)
         (record { reply = a; replied = p; fact = h })
 
+-- memory may run out at what the part replies
+pub may_ask : {I A P V T R E : Type 0} {w : Model I A} (r : Rule I P V T E) (tree : List V → T → R) (f : Family ℕ I P E)
+    {mode : Modes} {Held : List V → Type 0} {i j : I} (c : Collected w (TurnsBy r.bound r.turn (λ k. (f.at k).answers mode.streaming)) Held i j)
+    (a : Option (Outcome P)) → Replies r.bound (λ k. (f.at k).answers mode.streaming) (length c.trees) j a → r.Asks mode (length c.trees) a →
+    (repeat_meaning w r tree f).may_run_out mode i
+may_ask {w = w} r tree f {mode} {Held} {i} {j} c a p h = reaches w r tree f mode.streaming i j c
+    (λ k x. OnReply r.bound (λ k. (f.at k).answers mode.streaming) (r.Asks mode k) k x ⊎ (IsBelow r.bound k × (f.at k).may_run_out (r.part k mode) x))
+    (inl (record { reply = a; replied = p; fact = h }))
+
 module _ {I A P V T R O E : Type 0} {w : Model I A} (r : Rule I P V T E) (tree : List V → T → R) (f : Family ℕ I P E) {IsOutput : R → O → Type 0}
     {mode : Modes} {Held : List V → Type 0} {i j : I} (c : Collected w (TurnsBy r.bound r.turn (λ k. (f.at k).answers mode.streaming)) Held i j) where
   -- what the part replies here
@@ -123,12 +132,10 @@ module _ {I A P V T R O E : Type 0} {w : Model I A} (r : Rule I P V T E) (tree :
     refused e b h = Shown Refuse (ends w r tree f mode.streaming i j c a p Refuse e)
         (b, built_error mode.errors _ _ b (blamed w r tree f mode.streaming i j c a p) h, refl)
 
-    -- memory ran out at what the part replies, in whatever mode that is told
+    -- it ran out there, in whatever mode that is told
     pub ran_out : r.Asks mode (length c.trees) a → {told : Modes} → ShowsAnswer w IsOutput told i ((repeat_meaning w r tree f).answers mode.streaming i)
         ((repeat_meaning w r tree f).blames mode.streaming i) ((repeat_meaning w r tree f).may_run_out mode i) (Err OutOfMemory)
-    ran_out h = RanOut refl (reaches w r tree f mode.streaming i j c
-        (λ k x. OnReply r.bound (λ k. (f.at k).answers mode.streaming) (r.Asks mode k) k x ⊎ (IsBelow r.bound k × (f.at k).may_run_out (r.part k mode) x))
-        (inl (record { reply = a; replied = p; fact = h })))
+    ran_out h = RanOut refl (may_ask r tree f c a p h)
 
   -- A failure of the part, a lack and want of memory are the repetition's own, in whatever mode either is told.
   pub stopped : PassesStops r → IsBelow r.bound (length c.trees) → {X : Type 0} {IsItem : P → X → Type 0} {asked told : Modes}

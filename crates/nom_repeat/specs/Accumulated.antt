@@ -9,10 +9,12 @@ PushesBoth Pushes CanPush (Some k) (Some x) None = ⊥
 PushesBoth Pushes CanPush (Some k) None new = new ≡ Some k
 PushesBoth Pushes CanPush None x new = new ≡ None
 
--- the accumulator has no room for another item
-abbrev pub AccumulatorIsFull : {K : Type 0} → (K → Type 0) → Option K → Type 0
-AccumulatorIsFull IsFull (Some k) = IsFull k
-AccumulatorIsFull IsFull None = ⊥
+-- the accumulator lacks room for the item, where both are built
+abbrev pub LacksRoomBoth : {T K : Type 0} → (K → T → K → Type 0) → Option K → Option T → Option K → Type 0
+LacksRoomBoth LacksRoom (Some k) (Some x) (Some new) = LacksRoom k x new
+LacksRoomBoth LacksRoom (Some k) (Some x) None = ⊥
+LacksRoomBoth LacksRoom (Some k) None new = ⊥
+LacksRoomBoth LacksRoom None x new = ⊥
 
 -- Where there was room for an item, it was pushed, and there is room for the others.
 abbrev pub KeepsRoom : {K X F : Type 0} → (K → ℕ → Type 0) → K → K → Result X F → Type 0

@@ -1,7 +1,8 @@
 //! Accumulators of items.
-ghost use Rattle.std.specs.Prelude.{◌≡◌, ◌+◌, ◌%◌, ◌^◌, ◌<◌, ◌≤◌, ◌++◌, ◌∷◌, [], ℕ, IsTrue, OnOk, OnErr, false, vec_len, vec_capacity};
+ghost use Rattle.std.specs.Prelude.{◌≡◌, ◌+◌, ◌%◌, ◌^◌, ◌<◌, ◌≤◌, ◌++◌, ◌∷◌, [], ℕ, IfOk, IsTrue, OnOk, OnErr, false, true, vec_len, vec_capacity};
 ghost use Rattle.nom_internal.specs.Prelude.{Built};
-ghost use Rattle.nom_repeat.specs.Accumulated.{PushesBoth, AccumulatorIsFull, KeepsRoom, HasRoomFor};
+ghost use Rattle.nom_repeat.specs.Accumulated.{PushesBoth, LacksRoomBoth, KeepsRoom, HasRoomFor};
+ghost use Rattle.nom_repeat.specs.Lists.{ListHasRoom, ListLacksRoom, ListPushes};
 
 use core::mem::replace_with;
 use nom_error::answer::OutOfMemory;
@@ -15,12 +16,9 @@ use std::mem::size_of_val;
 /// and again.
 const FIRST_ROOM: usize = 64;
 
-/// The number of items for which a list gets room at its first push in any case.
-const LEAST_ROOM: usize = 4;
-
-/// The maximum number of items for which a list of known length gets room in advance.
+/// The maximum number of items for which a list gets room with its first item, where the input claims so many.
 ///
-/// The length may be one that the input claims, while none of its items has been read.
+/// None of the others has been read yet.
 const MOST_AHEAD: usize = 1024;
 
 /// An accumulator of items of type `T`: a list, a number, or the value of a fold.
@@ -31,13 +29,13 @@ pub trait Accumulator<T> {
     /// The premise of a push: everything that is called to push an item may be called.
     ghost CanPush: { Self → Type 0 };
 
-    /// There is no room for an item without more memory.
-    ghost IsFull: { Self → Type 0 };
+    /// There was no room for an item, and there is none after memory for it was refused.
+    ghost LacksRoom: { Self → T → Self → Type 0 };
 
     /// Accumulating items may take memory.
     ghost Grows: { Type 0 };
 
-    ghost fills: { (k : Self) → IsFull k → Grows };
+    ghost lacking: { (k : Self) (x : T) (new : Self) → LacksRoom k x new → Grows };
 
     /// There is room for a number of items.
     ghost HasRoom: { Self → ℕ → Type 0 } = { λ _ _. ⊥ };
@@ -58,7 +56,7 @@ pub trait Accumulator<T> {
         requires { CanPush self.old }
         ensures kept { OnOk result (Pushes self.old item self.new) }
         ensures next { OnOk result (CanPush self.new) }
-        ensures full { OnErr result (IsFull self.old) }
+        ensures lacks { OnErr result (LacksRoom self.old item self.new) }
         ensures room { KeepsRoom HasRoom self.old self.new result };
 
     /// Pushes an item into an accumulator that has room for it, if accumulators of the type know their room.
@@ -78,17 +76,17 @@ pub trait Accumulator<T> {
 
 /// Collects the items in a list, in their order.
 impl<T: Drop, A: Allocator> Accumulator<T> for Vec<T, A> {
-    ghost Pushes = { λ old x new. new.items ≡ old.items ++ x ∷ [] };
+    ghost Pushes = { λ old x new. ListPushes old x new };
 
     ghost CanPush = { λ _. Unit {0} };
 
-    ghost IsFull = { λ list. vec_capacity list ≤ vec_len list };
+    ghost LacksRoom = { λ old _ new. ListLacksRoom old new };
 
     ghost Grows = { Unit {0} };
 
-    ghost fills = { λ _ _. tt };
+    ghost lacking = { λ _ _ _ _. tt };
 
-    ghost HasRoom = { λ list n. vec_len list + n ≤ vec_capacity list };
+    ghost HasRoom = { λ list n. ListHasRoom list n };
 
     ghost KnowsRoom = { Unit {0} };
 
@@ -99,12 +97,8 @@ impl<T: Drop, A: Allocator> Accumulator<T> for Vec<T, A> {
 
     #[inline(always)]
     fn push(&mut self, item: T) -> Result<(), OutOfMemory> {
-        if self.capacity() <= self.len() {
-            // The list is moved out and back. If it were passed by reference, it would lie in memory, even where it has room.
-            replace_with(self, first_room(size_of_val(&item)), larger)?;
-        }
-        self.push_reserved(item);
-        Ok(())
+        let first = first_room(size_of_val(&item));
+        push_one(self, item, first)
     }
 
     #[inline(always)]
@@ -122,11 +116,11 @@ impl<T: Drop> Accumulator<T> for usize {
 
     ghost CanPush = { λ _. Unit {0} };
 
-    ghost IsFull = { λ _. ⊥ };
+    ghost LacksRoom = { λ _ _ _. ⊥ };
 
     ghost Grows = { ⊥ };
 
-    ghost fills = { λ _ h. h };
+    ghost lacking = { λ _ _ _ h. h };
 
     ghost HasRoom = { λ _ _. Unit {0} };
 
@@ -154,21 +148,37 @@ fn first_room(item_size: usize) -> usize {
     }
 }
 
-/// Makes room for another item in a full list.
-///
-/// An empty list gets room for `first` items if there is memory for them, and else for one.
+/// Pushes an item. If the list has no room for it, it is made larger; an empty list gets room for `first` items, at least one.
+#[inline(always)]
+fn push_one<T: Drop, A: Allocator>(
+    list: &mut Vec<T, A>,
+    item: T,
+    first: usize,
+) -> Result<(), OutOfMemory>
+    ensures kept { OnOk result (ListPushes list.old item list.new) }
+    ensures lacks { OnErr result (ListLacksRoom list.old list.new) }
+    ensures room { KeepsRoom ListHasRoom list.old list.new result }
+{
+    if list.capacity() <= list.len() {
+        // The list is moved out and back. If it were passed by reference, it would lie in memory, even where it has room.
+        replace_with(list, first, larger)?;
+    }
+    list.push_reserved(item);
+    Ok(())
+}
+
+/// Makes room for another item in a full list, and for `first` items in an empty one.
 // Apart and cold, so that only the test stands where items are pushed.
 #[cold]
 #[inline(never)]
 fn larger<T, A: Allocator>(list: Vec<T, A>, first: usize) -> (Vec<T, A>, Result<(), OutOfMemory>)
     ensures items { result.0.items ≡ list.items }
     ensures room { OnOk result.1 (vec_len result.0 < vec_capacity result.0) }
+    ensures lacks { OnErr result.1 (vec_capacity list ≤ vec_len list → vec_capacity result.0 ≤ vec_len result.0) }
 {
     let mut list = list;
-    if first > LEAST_ROOM && list.is_empty() {
-        let _ = list.reserve(first);
-    }
-    let made = match list.reserve(1) {
+    let more = if list.is_empty() { first.max(1) } else { 1 };
+    let made = match list.reserve(more) {
         Ok(()) => Ok(()),
         Err(_) => Err(OutOfMemory),
     };
@@ -184,13 +194,35 @@ pub fn push_item<M: Mode, T: Drop, K: Accumulator<T>>(
     requires kept { Built M.BUILDS K.CanPush kept.old }
     requires item { Built M.BUILDS (λ _. Unit {0}) item }
     ensures kept { OnOk result (PushesBoth K.Pushes K.CanPush kept.old item kept.new) }
-    ensures full { OnErr result (AccumulatorIsFull K.IsFull kept.old) }
+    ensures lacks { OnErr result (LacksRoomBoth K.LacksRoom kept.old item kept.new) }
 {
     if !M::BUILDS {
         return Ok(());
     }
     match (kept, item) {
         (Some(kept), Some(item)) => kept.push(item),
+        _ => unreachable!(),
+    }
+}
+
+/// Pushes an item into a list, if outputs are built. With its first item the list gets room for `claimed` items, at most for
+/// `MOST_AHEAD`.
+#[inline(always)]
+pub fn push_claimed<M: Mode, T: Drop, A: Allocator>(
+    kept: &mut Option<Vec<T, A>>,
+    item: Option<T>,
+    claimed: usize,
+) -> Result<(), OutOfMemory>
+    requires kept { Built M.BUILDS (λ _. Unit {0}) kept.old }
+    requires item { Built M.BUILDS (λ _. Unit {0}) item }
+    ensures kept { OnOk result (PushesBoth ListPushes (λ _. Unit {0}) kept.old item kept.new) }
+    ensures lacks { OnErr result (LacksRoomBoth (λ old _ new. ListLacksRoom old new) kept.old item kept.new) }
+{
+    if !M::BUILDS {
+        return Ok(());
+    }
+    match (kept, item) {
+        (Some(list), Some(item)) => push_one(list, item, claimed.min(MOST_AHEAD)),
         _ => unreachable!(),
     }
 }
@@ -237,34 +269,22 @@ pub fn none_yet<M: Mode, T, A: Allocator>(alloc: A) -> Option<Vec<T, A>>
     }
 }
 
-/// Returns an empty list with room for `room` items, if there is memory for it.
-#[inline(always)]
-fn empty_list<T: Drop, A: Allocator>(alloc: A, room: usize) -> Vec<T, A>
-    ensures { result.items ≡ [] }
-{
-    let mut list = Vec::new(alloc);
-    if room > 0 {
-        let _ = list.reserve_exact(room);
-    }
-    list
-}
-
-/// Returns an empty list if outputs are built, with room for the items that are certain, or for `claimed` items,
-/// but for those at most for `MOST_AHEAD`.
-///
-/// If there is no memory for this room, the list grows with its items.
+/// Returns an empty list with room for `room` items, if outputs are built.
 #[inline(always)]
 pub fn with_room<M: Mode, T: Drop, A: Allocator>(
     alloc: A,
-    certain: usize,
-    claimed: usize,
-) -> Option<Vec<T, A>>
-    ensures empty { Built M.BUILDS (λ list. list.items ≡ []) result }
-    ensures ready { Built M.BUILDS (λ _. Unit {0}) result }
+    room: usize,
+) -> Result<Option<Vec<T, A>>, OutOfMemory>
+    ensures empty { IfOk result (λ made. Built M.BUILDS (λ list. list.items ≡ []) made) }
+    ensures ready { IfOk result (λ made. Built M.BUILDS (λ _. Unit {0}) made) }
+    ensures lacks { OnErr result ((M.BUILDS ≡ true) × (0 < room)) }
 {
     if M::BUILDS {
-        Some(empty_list(alloc, certain.max(claimed.min(MOST_AHEAD))))
+        match Vec::with_capacity(alloc, room) {
+            Ok(list) => Ok(Some(list)),
+            Err(_) => Err(OutOfMemory),
+        }
     } else {
-        None
+        Ok(None)
     }
 }

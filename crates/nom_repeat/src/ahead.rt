@@ -1,15 +1,15 @@
 //! Items of which an input is certain: as many of a fixed width as it has.
-ghost use Rattle.std.specs.Prelude.{◌≡◌, ◌≤◌, [], length, false};
-ghost use Rattle.nom_internal.specs.Prelude.{Built};
+ghost use Rattle.std.specs.Prelude.{◌≡◌, ◌<◌, ◌≤◌, [], IfOk, OnErr, length, false, true};
+ghost use Rattle.nom_internal.specs.Prelude.{Built, modes};
 ghost use Rattle.nom_repeat.specs.Accumulated.{Accumulated, HasRoomFor};
-ghost use Rattle.nom_repeat.specs.Certain.{AreCertain};
-ghost use Rattle.nom_repeat.specs.Items.{item_turn};
-ghost use Rattle.nom_repeat.specs.Repeat.{AreBelow, Collected, TurnsBy};
+ghost use Rattle.nom_repeat.specs.Certain.{AreCertain, IsCertain};
+ghost use Rattle.nom_repeat.specs.Items.{item_turn, items_meaning};
+ghost use Rattle.nom_repeat.specs.Repeat.{AreBelow, Collected, IsBelow, TurnsBy};
 ghost use Rattle.nom_repeat.specs.declared.items.Limits.{Limits};
 
 use crate::accumulator::{Accumulator, has_room_for, push_within, with_room};
-use nom_error::answer::Err;
-use nom_error::mode::{Mode, OutputM, OutputMode};
+use nom_error::answer::OutOfMemory;
+use nom_error::mode::{Check, Mode, OutputM, OutputMode};
 use nom_internal::parser::Parser;
 use nom_traits::input::Items;
 use std::alloc::Allocator;
@@ -26,34 +26,70 @@ impl Mode for NeverRefused {
     const BUILDS: bool = false;
 }
 
+/// The same mode, for the copy of the parser that runs where memory was refused.
+struct NeverKept;
+
+impl Mode for NeverKept {
+    ghost BUILDS = { false };
+
+    const BUILDS: bool = false;
+}
+
 /// Returns a number of items of which the input is certain, at most `most`.
 #[inline(always)]
 pub fn certain_count<I: Items, F: Parser<I>>(parser: &F, input: I, most: usize) -> usize
     ensures bounded { result ≤ most }
     ensures certain { AreCertain I.model (F.grammar (F.state parser.now)).meaning result input }
 {
-    input.prove_known();
+    input.known();
     let width = parser.width();
     input.group_count(width, most)
 }
 
 /// Returns an empty list if outputs are built, with room for the items of which the input is certain, at most
-/// `most`, or for `claimed` items.
+/// `most`.
 ///
-/// The items that are only claimed get little room: none of them has been read.
+/// If memory for this room is refused, `accept_first` is to be called, and the answer is `OutOfMemory`.
 #[inline(always)]
 pub fn list_ahead<M: Mode, I: Items, F: Parser<I>, A: Allocator>(
     parser: &F,
     input: I,
     alloc: A,
     most: usize,
-    claimed: usize,
-) -> Option<Vec<F::Output, A>>
-    ensures empty { Built M.BUILDS (λ list. list.items ≡ []) result }
-    ensures ready { Built M.BUILDS (λ _. Unit {0}) result }
+) -> Result<Option<Vec<F::Output, A>>, OutOfMemory>
+    ensures empty { IfOk result (λ made. Built M.BUILDS (λ list. list.items ≡ []) made) }
+    ensures ready { IfOk result (λ made. Built M.BUILDS (λ _. Unit {0}) made) }
+    ensures built { OnErr result (M.BUILDS ≡ true) }
+    ensures some { OnErr result (0 < most) }
+    ensures certain { OnErr result (IsCertain I.model (F.grammar (F.state parser.now)).meaning input) }
 {
     let certain = certain_count(parser, input, most);
-    with_room::<M, F::Output, A>(alloc, certain, claimed)
+    match with_room::<M, F::Output, A>(alloc, certain) {
+        Ok(made) => Ok(made),
+        Err(error) => Err(error),
+    }
+}
+
+/// Accepts the first of the items of which the input is certain. There is no memory to keep it.
+///
+/// So memory runs out only where an item was accepted.
+// Apart and cold. It runs at the end of a parse alone.
+#[cold]
+#[inline(never)]
+pub fn accept_first<OM: OutputMode, I: Items, F: Parser<I>>(parser: &mut F, input: I)
+    requires runs { (F.grammar (F.state parser.old)).meaning.Runs }
+    requires built { OM.Output.BUILDS ≡ true }
+    requires certain { IsCertain I.model (F.grammar (F.state parser.old)).meaning input }
+    ensures lacks { (b : Limits) → IsBelow b.most 0 →
+        (items_meaning I.model F.Error.errors b (Unit {0}) (F.grammar (F.state parser.old)).meaning).may_run_out
+        (modes OM.Output.BUILDS OM.Error.BUILDS OM.Incomplete.STREAMING) input }
+    ensures kept { F.state parser.new ≡ F.state parser.old }
+{
+    input.known();
+    match parser.process::<OutputM<Check, NeverKept, OM::Incomplete>>(input) {
+        Ok(_) => return,
+        Err(_) => unreachable!(),
+    }
 }
 
 /// Parses `count` items of which the input is certain, and adds them to `before`, which has room for them.
@@ -76,7 +112,7 @@ pub fn certain_items<OM: OutputMode, I: Items, F: Parser<I>, K: Accumulator<F::O
         input result.0 }
     ensures kept { F.state parser.new ≡ F.state parser.old }
 {
-    input.prove_known();
+    input.known();
     let mut rest = input;
     let mut kept = before;
     let mut done = 0usize;
@@ -113,7 +149,7 @@ pub fn items_ahead<OM: OutputMode, I: Items, F: Parser<I>, K: Accumulator<F::Out
     ensures bounded { result.2 ≤ most }
     ensures kept { F.state parser.new ≡ F.state parser.old }
 {
-    input.prove_known();
+    input.known();
     let count = certain_count(parser, input, most);
     if count == 0 || !has_room_for(&before, count) {
         return (input, before, 0);

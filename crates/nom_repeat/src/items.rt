@@ -62,7 +62,7 @@ pub fn items<OM: OutputMode, EM: Mode, I: Input, F: Parser<I>, K: Accumulator<F:
         (modes OM.Output.BUILDS OM.Error.BUILDS OM.Incomplete.STREAMING) input result }
     ensures kept { F.state parser.new ≡ F.state parser.old }
 {
-    input.prove_known();
+    input.known();
     let most = limits.most.unwrap_or(usize::MAX);
     let (mut rest, mut kept, mut count) = items_ahead::<OM, I, F, K>(parser, input, before, most);
     loop {

@@ -1,9 +1,10 @@
 -- Lemmas on `process` where the errors of refusals aren't built: it shows what `parse` does, all but refusals.
-use Rattle.std.proofs.Common.{◌≡◌, Bool, true, false, Ok, Err, Option, Some, refl, sym, ◌∙◌, ap, subst}
-use Rattle.nom_internal.specs.Prelude.{Needed, Incomplete, Failure, modes, size_of, Model, Outcome, Accept, Refuse, Stop, Fails, Needs}
-use Rattle.nom_internal.specs.Prelude.{ShowsAnswer, ParsesAnswer, Shown, RanOut, Parsed}
+use Rattle.std.proofs.Common.{◌≡◌, Bool, true, false, Ok, Err, Option, Some, refl, sym, ◌∙◌, ap, subst, inr}
+use Rattle.nom_internal.specs.Prelude.{Needed, Incomplete, Failure, modes, size_of, Grammar, Parses, Model, Outcome, Accept, Refuse, Stop, Fails, Needs}
+use Rattle.nom_internal.specs.Prelude.{ShowsAnswer, ParsesAnswer, IResult, Shown, RanOut, Parsed, ParseRanOut}
 use Rattle.nom_error.specs.declared.answer.Err as Answer
 use Rattle.nom_internal.proofs.Shown.{accepts}
+use Rattle.nom_report.specs.Twice.{parsed_twice}
 
 module _ {I A V O E : Type 0} (w : Model I A) (IsOutput : V → O → Type 0) (s : Bool) (i : I) (Answers : Outcome V → Type 0) (IsError : E → Type 0)
     (RunsOut Out : Type 0) where
@@ -41,3 +42,9 @@ module _ {I A V O E : Type 0} (w : Model I A) (IsOutput : V → O → Type 0) (s
   pub failure : (f : Answer.Err E (Option E) Needed) (e : E) → f ≡ Failure e →
       ShowsAnswer w IsOutput (modes true false s) i Answers IsError RunsOut (Err f) → ParsesAnswer w IsOutput i Answers IsError Out (Err (Failure e))
   failure f e q h = fails e (subst (λ x. ShowsAnswer w IsOutput (modes true false s) i Answers IsError RunsOut (Err x)) q h)
+
+module _ {I A V O E : Type 0} (w : Model I A) (g : Grammar I V O E) (s : Bool) (i : I) where
+  -- what one parse answers, where memory may run out in either
+  pub in_either : {r : IResult I O E} → Parses w g s i r → Parses w (parsed_twice g) s i r
+  in_either (ParseRanOut e h) = ParseRanOut e (inr h)
+  in_either (Parsed o a h) = Parsed o a h

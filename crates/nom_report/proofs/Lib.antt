@@ -7,5 +7,6 @@ mod Fronts
 mod Inner
 mod Items
 mod QuotedLines
+mod Turns
 mod Whole
 mod Windows

@@ -8,6 +8,7 @@ pub mod Octets
 pub mod Quotes
 pub mod Rendered
 pub mod Reports
+pub mod Twice
 pub mod Wanted
 pub mod Within
 pub mod Words

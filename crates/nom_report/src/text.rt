@@ -1,5 +1,5 @@
 //! The text of a report.
-ghost use Rattle.std.specs.Prelude.{◌≡◌, ◌-◌, ◌++◌, IfOk, codes, map, string_bytes};
+ghost use Rattle.std.specs.Prelude.{◌≡◌, ◌+◌, ◌-◌, ◌<◌, ◌++◌, IfOk, OnErr, codes, length, map, string_bytes, string_capacity, string_len};
 ghost use Rattle.nom_report.specs.Left.{slice_place};
 ghost use Rattle.nom_report.specs.Named.{named};
 ghost use Rattle.nom_report.specs.Rendered.{IsRendered, TellsContext, TellsContexts, more_text, name_text};
@@ -47,26 +47,31 @@ fn add_contexts<A: Allocator + Copy>(
 
 /// Adds the name of a source.
 pub fn add_name<A: Allocator + Copy>(out: &mut String<A>, name: &str) -> Result<(), OutOfMemory>
-    ensures { IfOk result (λ _. string_bytes out.new ≡ string_bytes out.old ++ name_text name.now) }
+    ensures added { IfOk result (λ _. string_bytes out.new ≡ string_bytes out.old ++ name_text name.now) }
+    ensures full { OnErr result (string_capacity out.old < string_len out.old + length (name_text name.now)) }
 {
-    write!(out, " --> {name}:")?;
+    out.push_str(" --> ")?;
+    out.push_str(name)?;
+    out.push_str(":")?;
     Ok(())
 }
 
 /// Ends a line.
 pub fn add_end<A: Allocator + Copy>(out: &mut String<A>) -> Result<(), OutOfMemory>
-    ensures { IfOk result (λ _. string_bytes out.new ≡ string_bytes out.old ++ codes "\n") }
+    ensures added { IfOk result (λ _. string_bytes out.new ≡ string_bytes out.old ++ codes "\n") }
+    ensures full { OnErr result (string_capacity out.old < string_len out.old + 1) }
 {
-    write!(out, "\n")?;
+    out.push_str("\n")?;
     Ok(())
 }
 
 /// Adds a mark if there are more contexts.
 pub fn add_more<A: Allocator + Copy>(out: &mut String<A>, more: bool) -> Result<(), OutOfMemory>
-    ensures { IfOk result (λ _. string_bytes out.new ≡ string_bytes out.old ++ more_text more) }
+    ensures added { IfOk result (λ _. string_bytes out.new ≡ string_bytes out.old ++ more_text more) }
+    ensures full { OnErr result (string_capacity out.old < string_len out.old + length (more_text more)) }
 {
     if more {
-        write!(out, "..\n")?;
+        out.push_str("..\n")?;
     }
     Ok(())
 }

@@ -17,6 +17,13 @@ tells_other f (Whole text x e p w) = Whole text x e (f text x p) w
 tells_other f (Cut text x e p w) = Cut text x e (f text x p) w
 tells_other f (NoMemory e l) = NoMemory e l
 
+-- and what is lacking is told otherwise
+pub tells_lack : {T : Type 0} {P Q : (text : List ℕ) → T → Type 0} {a b : Account} {L M : Type 0} {r : Result T RunError} →
+    ((text : List ℕ) (x : T) → P text x → Q text x) → (L → M) → WritesText P a b L r → WritesText Q a b M r
+tells_lack f m (Whole text x e p w) = Whole text x e (f text x p) w
+tells_lack f m (Cut text x e p w) = Cut text x e (f text x p) w
+tells_lack f m (NoMemory e l) = NoMemory e (m l)
+
 -- it was written, or a write failed
 module _ {T : Type 0} {IsText : (text : List ℕ) → T → Type 0} {a b : Account} {Lacks : Type 0} {text : List ℕ} (x : T) (is : IsText text x) where
   pub told : {u : Unit {0}} → Puts a b [] text [] (Ok u) → WritesText IsText a b Lacks (Ok x)

@@ -6,8 +6,8 @@ use Rattle.nom_run.specs.declared.error.RunError.TheVariants.{Read, Write, OutOf
 use Rattle.nom_run.specs.Asked.{BeginsAsked, Opened, ReportsAsked, ToldAsked, WhyMemory, WhyRead, WhyUsage}
 use Rattle.nom_run.specs.Asked.ToldAsked.{ReportAsked, BrokenAsked, FaultAsked}
 use Rattle.nom_run.specs.Runs.{CanGrow, CutAbove, Falls, MatchRunError, NeverFalls, Reported, Stopped}
-use Rattle.nom_run.specs.Reporting.{WritesReport, WroteText, fault_text}
-use Rattle.nom_run.specs.Reporting.WritesReport.{Report, Broken, Fault}
+use Rattle.nom_run.specs.Reporting.{ToldRun, WroteText, fault_text}
+use Rattle.nom_run.specs.Reporting.ToldRun.{BrokenRun, FaultRun}
 
 falls_never : (cuts : List ℕ) → NeverFalls cuts → Falls cuts → ⊥
 falls_never cuts never (k, below, falls) = let up = never k below in omega (arith, up, falls)
@@ -56,20 +56,14 @@ module _ {F S : Type 0} (IsFile : F → (name : List ℕ) → S → Type 0) (acc
       on_run (Ok x) h = tt
       on_run (Err e) h = by_error e h
 
--- whatever the words are
-pub told : {F S : Type 0} (IsFile : F → (name : List ℕ) → S → Type 0) (account : S → Account) (words : List (List ℕ))
-    (missed : F → ℕ) (folder folder' : F) (IsReport : (bytes cuts text : List ℕ) → (status : ℕ) → Type 0) (a b : Account) (status : ℕ) →
-    ToldAsked IsFile account words missed folder folder' IsReport a b status → WritesReport IsReport a b status
-told IsFile account words missed folder folder' IsReport a b status (ReportAsked r) = Report (account r.1) (account r.2) r.0 r.4
-told IsFile account words missed folder folder' IsReport a b status (BrokenAsked r is) = Broken (account r.1) (account r.2) r.0 r.4 is
-told IsFile account words missed folder folder' IsReport a b status (FaultAsked Read why w is) = Fault Read (λ e. absurd (cc (e))) w is
-told IsFile account words missed folder folder' IsReport a b status (FaultAsked Write why w is) = absurd why
-told IsFile account words missed folder folder' IsReport a b status (FaultAsked OutOfMemory why w is) = Fault OutOfMemory (λ e. absurd (cc (e))) w is
-told IsFile account words missed folder folder' IsReport a b status (FaultAsked Usage why w is) = Fault Usage (λ e. absurd (cc (e))) w is
-
--- words that couldn't be read are no failed write
-pub not_write : (e : RunError) → MatchRunError e ⊥ ⊥ (Unit {0}) (Unit {0}) → e ≡ Write → ⊥
-not_write Read h f = h
-not_write Write h f = h
-not_write OutOfMemory h f = cc (f)
-not_write Usage h f = cc (f)
+-- the output of a run, from its answer
+module _ (IsReport : (bytes cuts text : List ℕ) → (status : ℕ) → Type 0) (s t : Account) (cuts : List ℕ) {W : Type 0} (of : W → Account) (a b c : W)
+    (status : ℕ) (is : status ≡ 3) where
+  pub told_run : (N : Type 0) (e : RunError) → MatchRunError e ((b ≡ a) × (t.failures ≡ one_more s.failures)) (Stopped IsReport s t (of a) (of b) cuts)
+      ((b ≡ a) × CanGrow s t cuts) ((b ≡ a) × ((N × Falls cuts) ⊎ CutAbove s t cuts)) → WroteText (of b) (of c) (fault_text e) →
+      (e ≡ Write → c ≡ b) → ToldRun IsReport s t (of a) (of c) cuts status
+  told_run N Read h w f = FaultRun Read h.1 (subst (λ x. WroteText (of x) (of c) (fault_text Read)) h.0 w) is
+  told_run N Write h w f = BrokenRun (subst (λ x. Stopped IsReport s t (of a) (of x) cuts) (sym (f refl)) h) is
+  told_run N OutOfMemory h w f = FaultRun OutOfMemory h.1 (subst (λ x. WroteText (of x) (of c) (fault_text OutOfMemory)) h.0 w) is
+  told_run N Usage (same, inl falls) w f = FaultRun Usage (inl falls.1) (subst (λ x. WroteText (of x) (of c) (fault_text Usage)) same w) is
+  told_run N Usage (same, inr above) w f = FaultRun Usage (inr above) (subst (λ x. WroteText (of x) (of c) (fault_text Usage)) same w) is

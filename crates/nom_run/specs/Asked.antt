@@ -4,7 +4,7 @@ use Rattle.nom_io.specs.Account.{Account, one_more}
 use Rattle.nom_run.specs.declared.error.RunError.{RunError}
 use Rattle.nom_run.specs.Runs.{CanGrow, CutAbove, MatchRunError, Reported, Stopped}
 use Rattle.nom_run.specs.Reporting.{WroteText, fault_text}
-use Rattle.nom_run.specs.Words.{Numbers, BadWord}
+use Rattle.nom_run.specs.Words.{Numbers, BadWord, StartsWithNumbers}
 
 -- a file, and then the cuts
 pub record Asks (words : List (List ℕ)) (file : List ℕ) (cuts : List ℕ) : Type 0 where
@@ -33,10 +33,10 @@ module _ {F S : Type 0} (IsFile : F → (name : List ℕ) → S → Type 0) (acc
       (missed folder' ≡ one_more (missed folder)) ⊎
       ((cuts : List ℕ) × (s t : S) × Opened cuts s × ((account t).failures ≡ one_more (account s).failures))
 
-  -- memory was wanted for the words, and no file was opened; or for what was read, or the report
+  -- memory was wanted for a cut of the words, and no file was opened; or for what was read, or the report
   abbrev pub WhyMemory : Type 0
   WhyMemory =
-      ((folder' ≡ folder) × (1 < length words)) ⊎
+      ((folder' ≡ folder) × StartsWithNumbers (drop 2 words)) ⊎
       ((cuts : List ℕ) × (s t : S) × Opened cuts s × CanGrow (account s) (account t) cuts)
 
   -- the words are wrong, and no file was opened; or a cut lies above what was read

@@ -1,10 +1,13 @@
 //! Files that are opened by their names.
-ghost use Rattle.std.specs.Prelude.{◌≡◌, ℕ, List, IfOk, MatchResult};
+ghost use Rattle.std.specs.Prelude.{◌≡◌, ℕ, List, IfErr, IfOk, MatchResult};
 ghost use Rattle.nom_io.specs.Account.{one_more};
+ghost use Rattle.nom_io.specs.declared.counted.Counted.{Counted};
 
+use crate::error::RunError;
 use nom_io::counted::Counted;
 use nom_io::stream::{Fault, Source};
 use std::fs::File;
+use std::io::Read;
 use std::rt::Files;
 
 /// Files that are opened by their names.
@@ -56,5 +59,22 @@ impl<'a, R: Files> Folder for Disk<'a, R> {
                 Err(Fault)
             }
         }
+    }
+}
+
+/// Opens the file of a name, and returns its reader, of which no call was made.
+///
+/// The answer is `Read` if it can't be opened.
+pub fn open_reader<T: Read + Drop, F: Folder<File = Counted<T>>>(
+    folder: &mut F,
+    name: &str,
+) -> Result<T, RunError>
+    ensures file { IfOk result (λ reader. (file : Counted T) × F.is_file folder.old name.now file × (reader ≡ file.inner)) }
+    ensures none { IfOk result (λ _. F.missed folder.new ≡ F.missed folder.old) }
+    ensures missed { IfErr result (λ e. (e ≡ RunError.Read) × (F.missed folder.new ≡ one_more (F.missed folder.old))) }
+{
+    match folder.open(name) {
+        Ok(file) => Ok(file.into_inner()),
+        Err(_) => Err(RunError::Read),
     }
 }

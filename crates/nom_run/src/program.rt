@@ -3,30 +3,31 @@
 //!
 //! If there is no report, one line shows the reason, and the status is 3. After a failed write nothing more
 //! is written.
-ghost use Rattle.std.specs.Prelude.{◌≡◌, ◌<◌, ⊤, length, map, IfOk, IfErr, string_bytes};
-ghost use Rattle.nom_run.specs.Reporting.{WritesReport, WroteText, fault_text};
+ghost use Rattle.std.specs.Prelude.{◌≡◌, ⊤, drop, map, IfOk, IfErr, string_bytes};
+ghost use Rattle.nom_run.specs.Reporting.{ByWords, EndsWith, ToldRun, WroteText, fault_text};
 ghost use Rattle.nom_run.specs.Asked.{Asks, BeginsAsked, IsWrong, ReportsAsked, ToldAsked, WhyMemory, WhyRead, WhyUsage};
 ghost use Rattle.nom_run.specs.Runs.{MatchRunError};
+ghost use Rattle.nom_run.specs.Words.{StartsWithNumbers};
 
 use crate::error::RunError;
-use crate::folder::{Disk, Folder};
+use crate::folder::Folder;
 use crate::report::Report;
 use crate::run::{run, write_all};
-use crate::words::read_cuts;
-use nom_io::stream::Sink;
-use std::alloc::Global;
+use crate::words::cuts_of;
+use nom_io::stream::{Sink, Source};
+use std::alloc::{Allocator, Global};
 use std::env;
 use std::io::ErrorKind;
-use std::rt::{Env, Files};
+use std::rt::Env;
 
 // The status where there is no report.
 const NO_REPORT: u8 = 3;
 
 // What the program is asked to do.
 #[derive(Drop)]
-struct Task {
-    file: String,
-    cuts: Vec<usize>,
+struct Task<'a, A: Allocator> {
+    file: &'a str,
+    cuts: Vec<usize, A>,
 }
 
 fn refused<E: Drop>(_error: E) -> RunError
@@ -35,12 +36,21 @@ fn refused<E: Drop>(_error: E) -> RunError
     RunError::OutOfMemory
 }
 
-// The words of the command line, with the program's name first. `Usage` where one isn't text.
-fn read_words(rt: &(impl Env + Alloc<A = Global>)) -> Result<Vec<String>, RunError>
+/// Returns the words of the command line, with the program's name first.
+///
+/// The answer is `Usage` if one isn't text, and `OutOfMemory` if memory ran out. Nothing is proved of which words these are.
+pub fn read_words(rt: &(impl Env + Alloc<A = Global>)) -> Result<Vec<String>, RunError>
     ensures { IfErr result (λ e. MatchRunError e ⊥ ⊥ ⊤ ⊤) }
 {
     match env::args(rt) {
-        Ok(words) => words.collect::<Vec<String>>(rt.alloc()).map_err(refused),
+        Ok(words) => {
+            // Not by `collect`: if room for all of them is refused, that asks for less.
+            let mut kept = Vec::new(rt.alloc());
+            for word in words {
+                kept.push(word).map_err(refused)?;
+            }
+            Ok(kept)
+        }
         Err(error) => Err(match error.kind() {
             ErrorKind::OutOfMemory => RunError::OutOfMemory,
             _ => RunError::Usage,
@@ -48,47 +58,34 @@ fn read_words(rt: &(impl Env + Alloc<A = Global>)) -> Result<Vec<String>, RunErr
     }
 }
 
-// The texts of words.
-fn texts_of(alloc: Global, words: &[String]) -> Result<Vec<&str>, RunError>
-    ensures texts { IfOk result (λ v. map (λ w. w.now) v.items ≡ map string_bytes words.now) }
-    ensures error { IfErr result (λ e. e ≡ RunError.OutOfMemory) }
-{
-    let mut texts = Vec::new(alloc);
-    for word in words {
-        texts.push(word.as_str()).map_err(refused)?;
-    }
-    Ok(texts)
-}
-
 // What the words ask for, the first of which is the program's name. `Usage` where they name no file,
-// or their cuts are wrong.
-fn read_task(alloc: Global, words: &[String]) -> Result<Task, RunError>
-    ensures task { IfOk result (λ t. Asks (map string_bytes words.now) (string_bytes t.file) t.cuts.items) }
-    ensures error { IfErr result (λ e. MatchRunError e ⊥ ⊥ (1 < length words.now) (IsWrong (map string_bytes words.now))) }
+// or their cuts are wrong. Memory is wanted for cuts alone.
+fn read_task<A: Allocator + Copy>(alloc: A, words: &[String]) -> Result<Task<'_, A>, RunError>
+    ensures task { IfOk result (λ t. Asks (map string_bytes words.now) t.file.now t.cuts.items) }
+    ensures error { IfErr result (λ e. MatchRunError e ⊥ ⊥ (StartsWithNumbers (drop 2 (map string_bytes words.now))) (IsWrong (map string_bytes words.now))) }
 {
     if words.len() < 2 {
         return Err(RunError::Usage);
     }
-    let texts = texts_of(alloc, &words[2..])?;
-    let cuts = read_cuts(alloc, &texts)?;
-    let file = words[1].clone().map_err(refused)?;
+    let cuts = cuts_of(alloc, &words[2..])?;
+    let file = words[1].as_str();
     Ok(Task { file, cuts })
 }
 
 // Writes the report on the file that the words name.
-fn answer<R: Report, F: Folder, W: Sink>(
-    alloc: Global,
+fn answer<A: Allocator + Copy, R: Report, F: Folder, W: Sink>(
+    alloc: A,
     words: &[String],
     report: &R,
     folder: &mut F,
     sink: &mut W,
 ) -> Result<u8, RunError>
     ensures status { IfOk result (ReportsAsked F.is_file F.File.account (map string_bytes words.now) F.missed folder.old folder.new
-        R.is_report (W.account sink.old) (W.account sink.new)) }
+        (R.is_report report.now) (W.account sink.old) (W.account sink.new)) }
     ensures error { IfErr result (λ e. MatchRunError e
         ((sink.new ≡ sink.old) × WhyRead F.is_file F.File.account (map string_bytes words.now) F.missed folder.old folder.new)
         (BeginsAsked F.is_file F.File.account (map string_bytes words.now) F.missed folder.old folder.new
-        R.is_report (W.account sink.old) (W.account sink.new))
+        (R.is_report report.now) (W.account sink.old) (W.account sink.new))
         ((sink.new ≡ sink.old) × WhyMemory F.is_file F.File.account (map string_bytes words.now) F.missed folder.old folder.new)
         ((sink.new ≡ sink.old) × WhyUsage F.is_file F.File.account (map string_bytes words.now) F.missed folder.old folder.new)) }
 {
@@ -96,9 +93,8 @@ fn answer<R: Report, F: Folder, W: Sink>(
         Ok(task) => task,
         Err(error) => return Err(error),
     };
-    let name = task.file.as_str();
     let cuts = task.cuts.as_slice();
-    let mut source = match folder.open(name) {
+    let mut source = match folder.open(task.file) {
         Ok(source) => source,
         Err(_) => return Err(RunError::Read),
     };
@@ -127,18 +123,47 @@ pub fn tell_fault<W: Sink>(sink: &mut W, error: RunError) -> u8
     NO_REPORT
 }
 
+/// Returns the status of an answer. If there is none, it writes the line that shows the reason.
+pub fn status_after<W: Sink>(sink: &mut W, answer: Result<u8, RunError>) -> u8
+    ensures { EndsWith W.account answer sink.old sink.new result }
+{
+    match answer {
+        Ok(status) => status,
+        Err(error) => tell_fault(sink, error),
+    }
+}
+
+/// Writes the report on what a source gives, and returns the status.
+///
+/// The bytes are given in parts divided at the cuts (offsets in bytes). If there is no report, it writes the line that
+/// shows the reason.
+pub fn status_on<A: Allocator + Copy, R: Report, S: Source, W: Sink>(
+    alloc: A,
+    report: &R,
+    source: &mut S,
+    cuts: &[usize],
+    sink: &mut W,
+) -> u8
+    ensures { ToldRun (R.is_report report.now) (S.account source.old) (S.account source.new) (W.account sink.old) (W.account sink.new) cuts.now result }
+{
+    match run(alloc, report, source, cuts, sink) {
+        Ok(status) => status,
+        Err(error) => tell_fault(sink, error),
+    }
+}
+
 /// Writes the report on the file that words name, and returns the status. The first word is the program's name.
 ///
 /// If there is no report, it writes the line that shows the reason.
-pub fn status_for<R: Report, F: Folder, W: Sink>(
-    alloc: Global,
+pub fn status_for<A: Allocator + Copy, R: Report, F: Folder, W: Sink>(
+    alloc: A,
     words: &[String],
     report: &R,
     folder: &mut F,
     sink: &mut W,
 ) -> u8
-    ensures { ToldAsked F.is_file F.File.account (map string_bytes words.now) F.missed folder.old folder.new R.is_report
-        (W.account sink.old) (W.account sink.new) result }
+    ensures { ToldAsked F.is_file F.File.account (map string_bytes words.now) F.missed folder.old folder.new
+        (R.is_report report.now) (W.account sink.old) (W.account sink.new) result }
 {
     match answer(alloc, words, report, folder, sink) {
         Ok(status) => status,
@@ -146,22 +171,22 @@ pub fn status_for<R: Report, F: Folder, W: Sink>(
     }
 }
 
-/// Writes the report on the file that the command line names, and returns the status.
+/// Does what `status_for` does, for words that `read_words` returned.
 ///
-/// If there is no report, it writes the line that shows the reason. It does what `status_for` does, for the
-/// words of the command line; nothing is proved of which these are.
-pub fn status_of<R: Report, W: Sink>(
-    rt: &(impl Env + Files + Alloc<A = Global>),
+/// If they couldn't be read, it writes the line that shows the reason, and opens no file.
+pub fn status_by<R: Report, F: Folder, W: Sink>(
+    alloc: Global,
+    words: Result<Vec<String>, RunError>,
     report: &R,
+    folder: &mut F,
     sink: &mut W,
 ) -> u8
-    ensures { WritesReport R.is_report (W.account sink.old) (W.account sink.new) result }
+    ensures { ByWords words (λ v. ToldAsked F.is_file F.File.account (map string_bytes v.items) F.missed folder.old folder.new
+        (R.is_report report.now) (W.account sink.old) (W.account sink.new) result)
+        (folder.new ≡ folder.old) (W.account sink.old) (W.account sink.new) result }
 {
-    match read_words(rt) {
-        Ok(words) => {
-            let mut folder = Disk::new(rt);
-            status_for(rt.alloc(), &words, report, &mut folder, sink)
-        }
+    match words {
+        Ok(words) => status_for(alloc, &words, report, folder, sink),
         Err(error) => tell_fault(sink, error),
     }
 }

@@ -15,7 +15,7 @@ use std::alloc::Allocator;
 /// A report of a program on the bytes of a file.
 pub trait Report {
     // Whether a text and a status are the report on bytes, given in the parts that cuts make of them.
-    ghost is_report: { List ℕ → List ℕ → List ℕ → ℕ → Type 0 };
+    ghost is_report: { Self → List ℕ → List ℕ → List ℕ → ℕ → Type 0 };
 
     /// Writes the text of the report on `bytes`, and returns the status.
     ///
@@ -29,7 +29,7 @@ pub trait Report {
         sink: &mut W,
     ) -> Result<u8, RunError>
         requires { NoneAbove cuts.now (length bytes.now) }
-        ensures { WritesText (is_report bytes.now cuts.now) (W.account sink.old) (W.account sink.new) (sink.new ≡ sink.old) result };
+        ensures { WritesText (is_report self.now bytes.now cuts.now) (W.account sink.old) (W.account sink.new) (sink.new ≡ sink.old) result };
 }
 
 /// Writes a text that was built whole, and returns its status.

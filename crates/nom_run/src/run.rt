@@ -1,5 +1,5 @@
 //! The whole run: read, report, write.
-ghost use Rattle.std.specs.Prelude.{◌≡◌, ◌++◌, ◌⊎◌, [], length, IfOk, IfErr, Err, MatchBool};
+ghost use Rattle.std.specs.Prelude.{◌≡◌, ◌++◌, ◌+◌, ◌<◌, ◌≤◌, ◌⊎◌, [], length, IfOk, IfErr, OnErr, Err, MatchBool, vec_capacity, vec_len};
 ghost use Rattle.nom_io.specs.Account.{one_more};
 ghost use Rattle.nom_run.specs.Pieces.{Puts};
 ghost use Rattle.nom_run.specs.Runs.{CanGrow, CutAbove, Falls, MatchRunError, NeverFalls, NoneAbove, SomeAbove, ReadSome, ReadWhole, Reported, Stopped};
@@ -29,20 +29,22 @@ fn none_above(cuts: &[usize], end: usize) -> bool
     true
 }
 
-// Adds more bytes.
+// Adds more bytes. Memory runs out only if there is no room for them.
 fn keep<A: Allocator>(bytes: &mut Vec<u8, A>, more: &[u8]) -> Result<(), OutOfMemory>
-    ensures { IfOk result (λ _. bytes.new.items ≡ bytes.old.items ++ more.now) }
+    ensures kept { IfOk result (λ _. bytes.new.items ≡ bytes.old.items ++ more.now) }
+    ensures room { vec_capacity bytes.old ≤ vec_capacity bytes.new }
+    ensures lacks { OnErr result (vec_capacity bytes.old < vec_len bytes.old + length more.now) }
 {
     bytes.extend_from_slice(more)?;
     Ok(())
 }
 
-// Reads what is left, onto `bytes`.
+// Reads what is left, onto `bytes`. Memory runs out only if there is no room for all that was read.
 fn read_all<A: Allocator, S: Source>(source: &mut S, bytes: &mut Vec<u8, A>) -> Result<(), RunError>
     requires { bytes.old.items ≡ [] }
     ensures whole { IfOk result (λ _. ReadWhole (S.account source.old) (S.account source.new) bytes.new.items) }
     ensures error { IfErr result (λ e. MatchRunError e ((S.account source.new).failures ≡ one_more (S.account source.old).failures) ⊥
-        (ReadSome (S.account source.old) (S.account source.new)) ⊥) }
+        ((some : ReadSome (S.account source.old) (S.account source.new)) × (vec_capacity bytes.old < length some.bytes)) ⊥) }
 {
     let mut room = [0u8; 256];
     for _turn in 0..u64::MAX {
@@ -101,10 +103,10 @@ pub fn run<A: Allocator + Copy, R: Report, S: Source, W: Sink>(
 ) -> Result<u8, RunError>
     ensures falls { Falls cuts.now → (result ≡ Err RunError.Usage) × (source.new ≡ source.old) × (sink.new ≡ sink.old) }
     ensures status { IfOk result (λ status.
-        Reported R.is_report (S.account source.old) (S.account source.new) (W.account sink.old) (W.account sink.new) cuts.now status) }
+        Reported (R.is_report report.now) (S.account source.old) (S.account source.new) (W.account sink.old) (W.account sink.new) cuts.now status) }
     ensures error { IfErr result (λ e. MatchRunError e
         ((sink.new ≡ sink.old) × ((S.account source.new).failures ≡ one_more (S.account source.old).failures))
-        (Stopped R.is_report (S.account source.old) (S.account source.new) (W.account sink.old) (W.account sink.new) cuts.now)
+        (Stopped (R.is_report report.now) (S.account source.old) (S.account source.new) (W.account sink.old) (W.account sink.new) cuts.now)
         ((sink.new ≡ sink.old) × CanGrow (S.account source.old) (S.account source.new) cuts.now)
         ((sink.new ≡ sink.old)
         × (((source.new ≡ source.old) × Falls cuts.now) ⊎ CutAbove (S.account source.old) (S.account source.new) cuts.now))) }

@@ -104,7 +104,7 @@ impl<A: Allocator + Copy> ExtendInto<A> for &str {
     #[inline(always)]
     fn extend_into(&self, acc: &mut String<A>) -> Result<(), OutOfMemory> {
         let text = *self;
-        text.prove_known();
+        text.known();
         told(acc.push_str(text))
     }
 

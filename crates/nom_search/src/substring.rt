@@ -133,6 +133,6 @@ fn first_match(bytes: &[u8], needle: &[u8]) -> Option<usize>
 fn find_text(text: &str, needle: &str) -> Option<usize>
     ensures { FindsFirst len_utf8 (chars needle.now) (chars text.now) result }
 {
-    text.prove_known();
+    text.known();
     find_bytes(text.as_bytes(), needle.as_bytes())
 }

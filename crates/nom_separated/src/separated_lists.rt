@@ -177,7 +177,7 @@ fn first_item<OM: OutputMode, I: Input, F: Parser<I>, K: Accumulator<F::Output> 
         (modes OM.Output.BUILDS OM.Error.BUILDS OM.Incomplete.STREAMING) input) result }
     ensures kept { F.state parser.new ≡ F.state parser.old }
 {
-    input.prove_known();
+    input.known();
     let mut kept = before;
     match parser.process::<OutputM<OM::Output, Check, OM::Incomplete>>(input) {
         Ok((rest, item)) => {

@@ -1,2 +1,3 @@
+pub mod Asked
 pub mod Report
 pub mod Settings

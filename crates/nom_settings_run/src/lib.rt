@@ -2,5 +2,6 @@
 #![tactic(auto)]
 
 pub mod explain;
+pub mod program;
 pub mod report;
 pub mod settings;

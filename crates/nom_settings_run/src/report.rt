@@ -1,5 +1,5 @@
 //! The report on a file of settings.
-ghost use Rattle.std.specs.Prelude.{◌≡◌, ◌++◌, ◌≤◌, IfOk, decimal, length, string_bytes, take};
+ghost use Rattle.std.specs.Prelude.{◌≡◌, ◌++◌, ◌≤◌, [], IfOk, decimal, false, is_ok, length, string_bytes, take};
 ghost use Rattle.nom_run.specs.Pieces.{HasRoom, Puts};
 ghost use Rattle.nom_run.specs.Runs.{WritesText};
 ghost use Rattle.nom_settings_run.specs.Report.{IsReport, IsSettingsReport, IsBytesReport, IsStopLine, entry_text, refusal_text, entry_line};
@@ -130,16 +130,17 @@ impl<'a, B: Allocator + Copy> InPieces<Section<Text<'a>, B>> for Settings {
     }
 }
 
-// Writes the lines of sections.
+// Writes the lines of sections, with room for them that was made. Memory runs out only if none could be.
 fn write_sections<'a, A: Allocator + Copy, W: Sink>(
-    alloc: A,
+    made: Result<Vec<u8, A>, OutOfMemory>,
     found: &[Section<Text<'a>, A>],
     sink: &mut W,
 ) -> Result<u8, RunError>
+    requires { IfOk made (λ room. HasRoom room × (room.items ≡ [])) }
     ensures { WritesText (λ text status. (text ≡ sections_text found.now) × (status ≡ 0)) (W.account sink.old) (W.account sink.new)
-        (sink.new ≡ sink.old) result }
+        ((sink.new ≡ sink.old) × (is_ok made ≡ false)) result }
 {
-    let mut room = match make_room(alloc) {
+    let mut room = match made {
         Ok(room) => room,
         Err(_) => return Err(RunError::OutOfMemory),
     };
@@ -210,7 +211,7 @@ fn write_answer<'a, A: Allocator + Copy, W: Sink>(
     ensures { WritesText (IsSettingsReport answer.entry) (W.account sink.old) (W.account sink.new) (sink.new ≡ sink.old) result }
 {
     match answer {
-        Ok((_rest, found)) => write_sections(alloc, &found, sink),
+        Ok((_rest, found)) => write_sections(make_room(alloc), &found, sink),
         Err(stop) => write_built(tell_stop(alloc, stop), sink),
     }
 }
@@ -225,7 +226,7 @@ fn tell_bytes<A: Allocator + Copy>(
     ensures { IfOk result (λ r. IsBytesReport (take count bytes.now) (string_bytes r.0) r.1) }
 {
     let start = Located::new(bytes);
-    start.prove_known();
+    start.known();
     let there = start.take_from(count);
     stands_after(start, count, there);
     tell_fault(alloc, there.line(), there.column(), ErrorKind::Char)
@@ -235,7 +236,7 @@ fn tell_bytes<A: Allocator + Copy>(
 pub struct Settings;
 
 impl Report for Settings {
-    ghost is_report = { IsReport };
+    ghost is_report = { λ _. IsReport };
 
     fn write<A: Allocator + Copy, W: Sink>(
         &self,
@@ -247,7 +248,7 @@ impl Report for Settings {
         match str::from_utf8(bytes) {
             Ok(text) => {
                 let whole = Located::new(text);
-                whole.prove_known();
+                whole.known();
                 write_answer(alloc, settings(alloc, whole), sink)
             }
             Err(error) => write_built(tell_bytes(alloc, bytes, error.valid_up_to()), sink),

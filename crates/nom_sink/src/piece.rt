@@ -98,10 +98,14 @@ impl<T, F: Piece<T>, G: Piece<T>> Piece<T> for FirstFit<F, G> {
 }
 
 /// Puts a piece at the start of a slice, and returns the number of its items. The slice then begins with them.
+///
+/// Behind them, and after an error, there may be items of a part that was written and given up. If the piece has none
+/// that it gives up, the rest of the slice is as it was.
 #[inline]
 pub fn put_in_slice<T: Copy, P: Piece<T>>(piece: &P, buffer: &mut [T]) -> Result<usize, WriteError>
     requires { P.CanPut piece.now }
     ensures put { IfOk result (λ n. (n ≤ length buffer.new) × P.Form piece.now (take n buffer.new)) }
+    ensures length { length buffer.new ≡ length buffer.old }
     ensures fails { IfErr result (λ e. (room : ℕ) × (length buffer.old ≤ room) ×
         P.Fails piece.now (record { lack = OfSpace; room = room; start = 0 }) e) }
 {

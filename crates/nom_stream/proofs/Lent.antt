@@ -51,7 +51,7 @@ module _ {R A V O : Type 0} (grammar : Grammar Bytes V O (Error Bytes)) (u t : S
   lends : Answers grammar u t (Ok (Some (n, o))) → Lends
   lends (Decided taken d g l e) = of_taken grammar t.held n o after true (held_of u.held) taken g l e
   lends (AtEnd e k g h) = of_ends k h
-  lends (Full a b w e) = absurd (cc (e))
+  lends (Full g a b w e) = absurd (cc (e))
   lends (Faulted why b w e) = absurd (cc (e))
   lends (Lacking l b w e) = absurd (cc (e))
 

@@ -197,8 +197,8 @@ module _ {R A V O : Type 0} {left : R → Option (List ℕ)} {grammar : Grammar 
       }
 
   -- no more may be held
-  pub decides_full : u.settings.most ≤ length (held_of u.held) → Decides left grammar s u (Err Stopped.TooLong)
-  decides_full full = stopped (Err Stopped.TooLong) there.so_far.faults refl (Full full refl (k, there.waits) refl)
+  pub decides_full : u.ended ≡ false → u.settings.most ≤ length (held_of u.held) → Decides left grammar s u (Err Stopped.TooLong)
+  decides_full goes_on full = stopped (Err Stopped.TooLong) there.so_far.faults refl (Full goes_on full refl (k, there.waits) refl)
 
   -- or there is no room for more
   pub decides_lack : lacks ≡ true → Decides left grammar s u (Err Stopped.OutOfMemory)

@@ -124,7 +124,7 @@ module _ {R A V O : Type 0} (grammar : Grammar Bytes V O (Error Bytes)) (t : Str
   pub moves_answer : (u : Stream R A) (r : ItemResult O) → Answers grammar u t r → Moves (held_of u.held) r
   moves_answer u r (Decided taken d g l e) = moves_taken true (held_of u.held) taken r g e
   moves_answer u r (AtEnd e k g h) = moves_ends u k r h
-  moves_answer u r (Full a b w e) = stays (held_of u.held) r (ap used_of e) b
+  moves_answer u r (Full g a b w e) = stays (held_of u.held) r (ap used_of e) b
   moves_answer u r (Faulted why b w e) = stays (held_of u.held) r (ap used_of e) b
   moves_answer u r (Lacking l b w e) = stays (held_of u.held) r (ap used_of e) b
 
@@ -176,7 +176,7 @@ module _ {R A V O : Type 0} (left : R → Option (List ℕ)) (grammar : Grammar 
   pub of_answer : (r : ItemResult O) → Answers grammar u t r → TellsWhole grammar t r i p
   of_answer r (Decided taken d g l e) = of_decided taken r d g e
   of_answer r (AtEnd e k g h) = of_ends e k r g h
-  of_answer r (Full a c w e) = subst (λ z. TellsWhole grammar t z i p) (sym e)
+  of_answer r (Full g a c w e) = subst (λ z. TellsWhole grammar t z i p) (sym e)
       (subst (λ z. z ≤ length (held_of t.held)) (ap (λ z. z.most) (sym same_settings)) (subst (λ z. u.settings.most ≤ length z) (sym c) a))
   of_answer r (Faulted why c w e) = subst (λ z. TellsWhole grammar t z i p) (sym e) tt
   of_answer r (Lacking l c w e) = subst (λ z. TellsWhole grammar t z i p) (sym e) tt

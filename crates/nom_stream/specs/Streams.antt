@@ -174,9 +174,9 @@ module _ {R A V O : Type 0} (grammar : Grammar Bytes V O (Error Bytes)) (s t : S
         HoldsLast (held_of s.held) t.held taken → IsItemResult taken r → Answers r
     -- the reader is at its end
     AtEnd : s.ended ≡ true → (k : Needed) → Takes grammar true (held_of s.held) (held_of s.held) (Took.Undecided k) → Ends k r → Answers r
-    -- as many bytes are held as may be, and don't decide
-    Full : s.settings.most ≤ length (held_of s.held) → held_of t.held ≡ held_of s.held → WaitsForMore grammar (held_of s.held) → r ≡ Err Stopped.TooLong →
-        Answers r
+    -- the reader isn't at its end; as many bytes are held as may be, and don't decide
+    Full : s.ended ≡ false → s.settings.most ≤ length (held_of s.held) → held_of t.held ≡ held_of s.held → WaitsForMore grammar (held_of s.held) →
+        r ≡ Err Stopped.TooLong → Answers r
     -- it isn't decided, and a read failed
     Faulted : (e : Io.Error) → held_of t.held ≡ held_of s.held → WaitsForMore grammar (held_of s.held) → r ≡ Err (Stopped.Fault e) → Answers r
     -- it isn't decided, and there is no room for more

@@ -60,7 +60,7 @@ impl<O: Viewed + Drop, F: Fn(&[u8]) -> IResult<&[u8], O>> Grammar for ItemFunc<F
         (IsStreamParser bytes_model O.view (F.post f)) };
 
     fn item<'a>(&mut self, input: &'a [u8], _more: bool) -> IResult<&'a [u8], O> {
-        input.prove_known();
+        input.known();
         match (self.f)(input) {
             Ok((left, value)) => cut(input, left, value),
             Err(stop) => Err(stop),

@@ -110,6 +110,7 @@ impl<A: Allocator> Held<A> {
         ensures same { held_of self.new ≡ held_of self.old }
         ensures room { OnOk result (self.new.end + count ≤ vec_len self.new.bytes) }
         ensures lacks { OnErr result (vec_capacity self.new.bytes < self.new.end + count) }
+        ensures capacity { OnErr result (vec_capacity self.new.bytes ≡ vec_capacity self.old.bytes) }
         ensures place { (self.new.start ≡ self.old.start) × (self.new.end ≡ self.old.end) }
         ensures bounded { vec_len self.new.bytes ≤ max (vec_len self.old.bytes) (self.old.end + count) }
     {
@@ -146,7 +147,7 @@ impl<A: Allocator> Held<A> {
     }
 
     // The same, where there is no room after them. Where there is none at the front either, the buffer grows by `SMALL` bytes,
-    // if it may be that long, so that small reads seldom come here.
+    // if it may be that long, so that small reads seldom come here. If `count` bytes fit its capacity, it grows within that.
     #[inline(never)]
     fn clear_room(&mut self, count: usize, most: usize) -> Result<(), OutOfMemory>
         requires fits { length (held_of self.old) + count < 2 ^ 64 }
@@ -160,10 +161,11 @@ impl<A: Allocator> Held<A> {
             return Ok(());
         }
         let ample = SMALL.min(most.saturating_sub(self.end)).max(count);
-        match self.make_room(ample) {
-            Ok(()) => Ok(()),
-            Err(_) => self.make_room(count),
+        let spare = self.bytes.capacity().saturating_sub(self.end);
+        if count <= spare {
+            return self.make_room(ample.min(spare));
         }
+        self.make_room(ample)
     }
 
     /// Makes one read of at most `count` bytes, after the held ones. An interrupted read is made again.

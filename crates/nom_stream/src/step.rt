@@ -58,7 +58,7 @@ pub fn take<A: Allocator, G: Grammar>(
     ensures stays { Stays held.old held.new result }
 {
     let input = held.as_slice();
-    input.prove_known();
+    input.known();
     let len = input.len();
     match grammar.item(input, more) {
         Ok((rest, item)) => {

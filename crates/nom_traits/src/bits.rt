@@ -17,8 +17,8 @@ impl<I: Items<Item = u8>> Items for (I, usize) {
     ghost model = { bits_model I.model };
 
     #[inline(always)]
-    fn prove_known(self) {
-        self.0.prove_known();
+    fn known(self) {
+        self.0.known();
     }
 
     ghost lawful = { bits_lawful I.model };
@@ -53,7 +53,7 @@ impl<I: Input<Item = u8> + CountItems> CutRest for (I, usize) {
     fn cut_rest(self, left: Self) -> Option<Self> {
         let (bytes, position) = self;
         let (left_bytes, left_position) = left;
-        bytes.prove_known();
+        bytes.known();
         // Mostly both begin in a first byte. Then the bytes between them are counted, and not the bits.
         let have = bytes.item_count();
         let kept = left_bytes.item_count();

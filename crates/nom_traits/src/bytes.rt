@@ -14,7 +14,7 @@ impl Items for &[u8] {
     ghost model = { bytes_model };
 
     #[inline(always)]
-    fn prove_known(self) {
+    fn known(self) {
         let _n = self.len();
     }
 
@@ -50,14 +50,14 @@ impl<'a> Input for &'a [u8] {
     #[inline(always)]
     fn take(&self, index: usize) -> Self {
         let slice = *self;
-        slice.prove_known();
+        slice.known();
         &slice[..index]
     }
 
     #[inline(always)]
     fn take_from(&self, index: usize) -> Self {
         let slice = *self;
-        slice.prove_known();
+        slice.known();
         &slice[index..]
     }
 

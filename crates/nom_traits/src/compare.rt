@@ -331,7 +331,7 @@ fn between_characters(text: &str, tag: &[u8], found: CompareResult) -> CompareRe
     ensures { (form : List ℕ → List ℕ) → IsForm form → ComparesAs (λ xs. xs) form tag.now text.now found →
         ComparesAs encode_utf8_all form tag.now (chars text.now) result }
 {
-    text.prove_known();
+    text.known();
     match found {
         CompareResult::Ok if text.is_char_boundary(tag.len()) => CompareResult::Ok,
         CompareResult::Ok => CompareResult::Error,

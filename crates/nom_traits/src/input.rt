@@ -60,7 +60,7 @@ pub trait Items: Copy {
     ghost model: { Model Self Self.Item };
 
     /// Changes nothing. Its contract states that a value of the type is an input.
-    fn prove_known(self)
+    fn known(self)
         ensures { model.IsKnown self };
 
     /// Returns a number of groups of `width` items that the input has, at most `most`. It may have more of them.

@@ -42,8 +42,8 @@ impl CountItems for &[u8] {
 impl<'a> CutRest for &'a str {
     #[inline(always)]
     fn cut_rest(self, left: Self) -> Option<Self> {
-        self.prove_known();
-        left.prove_known();
+        self.known();
+        left.known();
         let whole = self.len();
         let rest = left.len();
         if rest > whole {

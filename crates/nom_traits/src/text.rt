@@ -20,7 +20,7 @@ impl Items for &str {
     ghost model = { text_model };
 
     #[inline(always)]
-    fn prove_known(self) {
+    fn known(self) {
         let _bytes = self.as_bytes();
     }
 
@@ -40,21 +40,21 @@ impl<'a> Input for &'a str {
     #[inline(always)]
     fn input_len(&self) -> usize {
         let text = *self;
-        text.prove_known();
+        text.known();
         text.len()
     }
 
     #[inline(always)]
     fn take(&self, index: usize) -> Self {
         let text = *self;
-        text.prove_known();
+        text.known();
         &text[..index]
     }
 
     #[inline(always)]
     fn take_from(&self, index: usize) -> Self {
         let text = *self;
-        text.prove_known();
+        text.known();
         &text[index..]
     }
 
@@ -76,7 +76,7 @@ impl<'a> Input for &'a str {
     #[inline(always)]
     fn iter_indices(&self) -> CharIndices<'a> {
         let text = *self;
-        text.prove_known();
+        text.known();
         text.char_indices()
     }
 
@@ -105,7 +105,7 @@ impl Offset for &str {
     #[inline(always)]
     fn offset(&self, second: &Self) -> usize {
         let whole = *self;
-        whole.prove_known();
+        whole.known();
         whole.len() - second.len()
     }
 }
@@ -139,7 +139,7 @@ fn text_outside(text: &str, set: CodeSet<'_>) -> Option<usize>
     requires { of_ascii set ≡ true }
     ensures { IsPosition text_model (IsIn set.entry) (IsNotIn set.entry) text.entry result }
 {
-    text.prove_known();
+    text.known();
     bytes_outside(text.as_bytes(), set)
 }
 
@@ -150,7 +150,7 @@ fn index_after(text: &str, count: usize) -> Result<usize, Needed>
         (λ n. IsCount text_model text.entry count n)
         (λ k. (length (chars text.now) < count) × (size_of k ≡ None)) }
 {
-    text.prove_known();
+    text.known();
     let mut rest = text.chars();
     let mut left = count;
     while left > 0 {

@@ -4,6 +4,39 @@ ghost use Rattle.nom_values.specs.Parses.{ParsesText, ParsesBytes};
 
 use std::str::FromStr;
 
+/// A type whose values `parse_to` reads: a whole number, `bool` or `char`.
+///
+/// A type of your own comes in by an empty `impl`, and is read as its `FromStr` says.
+pub trait ReadFromText: FromStr<Err: Drop> {}
+
+impl ReadFromText for u8 {}
+
+impl ReadFromText for u16 {}
+
+impl ReadFromText for u32 {}
+
+impl ReadFromText for u64 {}
+
+impl ReadFromText for u128 {}
+
+impl ReadFromText for usize {}
+
+impl ReadFromText for i8 {}
+
+impl ReadFromText for i16 {}
+
+impl ReadFromText for i32 {}
+
+impl ReadFromText for i64 {}
+
+impl ReadFromText for i128 {}
+
+impl ReadFromText for isize {}
+
+impl ReadFromText for bool {}
+
+impl ReadFromText for char {}
+
 /// A value that can be read as an `R`.
 pub trait ParseTo<R> {
     /// The results that reading the value may have.
@@ -20,10 +53,7 @@ pub trait ParseTo<R> {
         ensures { parses self.now result };
 }
 
-impl<'a, R: FromStr> ParseTo<R> for &'a str
-where
-    R::Err: Drop,
-{
+impl<'a, R: ReadFromText> ParseTo<R> for &'a str {
     ghost parses = { λ s o. ParsesText R.from_str_gives s.now o };
 
     fn parse_to(&self) -> Option<R> {
@@ -34,10 +64,7 @@ where
     }
 }
 
-impl<'a, R: FromStr> ParseTo<R> for &'a [u8]
-where
-    R::Err: Drop,
-{
+impl<'a, R: ReadFromText> ParseTo<R> for &'a [u8] {
     ghost parses = { λ s o. ParsesBytes R.from_str_gives s.now o };
 
     fn parse_to(&self) -> Option<R> {

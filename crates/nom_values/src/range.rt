@@ -68,7 +68,7 @@ impl NomRange<usize> for Range<usize> {
     #[inline(always)]
     fn bounds(&self) -> (Bound<usize>, Bound<usize>) {
         (
-            Bound::Included(prove_known(self.start)),
+            Bound::Included(known(self.start)),
             Bound::Excluded(self.end),
         )
     }
@@ -142,7 +142,7 @@ impl NomRange<usize> for RangeFrom<usize> {
 
     #[inline(always)]
     fn bounds(&self) -> (Bound<usize>, Bound<usize>) {
-        (Bound::Included(prove_known(self.start)), Bound::Unbounded)
+        (Bound::Included(known(self.start)), Bound::Unbounded)
     }
 
     #[inline(always)]
@@ -341,7 +341,7 @@ fn through(range: &RangeInclusive<usize>) -> Range<usize>
 
 /// Returns `n` unchanged. A number behind a reference isn't known to fit.
 #[inline(always)]
-fn prove_known(n: usize) -> usize
+fn known(n: usize) -> usize
     ensures same { result ≡ n }
     ensures fits { n < 2 ^ 64 }
 {

@@ -28,7 +28,7 @@ impl<'a, 'b, E: ParseError<&'a [u8]>> Writer<&'a [u8]> for Tag<&'b [u8], &'a [u8
     #[inline(always)]
     fn write<S: Sink<u8>>(&self, value: &&'a [u8], out: &mut S) -> Result<(), WriteError> {
         let data = *value;
-        data.prove_known();
+        data.known();
         if data == self.tag {
             out.add(self.tag)
         } else {
@@ -68,7 +68,7 @@ impl<I: Unmarked, E: ParseError<I>> Writer<I> for Take<I, E> {
 
     #[inline(always)]
     fn write<S: Sink<I::Item>>(&self, value: &I, out: &mut S) -> Result<(), WriteError> {
-        (*value).prove_known();
+        (*value).known();
         if value.count_items() == self.count {
             value.add_to(out)
         } else {

@@ -112,7 +112,7 @@ impl<I: Unmarked, F: Writer<I, Output: OfSize> + Drop> Writer<I> for LengthData<
 
     #[inline(always)]
     fn write<S: Sink<I::Item>>(&self, value: &I, out: &mut S) -> Result<(), WriteError> {
-        (*value).prove_known();
+        (*value).known();
         InTurn(
             SizeOf::<I, F>(&self.parser, value.count_items(), PhantomData),
             AllItems(*value),

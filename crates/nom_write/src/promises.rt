@@ -30,6 +30,6 @@ pub fn parse_back<I: Items, P: Writer<I>>(
     ensures back { (v : P.Output) (xs rest : List I.Item) → P.Form parser.old v xs → I.model.elements input ≡ xs ++ rest → P.Follow parser.old rest →
         IsReadBack I.model P.Output.view (P.Pins parser.old) (P.grammar (P.state parser.old)) v xs rest input result }
 {
-    input.prove_known();
+    input.known();
     parser.parse(input)
 }

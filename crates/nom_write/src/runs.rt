@@ -34,7 +34,7 @@ fn is_run<I: Unmarked, P: Predicate<I::Item>>(
     ensures { MatchBool result (IsRunForm I.model (P.answers (P.state predicate.now)) least most value (I.model.elements value))
         (IsNoRun I.model (P.answers (P.state predicate.now)) least most value) }
 {
-    value.prove_known();
+    value.known();
     let count = value.count_items();
     if count < least {
         return false;

@@ -1,5 +1,5 @@
 //! Values that are written to slices.
-ghost use Rattle.std.specs.Prelude.{◌≤◌, ℕ, IfErr, IfOk, length, take};
+ghost use Rattle.std.specs.Prelude.{◌≡◌, ◌≤◌, ℕ, IfErr, IfOk, length, take};
 ghost use Rattle.nom_sink.specs.Written.Lack.{OfSpace};
 
 use crate::piece::OneValue;
@@ -20,6 +20,7 @@ where
     I::Item: Copy,
     requires { P.CanWrite parser.now }
     ensures written { IfOk result (λ n. (n ≤ length buffer.new) × P.Form parser.now value.now (take n buffer.new)) }
+    ensures length { length buffer.new ≡ length buffer.old }
     ensures fails { IfErr result (λ e. (room : ℕ) × (length buffer.old ≤ room) ×
         P.Fails parser.now value.now (record { lack = OfSpace; room = room; start = 0 }) e) }
 {

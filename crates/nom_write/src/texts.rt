@@ -40,7 +40,7 @@ impl<'a, 'b, E: ParseError<&'a str>> Writer<&'a str> for Tag<&'b str, &'a str, E
     #[inline]
     fn write<S: Sink<char>>(&self, value: &&'a str, out: &mut S) -> Result<(), WriteError> {
         let text = *value;
-        text.prove_known();
+        text.known();
         if text == self.tag {
             write_tag(self.tag, out)
         } else {

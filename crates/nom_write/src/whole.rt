@@ -27,7 +27,7 @@ pub fn parse_whole_back<I: Input, P: Writer<I> + Drop>(
         IsReadBack I.model P.Output.view (P.Pins parser.old.parser) (all_consuming_of I.model P.Error.errors
         (P.grammar (P.state parser.old.parser))) v xs [] input result }
 {
-    input.prove_known();
+    input.known();
     parser.parse_complete(input)
 }
 
@@ -46,6 +46,6 @@ pub fn parse_end_back<I: Input, P: Ending<I> + Drop>(
         IsReadBack I.model P.Output.view (P.Pins parser.old.parser) (all_consuming_of I.model P.Error.errors
         (P.grammar (P.state parser.old.parser))) v xs [] input result }
 {
-    input.prove_known();
+    input.known();
     parser.parse_complete(input)
 }

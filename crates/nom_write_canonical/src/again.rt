@@ -48,10 +48,10 @@ pub fn write_back<I: Items<Item = u8>, P: Canonical<I>, S: ByteSink>(
     ensures room { S.model.room out.old ≤ S.model.room out.new }
     ensures loan { S.model.loan out.new ≡ S.model.loan out.old }
 {
-    input.prove_known();
+    input.known();
     match parser.write(value, out) {
         Ok(()) => {
-            out.as_bytes().prove_known();
+            out.as_bytes().known();
             Ok(())
         }
         Err(error) => Err(error),

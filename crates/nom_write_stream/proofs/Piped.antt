@@ -177,7 +177,7 @@ module _ {V O : Type 0} (view : View O) (Pins : Type 0) (g : Grammar Bytes V O (
       answer_tells r (AtEnd f n k h) =
           let a = lacks g (held_of u.held) (held_of u.held) n k in
           absurd (not_needed v xs item k.input k.known rest (all_there k.input k.known k.is_held f) a.0 a.1)
-      answer_tells r (Full m b w s) =
+      answer_tells r (Full f m b w s) =
           let k = w.1 in
           let a = lacks g (held_of u.held) (held_of u.held) w.0 k in
           let few = fewer v xs item k.input k.known after rest (whole k.input k.known k.is_held) a.0 a.1 in
@@ -224,7 +224,7 @@ module _ {V O : Type 0} (view : View O) (Pins : Type 0) (g : Grammar Bytes V O (
       ending_tells : (r : ItemResult O) → Answers g u t r → TellsEnd r
       ending_tells r (Decided taken d k l s) = told_end k.input k.known k.is_held taken d (told g (held_of u.held) (held_of t.held) taken k) r s
       ending_tells r (AtEnd f n k h) = end_tells n r h
-      ending_tells r (Full m b w s) = subst TellsEnd (sym s) (omega (arith, m, ap length none, item.some, item.fits), b ∙ none)
+      ending_tells r (Full f m b w s) = subst TellsEnd (sym s) (omega (arith, m, ap length none, item.some, item.fits), b ∙ none)
       ending_tells r (Faulted why b w s) = subst TellsEnd (sym s) (b ∙ none)
       ending_tells r (Lacking l b w s) = subst TellsEnd (sym s) (b ∙ none)
 

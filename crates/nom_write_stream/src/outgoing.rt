@@ -114,7 +114,7 @@ impl<W: Write, A: Allocator> Outgoing<W, A> {
                     return Err(Unwritten::Nothing);
                 }
                 // It tells that they are bytes.
-                self.held.bytes.as_slice().prove_known();
+                self.held.bytes.as_slice().known();
                 Ok(true)
             }
             Err(error) => match why_of(error, start) {

@@ -99,6 +99,7 @@ impl<W: Write> Target<W> {
     pub fn flush(&mut self) -> io::Result<()>
         ensures bytes { Keeps (W.contents self.old.inner) (W.contents self.new.inner) }
         ensures counts { CountsCalls self.old.faults self.new.faults result }
+        ensures interruptions { self.new.faults.interruptions ≡ self.old.faults.interruptions }
         ensures flushes { self.new.flushes ≡ one_more self.old.flushes }
     {
         self.flushes = self.flushes.saturating_add(1);

@@ -18,4 +18,4 @@ returns g c =
     let same = by_its_parts (λ h. IsGrown bytes_model h.IsOutput h.meaning c.args.bytes c.args.cuts.now grown.index grown.result
     × HasNoFailure bytes_model h.meaning) _ _ begins count (c.parse_growing-grown.ensures.grown, c.parse_growing-grown.ensures.failures) in
     on_ok _ _ c.tell.result (λ r t. reported_record c.args.bytes c.args.cuts.now grown.index _ c.beginning_len-beginning.ensures.at_cut
-    c.beginning_len-beginning.ensures.at_end c.prove_known.ensures grown.result _ _ same t) c.tell.ensures
+    c.beginning_len-beginning.ensures.at_end c.known.ensures grown.result _ _ same t) c.tell.ensures

@@ -14,8 +14,8 @@ use Rattle.nom_repeat.specs.declared.items.TooFew.TheVariants.{Fresh}
 pub number_pinned : {V : Type 0} → IsPinned itself (IsNumber {V = V})
 number_pinned = record { one_view = λ t a b p q. p ∙ sym q }
 
-pub counted_pinned : {V : Type 0} → IsPinned itself (IsCounted {V = V})
-counted_pinned = record { one_view = λ t a b p q. p ∙ sym q }
+pub counted_pinned : {V IsSound : Type 0} → IsPinned itself (IsCounted {V = V} IsSound)
+counted_pinned = record { one_view = λ t a b p q. p.1 ∙ sym q.1 }
 
 module _ {I A V E : Type 0} {w : Model I A} (l : InputLaws w) (errs : Errors I E) {m : Meaning I V E} where
   pub many0_count_lawful : IsLawful w m → IsLawful w (many0_count_meaning w errs m)

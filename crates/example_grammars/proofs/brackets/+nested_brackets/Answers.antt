@@ -2,7 +2,7 @@ use Rattle.example_grammars.proofs.Nested.{char_taken, char_missed, inner_taken,
 use Rattle.example_grammars.proofs.brackets.+nested_brackets.Goals as goal
 
 pub returns-in-Err : goal.returns-in-Err
-returns-in-Err t c = nested_none c.prove_known.ensures (char_missed _ 40 c.char-open.ensures c.in-Err.ensures.shown)
+returns-in-Err t c = nested_none c.known.ensures (char_missed _ 40 c.char-open.ensures c.in-Err.ensures.shown)
 
 pub returns-in_err-after-in-Ok : goal.returns-in_err-after-in-Ok
 returns-in_err-after-in-Ok t c =

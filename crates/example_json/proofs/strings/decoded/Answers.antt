@@ -12,7 +12,7 @@ returns-in_err-rest-clause-lent g c = absurd (never_stops refl c.in_err-rest.ens
 
 pub returns-then-is_empty-clause-shown : goal.returns-then-is_empty-clause-shown
 returns-then-is_empty-clause-shown g c =
-    borrowed _ _ _ _ c.prove_known.ensures c.prove_known-then-is_empty.ensures (none_left _ _ c.is_empty.ensures c.if-is_empty.true)
+    borrowed _ _ _ _ c.known.ensures c.known-then-is_empty.ensures (none_left _ _ c.is_empty.ensures c.if-is_empty.true)
     (taken refl c.in_ok-rest.ensures.shown)
 
 pub returns-in_err-rest-2-clause-shown : goal.returns-in_err-rest-2-clause-shown

@@ -46,25 +46,25 @@ value-returns t c =
 pub elements-returns-then-is_refused : goal.elements-returns-then-is_refused
 elements-returns-then-is_refused t c =
     let g = value_of c.args.depth in
-    let known = c.prove_known.ensures in
+    let known = c.known.ensures in
     ended g (none_yet g _ known) (first_item g _ _ c.value-answer.ensures) (sym c.if-is_refused.true ∙ c.is_refused.ensures)
     (none_held g _ c.new-list.ensures.items) refl
 
 pub elements-returns-in_err-rest : goal.elements-returns-in_err-rest
 elements-returns-in_err-rest t c =
     let g = value_of c.args.depth in
-    stopped g (none_yet g _ c.prove_known.ensures) (first_item g _ _ c.value-answer.ensures) c.in_err-rest.was (err_from_residual c.from_residual.ensures)
+    stopped g (none_yet g _ c.known.ensures) (first_item g _ _ c.value-answer.ensures) c.in_err-rest.was (err_from_residual c.from_residual.ensures)
     (sym c.if-is_refused.false ∙ c.is_refused.ensures)
 
 pub elements-returns-then-is_err : goal.elements-returns-then-is_err
 elements-returns-then-is_err t c =
     let g = value_of c.args.depth in
-    lacking g (none_yet g _ c.prove_known.ensures) (first_item g _ _ c.value-answer.ensures) c.in_ok-rest.was refl
+    lacking g (none_yet g _ c.known.ensures) (first_item g _ _ c.value-answer.ensures) c.in_ok-rest.was refl
 
 pub elements-loop-alloc-init : goal.elements-loop-alloc-init
 elements-loop-alloc-init t c =
     let g = value_of c.args.depth in
-    let known = c.prove_known.ensures in
+    let known = c.known.ensures in
     kept g (none_yet g _ known) (first_item g _ _ c.value-answer.ensures) c.in_ok-rest.was _ _ (none_held g _ c.new-list.ensures.items)
     (grown c.push.result _ _ _ c.push.ensures.items (sym c.is_err.ensures.value ∙ c.if-is_err.false))
 
@@ -103,25 +103,25 @@ elements-loop-alloc-preserved t c =
 pub members-returns-then-is_refused : goal.members-returns-then-is_refused
 members-returns-then-is_refused t c =
     let g = member_of (value_of c.args.depth) in
-    let known = c.prove_known.ensures in
+    let known = c.known.ensures in
     ended g (none_yet g _ known) (first_item g _ _ c.member-answer.ensures) (sym c.if-is_refused.true ∙ c.is_refused.ensures)
     (none_held g _ c.new-list.ensures.items) refl
 
 pub members-returns-in_err-rest : goal.members-returns-in_err-rest
 members-returns-in_err-rest t c =
     let g = member_of (value_of c.args.depth) in
-    stopped g (none_yet g _ c.prove_known.ensures) (first_item g _ _ c.member-answer.ensures) c.in_err-rest.was (err_from_residual c.from_residual.ensures)
+    stopped g (none_yet g _ c.known.ensures) (first_item g _ _ c.member-answer.ensures) c.in_err-rest.was (err_from_residual c.from_residual.ensures)
     (sym c.if-is_refused.false ∙ c.is_refused.ensures)
 
 pub members-returns-then-is_err : goal.members-returns-then-is_err
 members-returns-then-is_err t c =
     let g = member_of (value_of c.args.depth) in
-    lacking g (none_yet g _ c.prove_known.ensures) (first_item g _ _ c.member-answer.ensures) c.in_ok-rest.was refl
+    lacking g (none_yet g _ c.known.ensures) (first_item g _ _ c.member-answer.ensures) c.in_ok-rest.was refl
 
 pub members-loop-alloc-init : goal.members-loop-alloc-init
 members-loop-alloc-init t c =
     let g = member_of (value_of c.args.depth) in
-    let known = c.prove_known.ensures in
+    let known = c.known.ensures in
     kept g (none_yet g _ known) (first_item g _ _ c.member-answer.ensures) c.in_ok-rest.was _ _ (none_held g _ c.new-list.ensures.items)
     (grown c.push.result _ _ _ c.push.ensures.items (sym c.is_err.ensures.value ∙ c.if-is_err.false))
 

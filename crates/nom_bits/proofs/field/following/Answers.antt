@@ -10,7 +10,7 @@ returns-then-input_len-eq0 g c =
 
 pub returns-else-end-gt0 : goal.returns-else-end-gt0
 returns-else-end-gt0 g c = (
-  passed g.I.Items.model g.met.I.Items.lawful g.met.I.Items.values c.args.start.0 c.args.start.1 c.args.count c.in-Some.rest c.prove_known.ensures
+  passed g.I.Items.model g.met.I.Items.lawful g.met.I.Items.values c.args.start.0 c.args.start.1 c.args.count c.in-Some.rest c.known.ensures
       c.in-Some.ensures
       (λ h e. elim c.else-end-gt0.branch [
         | else-end-gt0-via-then-end-gt0+else-input_len-eq0 w ↦ w.if-input_len-eq0.false (omega (arith, w.input_len.ensures, e))

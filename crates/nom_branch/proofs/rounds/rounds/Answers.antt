@@ -31,7 +31,7 @@ loop-slots-init g c =
     let st = g.N.Nested.state c.args.members.now in
     record {
       kept = refl;
-      known = c.prove_known.ensures;
+      known = c.known.ensures;
       reached = (
         g.N.Nested.none,
         c.slots-slots.ensures.held g.OM.Output.Mode.BUILDS st,

@@ -7,12 +7,12 @@ use Rattle.nom_bytes.proofs.leaf.answer.Goals as goal
 pub returns-in-Ok : goal.returns-in-Ok
 returns-in-Ok g c ignores h =
     let laws = comparing_by g.met.I.Compare.comparing g.met.I.Compare.comparing_no_case ignores in
-    tag_found _ g.E.ParseError.errors _ _ laws _ _ _ c.prove_known.ensures _ _ _ c.tag_len-n.ensures (rw (c.in-Ok.is) at h) c.take_from.ensures c.front.ensures
+    tag_found _ g.E.ParseError.errors _ _ laws _ _ _ c.known.ensures _ _ _ c.tag_len-n.ensures (rw (c.in-Ok.is) at h) c.take_from.ensures c.front.ensures
 
 pub returns-in-Incomplete : goal.returns-in-Incomplete
 returns-in-Incomplete g c ignores h =
     let laws = comparing_by g.met.I.Compare.comparing g.met.I.Compare.comparing_no_case ignores in
-    tag_begun _ g.E.ParseError.errors _ _ laws _ _ _ c.prove_known.ensures _ _ _ (sym c.STREAMING.ensures ∙ c.if-STREAMING.true) c.tag_len.ensures
+    tag_begun _ g.E.ParseError.errors _ _ laws _ _ _ c.known.ensures _ _ _ (sym c.STREAMING.ensures ∙ c.if-STREAMING.true) c.tag_len.ensures
     c.input_len.ensures (rw (c.in-Incomplete.is) at h) c.new.ensures.some
 
 pub returns-in-Incomplete-2 : goal.returns-in-Incomplete-2
@@ -26,6 +26,6 @@ overflow_sub-n g c =
     let laws = comparing_by g.met.I.Compare.comparing g.met.I.Compare.comparing_no_case c.requires.0 in
     omega (
       arith,
-      tag_longer _ g.E.ParseError.errors _ _ laws _ (modes true true true) _ c.prove_known.ensures _ _ c.tag_len.ensures c.input_len.ensures
+      tag_longer _ g.E.ParseError.errors _ _ laws _ (modes true true true) _ c.known.ensures _ _ c.tag_len.ensures c.input_len.ensures
           (rw (c.in-Incomplete.is) at c.requires.1),
     )

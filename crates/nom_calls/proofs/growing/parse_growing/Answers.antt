@@ -11,7 +11,7 @@ in_whole-result-requires-clause-rests g c = rest_shown c.parse-answer.ensures.sh
 pub returns-then-not-waits-clause-grown : goal.returns-then-not-waits-clause-grown
 returns-then-not-waits-clause-grown g c =
     grown_at g.I.Items.model _ (g.P.Parser.grammar (g.P.Parser.state c.args.parser)).meaning
-    (g.met.P.Parser.lawful _ c.requires.sound) c.args.whole c.prove_known.ensures c.args.cuts.now _ c.loop-index.invariant.waited
+    (g.met.P.Parser.lawful _ c.requires.sound) c.args.whole c.known.ensures c.args.cuts.now _ c.loop-index.invariant.waited
     g.met.I.Input.more (g.met.P.StreamParser.steady _ c.requires.sound) c.loop-index-test.true _ c.take-beginning.ensures _ _ c.if-not-waits.ensures
     c.in_whole-result.ensures
     (shown_along g.I.Items.model g.P.Parser.grammar _ _ _ _ c.loop-index.invariant.kept c.parse-answer.ensures.shown)
@@ -34,7 +34,7 @@ loop-index-preserved g c = record {
 pub returns-clause-grown : goal.returns-clause-grown
 returns-clause-grown g c =
     grown_whole g.I.Items.model _ (g.P.Parser.grammar (g.P.Parser.state c.args.parser)).meaning
-    (g.met.P.Parser.lawful _ c.requires.sound) c.args.whole c.prove_known.ensures c.args.cuts.now _ (λ k h. c.loop-index.invariant.waited k (omega arith)) _
+    (g.met.P.Parser.lawful _ c.requires.sound) c.args.whole c.known.ensures c.args.cuts.now _ (λ k h. c.loop-index.invariant.waited k (omega arith)) _
     refl
     (shown_along g.I.Items.model g.P.Parser.grammar _ _ _ _ c.loop-index.invariant.kept c.parse-result.ensures.shown)
 

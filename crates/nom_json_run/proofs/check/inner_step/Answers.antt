@@ -5,8 +5,8 @@ use Rattle.nom_json_run.proofs.Alike.{byte_passed, first_there, for_all}
 use Rattle.nom_json_run.proofs.Walks.{closing_on, comma_on, item_goes, item_stops, neither}
 use Rattle.nom_json_run.proofs.check.inner_step.Goals as goal
 
-pub returns-then-byte_is : goal.returns-then-byte_is
-returns-then-byte_is g c =
+pub returns-then-byte_is-clause-steps : goal.returns-then-byte_is-clause-steps
+returns-then-byte_is-clause-steps g c =
     let bytes = c.args.bytes.now in
     let o = c.args.bracket in
     let inner = reverse c.args.open.now.items in
@@ -21,8 +21,8 @@ returns-then-byte_is g c =
           closing_on o inner (drop at bs) (drop stop bs) p.0 p.1,
     )
 
-pub returns-then-not-byte_is : goal.returns-then-not-byte_is
-returns-then-not-byte_is g c =
+pub returns-then-not-byte_is-clause-steps : goal.returns-then-not-byte_is-clause-steps
+returns-then-not-byte_is-clause-steps g c =
     let bytes = c.args.bytes.now in
     let o = c.args.bracket in
     let inner = reverse c.args.open.now.items in
@@ -34,12 +34,13 @@ returns-then-not-byte_is g c =
     for_all bytes (λ i. ClosesAll (o ∷ inner) i → ⊥) at _ (record {
       begins = le;
       within = c.requires;
+      part = (comma, no);
       fails = λ bs s. neither o inner (drop at bs) (first_there (λ b. b == closing o) bytes bs at at false le s no)
           (first_there (λ b. b == 44) bytes bs at at false le s comma);
     })
 
-pub returns-in-Ok : goal.returns-in-Ok
-returns-in-Ok g c =
+pub returns-in-Ok-clause-steps : goal.returns-in-Ok-clause-steps
+returns-in-Ok-clause-steps g c =
     let bytes = c.args.bytes.now in
     let o = c.args.bracket in
     let inner = reverse c.args.open.now.items in
@@ -51,8 +52,8 @@ returns-in-Ok g c =
     let p = byte_passed 44 bytes at item.result item.ensures.begins e item.ensures.follows bs s in
     comma_on o inner (drop at bs) (drop item.result bs) p.0 p.1) c.in-Ok.ensures.ok
 
-pub returns-in-Err : goal.returns-in-Err
-returns-in-Err g c =
+pub returns-in-Err-clause-steps : goal.returns-in-Err-clause-steps
+returns-in-Err-clause-steps g c =
     let bytes = c.args.bytes.now in
     let o = c.args.bracket in
     let inner = reverse c.args.open.now.items in

@@ -15,6 +15,7 @@ returns-then-not-byte_is-clause-err c =
     record {
       begins = le;
       within = c.requires;
+      part = e;
       fails = λ bs s. member_no_name (drop at bs) (string_no (drop at bs) (first_there (λ b. b == 34) bytes bs at at false le s e));
     }
 
@@ -46,6 +47,7 @@ returns-else-byte_is-clause-err c =
     record {
       begins = found.begins;
       within = found.within;
+      part = e;
       fails = λ bs s. member_no_colon (drop at bs) (drop colon bs) (found.ends bs s) (first_there (λ b. b == 58) bytes bs colon colon false le s e);
     }
 

@@ -1,8 +1,8 @@
 use Rattle.std.proofs.Common.{◌≤◌, drop, arith}
 use Rattle.nom_json_run.specs.Json.{JsonValue, Leaves, Spaced, after_word}
 use Rattle.nom_json_run.specs.Scans.{EndsNowhere}
-use Rattle.nom_json_run.proofs.Alike.{ends_map, fails_for_map, spaced, word_there}
-use Rattle.nom_json_run.proofs.Values.{named_some, word_same}
+use Rattle.nom_json_run.proofs.Alike.{ends_map, spaced, word_missing, word_there}
+use Rattle.nom_json_run.proofs.Values.{named_some, named_within, word_same}
 use Rattle.nom_json_run.proofs.check.named.Goals as goal
 
 pub returns-in-Ok-clause-some : goal.returns-in-Ok-clause-some
@@ -23,9 +23,10 @@ pub returns-in-Err-clause-scans : goal.returns-in-Err-clause-scans
 returns-in-Err-clause-scans c =
     let bytes = c.args.bytes.now in
     let at = c.args.at in
-    let word = c.args.wanted.now in
+    let word = c.args.wanted in
     let here : at ≤ at = omega arith in
-    fails_for_map bytes (λ i. EndsNowhere (Leaves (after_word word) i)) (λ i. EndsNowhere (JsonValue i)) at at c.in-Err.fault here
+    let m = c.in-Err.ensures.missing in
+    word_missing bytes (λ i. EndsNowhere (JsonValue i)) at word c.in-Err.fault (named_within word.now bytes at c.requires) m.0 m.1 c.requires m.2
     (λ bs s none r v.
-    let f = (word_same word (drop at bs) (word_there bytes bs word at at here s c.requires) r).0 v in
-    none f.0 f.1) c.in-Err.ensures.scans
+    let f = (word_same word.now (drop at bs) (word_there bytes bs word.now at at here s c.requires) r).0 v in
+    cc (none, f.1))

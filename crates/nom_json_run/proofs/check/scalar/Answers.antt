@@ -1,6 +1,6 @@
 use Rattle.std.proofs.Common.{◌≡◌, ◌≤◌, ◌==◌, List, [], ◌∷◌, ℕ, true, false, drop, arith, refl}
 use Rattle.nom_json_run.specs.Json.{JsonString, JsonValue, begins, first_is}
-use Rattle.nom_json_run.specs.Walk.{is_mark}
+use Rattle.nom_json_run.specs.Parts.{is_mark}
 use Rattle.nom_json_run.proofs.Alike.{first_there, scans_for_all, scans_map}
 use Rattle.nom_json_run.proofs.Values.{text_same}
 use Rattle.nom_json_run.proofs.check.scalar.Goals as goal

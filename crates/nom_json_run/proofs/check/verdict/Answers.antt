@@ -22,6 +22,7 @@ returns-in-Stop g c =
     c.in_ok-stop.ensures in
     record {
       within = stopped.within;
+      part = stopped.part;
       here = λ v. stopped.here ((c.steps.invariant.same bytes refl).0 v);
       fails = λ bs s m v. stopped.fails bs s m ((c.steps.invariant.same bs (before bytes bs at fault.at stopped.begins s)).0 v);
     }

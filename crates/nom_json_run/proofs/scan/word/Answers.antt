@@ -1,4 +1,4 @@
-use Rattle.std.proofs.Common.{Ok, Err, arith}
+use Rattle.std.proofs.Common.{Ok, Err, arith, refl}
 use Rattle.nom_json_run.specs.Json.{Leaves, after_word}
 use Rattle.nom_json_run.proofs.Decisions.{decides_finds}
 use Rattle.nom_json_run.proofs.Grammars.{word_reads}
@@ -23,8 +23,8 @@ returns-in-Ok-clause-scans c =
     (all_after c.args.bytes.now c.args.start) c.word_of.ensures (Ok c.in-Ok.stop) c.in-Ok.ensures in
     found (Leaves (after_word c.args.wanted.now)) c.args.bytes.now c.args.start c.requires s.0 c.in-Ok.stop s.2 (decides_finds s.3)
 
-pub returns-in-Err-clause-scans : goal.returns-in-Err-clause-scans
-returns-in-Err-clause-scans c =
+pub returns-in-Err-clause-missing : goal.returns-in-Err-clause-missing
+returns-in-Err-clause-missing c =
     let s = stopped (word_reads c.args.wanted.now) c.args.bytes.now c.args.start (worded_within c.args.wanted.now) c.requires _ c.word_of.result
     (all_after c.args.bytes.now c.args.start) c.word_of.ensures (Err c.in-Err.field-0) c.in-Err.ensures in
-    record { begins = omega arith; within = c.requires; here = λ r e. cc (e, s.2.0); fails = λ bs b m r e. cc (e, m) }
+    (refl, refl, s.2.0)

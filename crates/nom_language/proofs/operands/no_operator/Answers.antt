@@ -10,7 +10,7 @@ returns-in-Ok-clause-shown g c =
 pub returns-in-Err-Error-clause-shown : goal.returns-in-Err-Error-clause-shown
 returns-in-Err-Error-clause-shown g c =
     not_refused _ g.met.I.Items.lawful _ (λ i. g.C.Error.ParseError.errors.of_kind i Kind.Precedence) g.C.Error.ParseError.errors.grows
-    (g.C.Parser.grammar (g.C.Parser.state c.args.binary.now)).meaning _ _ c.prove_known.ensures _ _ _ c.in-Err-Error.field-0-is
+    (g.C.Parser.grammar (g.C.Parser.state c.args.binary.now)).meaning _ _ c.known.ensures _ _ _ c.in-Err-Error.field-0-is
     c.in-Err-Error.ensures.shown c.built.ensures
 
 pub returns-in-Err-Incomplete-clause-shown : goal.returns-in-Err-Incomplete-clause-shown

@@ -27,4 +27,4 @@ returns g c =
     let answer = c.parse_growing.result.result in
     let both = by_its_parts (λ h. IsGrown bytes_model h.IsOutput h.meaning bytes cuts index answer × HasNoFailure bytes_model h.meaning) _ _ _ _
     _ _ ping text close end length number (c.parse_growing.ensures.grown, c.parse_growing.ensures.failures) in
-    (of_whole _ _ bytes cuts index c.prove_known.ensures answer both (search), both.0, both.1)
+    (of_whole _ _ bytes cuts index c.known.ensures answer both (search), both.0, both.1)

@@ -9,5 +9,5 @@ messages-grown-requires g c = byte_cuts_below c.args.bytes c.args.cuts.now c.req
 pub returns : goal.returns
 returns g c =
     on_ok _ _ c.tell.result (λ r t. reported_messages c.args.bytes c.args.cuts.now c.messages-grown.result.index _
-    c.beginning_len-beginning.ensures.at_cut c.beginning_len-beginning.ensures.at_end c.prove_known.ensures c.messages-grown.result.result _ _
+    c.beginning_len-beginning.ensures.at_cut c.beginning_len-beginning.ensures.at_end c.known.ensures c.messages-grown.result.result _ _
     c.messages-grown.ensures.1 c.messages-grown.ensures.2 t) c.tell.ensures

@@ -16,7 +16,7 @@ pub loop-count-init : goal.loop-count-init
 loop-count-init g c = record {
   state_kept = refl;
   length_kept = refl;
-  collected = collected_none g.met.I.Items.lawful c.prove_known.ensures (
+  collected = collected_none g.met.I.Items.lawful c.known.ensures (
     holds_none (g.F.Parser.grammar (g.F.Parser.state c.args.parser.now)).IsOutput
         _ _,
     refl,

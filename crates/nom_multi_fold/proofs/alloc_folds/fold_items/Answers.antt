@@ -12,7 +12,7 @@ use Rattle.nom_multi_fold.proofs.alloc_folds.fold_items.Goals as goal
 pub loop-next-init : goal.loop-next-init
 loop-next-init g c = record {
   state_kept = refl;
-  collected = collected_none g.met.I.Items.lawful c.prove_known.ensures (folds_none (g.F.Parser.grammar (g.F.Parser.state c.args.parser.now)).IsOutput
+  collected = collected_none g.met.I.Items.lawful c.known.ensures (folds_none (g.F.Parser.grammar (g.F.Parser.state c.args.parser.now)).IsOutput
       (IsPresent c.args.first) (λ r x q. g.G.Fn.post c.args.fold.now (r, (x, tt)) q) _ _ c.requires.begun);
 }
 

@@ -5,7 +5,7 @@ use Rattle.nom_number_text.proofs.WordShown.{found_none, found_all, found_lacks,
 use Rattle.nom_number_text.proofs.word.word_at.Goals as goal
 
 pub loop-k-init : goal.loop-k-init
-loop-k-init g c = found_none g.I.Items.model g.I.Item.Value.code c.args.word.now c.args.input g.met.I.Items.lawful c.prove_known.ensures
+loop-k-init g c = found_none g.I.Items.model g.I.Item.Value.code c.args.word.now c.args.input g.met.I.Items.lawful c.known.ensures
 
 pub take_from-rest-requires : goal.take_from-rest-requires
 take_from-rest-requires g c = head_place g.I.Items.model c.loop-k.rest c.in-Some.item c.item_len.result c.in-Some.ensures c.item_len.ensures

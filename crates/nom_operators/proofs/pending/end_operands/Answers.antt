@@ -1,4 +1,4 @@
-use Rattle.std.proofs.Common.{arith, rules, ◌≡◌, ◌∙◌, true, subst}
+use Rattle.std.proofs.Common.{arith, rules, ◌≡◌, true, subst}
 use Rattle.nom_operators.specs.OperatorTrees.{ends_operand}
 use Rattle.nom_operators.specs.helpers.Pending.{IsEnding}
 use Rattle.nom_operators.specs.Steps.{waiting}
@@ -14,7 +14,6 @@ loop-innermost-preserved g c =
           c.loop-innermost.innermost next.result c.loop-innermost.outer.items next.new.outer.items c.in-Some.pending c.loop-innermost.value
           c.fold_pending-value.result c.in-Some.is (c.loop-innermost.invariant.ended ss h) (search rules) c.fold_pending-value.ensures next.ensures.next;
       nested = next.ensures.nested;
-      capacity = (next.ensures.room).0 ∙ c.loop-innermost.invariant.capacity;
       fewer = omega (
         arith,
         fewer_wait c.loop-innermost.innermost next.result c.loop-innermost.outer.items next.new.outer.items c.in-Some.pending c.in-Some.is

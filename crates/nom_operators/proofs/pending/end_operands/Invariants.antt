@@ -1,4 +1,4 @@
-use Rattle.std.proofs.Common.{◌≡◌, ◌≤◌, List, length, vec_capacity}
+use Rattle.std.proofs.Common.{◌≤◌, List, length}
 use Rattle.nom_operators.specs.OperatorTrees.{Symbol}
 use Rattle.nom_operators.specs.helpers.Pending.{IsEnding}
 use Rattle.nom_operators.specs.Steps.{HasOutermost, waiting}
@@ -12,7 +12,6 @@ invariant-loop-innermost g l = record {
       IsEnding (λ x. g.G.Fn.post l.fold (x, tt)) l.precedence l.from_left ss (waiting l.fn.innermost l.fn.outer.items) l.fn.value →
       IsEnding (λ x. g.G.Fn.post l.fold (x, tt)) l.precedence l.from_left ss (waiting l.innermost l.outer.items) l.value;
   nested : HasOutermost l.innermost l.outer.items;
-  capacity : vec_capacity l.outer ≡ vec_capacity l.fn.outer;
   fewer : length (waiting l.innermost l.outer.items) ≤ length (waiting l.fn.innermost l.fn.outer.items);
 }
 

@@ -10,7 +10,7 @@ use Rattle.nom_precedence.proofs.pairs.pairs.Goals as goal
 pub loop-next-init : goal.loop-next-init
 loop-next-init g c = record {
   kept = record { prefix = refl; operand = refl; postfix = refl; binary = refl };
-  collected = collected_none g.met.I.Items.lawful c.prove_known.ensures
+  collected = collected_none g.met.I.Items.lawful c.known.ensures
       (run_none _ _ _ _ _ _ _ _ _ _ c.new-outer.ensures.items c.requires.before c.begun-held.ensures);
 }
 

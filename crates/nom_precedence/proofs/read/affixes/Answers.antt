@@ -10,7 +10,7 @@ use Rattle.nom_precedence.proofs.read.affixes.Goals as goal
 pub loop-next-init : goal.loop-next-init
 loop-next-init g c = record {
   state_kept = refl;
-  collected = collected_none g.met.I.Items.lawful c.prove_known.ensures (kept_none _ _ _ _ _ c.requires.before);
+  collected = collected_none g.met.I.Items.lawful c.known.ensures (kept_none _ _ _ _ _ c.requires.before);
 }
 
 pub push_item-requires-clause-kept : goal.push_item-requires-clause-kept
@@ -28,11 +28,11 @@ returns-then-input_len-clause-shown g c =
 pub returns-in_err-push_item-in-Ok-clause-shown : goal.returns-in_err-push_item-in-Ok-clause-shown
 returns-in_err-push_item-in-Ok-clause-shown g c =
     let i = c.loop-next.invariant in
-    let full = c.in_err-push_item-in-Ok.ensures.full in
+    let lacks = c.in_err-push_item-in-Ok.ensures.lacks in
     rw (err_from_residual c.from_residual.ensures)
     (chain_lacks_room i.collected (whole_item (shown_at g.F.Parser.grammar i.state_kept c.in-Ok.ensures.shown))
-    c.input_len.ensures c.input_len-in-Ok.ensures c.if-input_len.false (room_built _ _ _ _ i.collected.held full)
-    (room_grows g.K.Accumulator.IsFull g.K.Accumulator.Grows g.K.Accumulator.fills _ full))
+    c.input_len.ensures c.input_len-in-Ok.ensures c.if-input_len.false (room_built _ _ _ _ _ _ i.collected.held lacks)
+    (room_grows g.K.Accumulator.LacksRoom g.K.Accumulator.Grows g.K.Accumulator.lacking _ _ _ lacks))
 
 pub loop-next-smaller : goal.loop-next-smaller
 loop-next-smaller g c =

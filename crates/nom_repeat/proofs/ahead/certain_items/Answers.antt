@@ -14,7 +14,7 @@ use Rattle.nom_repeat.proofs.ahead.certain_items.Goals as goal
 pub loop-done-init : goal.loop-done-init
 loop-done-init g c = record {
   state_kept = refl;
-  collected = λ b h. collected_none g.met.I.Items.lawful c.prove_known.ensures
+  collected = λ b h. collected_none g.met.I.Items.lawful c.known.ensures
       (kept_none g.K.Accumulator.Pushes g.K.Accumulator.CanPush (g.F.Parser.grammar (g.F.Parser.state c.args.parser.now)).IsOutput _ _ c.requires.built, refl);
   certain = subst (λ z. AreCertain g.I.Items.model (g.F.Parser.grammar (g.F.Parser.state c.args.parser.now)).meaning z c.args.input) (omega arith)
       c.requires.certain;

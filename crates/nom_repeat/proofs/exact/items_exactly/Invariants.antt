@@ -4,6 +4,7 @@ use Rattle.nom_repeat.specs.Repeat.{TurnsBy}
 use Rattle.nom_repeat.specs.Items.{item_turn}
 use Rattle.nom_repeat.specs.Bounds.{exact_limits}
 use Rattle.nom_repeat.specs.Accumulated.{Accumulated}
+use Rattle.nom_repeat.specs.Lists.{ListPushes}
 use Rattle.nom_repeat.proofs.Repeated.{Collected}
 use Rattle.nom_repeat.proofs.exact.items_exactly.Given as goal
 
@@ -13,7 +14,7 @@ invariant-loop-done g l = record {
   collected : Collected g.I.Items.model
       (TurnsBy (Some l.fn.count) (item_turn (exact_limits l.fn.count)) (λ _. (g.F.Parser.grammar (g.F.Parser.state l.fn.parser)).meaning.answers
       g.OM.Incomplete.IsStreaming.STREAMING))
-      (λ vs. Built g.OM.Output.Mode.BUILDS (Accumulated g.K.Accumulator.Pushes g.K.Accumulator.CanPush
+      (λ vs. Built g.OM.Output.Mode.BUILDS (Accumulated ListPushes (λ _. Unit {0})
       (g.F.Parser.grammar (g.F.Parser.state l.fn.parser)).IsOutput
       l.fn.before vs)
       l.kept × (l.done ≡ length vs))

@@ -46,11 +46,12 @@ returns-in_err-push_item-in-None-clause-shown g c =
     let part = part_at g.F.Parser.grammar c.requires.errors i.state_kept c.in-Ok.ensures.shown in
     let is_below = below _ _ _ i.collected.held.1 (c.is_full.ensures.below c.if-is_full.false) in
     let item = accepts part in
-    let full = c.in_err-push_item-in-None.ensures.full in
+    let lacks = c.in_err-push_item-in-None.ensures.lacks in
     rw (err_from_residual c.from_residual.ensures) (
     items_lack_room g.F.Error.ParseError.errors c.args.limits g.K.Accumulator.Grows (g.F.Parser.grammar (g.F.Parser.state c.args.parser.now)).meaning
     i.collected is_below item (moves item.rest_is c.input_len.ensures c.input_len-in-Ok.ensures c.in-None.ensures)
-    (room_built g.K.Accumulator.IsFull _ _ _ i.collected.held.0 full) (room_grows g.K.Accumulator.IsFull g.K.Accumulator.Grows g.K.Accumulator.fills _ full))
+    (room_built g.K.Accumulator.LacksRoom _ _ _ _ _ i.collected.held.0 lacks)
+    (room_grows g.K.Accumulator.LacksRoom g.K.Accumulator.Grows g.K.Accumulator.lacking _ _ _ lacks))
 
 pub loop-input-smaller : goal.loop-input-smaller
 loop-input-smaller g c =

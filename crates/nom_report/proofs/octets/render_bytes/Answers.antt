@@ -31,9 +31,9 @@ returns g c =
     c.place-start.ensures
     ∙ ap (λ cs. string_bytes c.add_octets_quote.new.out ++ octets_contexts source start cs) c.inside.ensures) in
     let last : string_bytes c.add_more.new.out ≡ string_bytes c.add_octets_contexts.new.out ++ more_text error.inside.more =
-    c.in_ok-add_more.ensures ∙ ap (λ m. string_bytes c.add_octets_contexts.new.out ++ more_text m) c.has_more_inside.ensures in
+    c.in_ok-add_more.ensures.added ∙ ap (λ m. string_bytes c.add_octets_contexts.new.out ++ more_text m) c.has_more_inside.ensures in
     seven (string_bytes c.args.out.now) (string_bytes c.add_all_expected.new.out) (string_bytes c.add_name.new.out) (string_bytes c.add_number.new.out)
     (string_bytes c.add_end.new.out) (string_bytes c.add_octets_quote.new.out) (string_bytes c.add_octets_contexts.new.out) (string_bytes c.add_more.new.out)
     (all_expected_text wanted error.expected.more) (name_text c.args.name.now) (decimal at) (codes "\n") (octets_quote source at)
     (octets_contexts source start (around error.inside)) (more_text error.inside.more)
-    first c.in_ok-add_name.ensures third c.in_ok-add_end.ensures fifth sixth last
+    first c.in_ok-add_name.ensures.added third c.in_ok-add_end.ensures.added fifth sixth last

@@ -20,7 +20,7 @@ returns g c =
     c.in_ok-add_all_expected.ensures ∙ (ap (λ its. string_bytes c.args.out.now ++ all_expected_text its c.has_more_expected.result) c.expected.ensures
     ∙ ap (λ m. string_bytes c.args.out.now ++ all_expected_text wanted m) c.has_more_expected.ensures) in
     let last : string_bytes c.add_more.new.out ≡ string_bytes c.add_contexts.new.out ++ more_text error.inside.more =
-    c.in_ok-add_more.ensures ∙ ap (λ m. string_bytes c.add_contexts.new.out ++ more_text m) c.has_more_inside.ensures in (
+    c.in_ok-add_more.ensures.added ∙ ap (λ m. string_bytes c.add_contexts.new.out ++ more_text m) c.has_more_inside.ensures in (
       all_expected_text wanted error.expected.more ++ name_text c.args.name.now ++ at.0 ++ codes "\n" ++ quote.0 ++ contexts.0 ++ more_text error.inside.more,
       record {
         before = c.cut.result.0.now;
@@ -37,5 +37,5 @@ returns g c =
       seven (string_bytes c.args.out.now) (string_bytes c.add_all_expected.new.out) (string_bytes c.add_name.new.out) (string_bytes c.add_place.new.out)
           (string_bytes c.add_end.new.out) (string_bytes c.add_quote.new.out) (string_bytes c.add_contexts.new.out) (string_bytes c.add_more.new.out)
           (all_expected_text wanted error.expected.more) (name_text c.args.name.now) at.0 (codes "\n") quote.0 contexts.0 (more_text error.inside.more)
-          first c.in_ok-add_name.ensures at.2 c.in_ok-add_end.ensures quote.2 contexts.2 last,
+          first c.in_ok-add_name.ensures.added at.2 c.in_ok-add_end.ensures.added quote.2 contexts.2 last,
     )

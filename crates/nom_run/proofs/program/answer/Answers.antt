@@ -6,21 +6,19 @@ use Rattle.nom_run.proofs.program.answer.Goals as goal
 pub returns-clause-status : goal.returns-clause-status
 returns-clause-status g c =
     let cuts = c.as_slice-cuts.result.now in
-    let asks = subst (λ z. Asks (map string_bytes c.args.words.now) (string_bytes c.in-Ok.task.file) z)
+    let asks = subst (λ z. Asks (map string_bytes c.args.words.now) c.in-Ok.task.file.now z)
     (sym c.as_slice-cuts.ensures.value) c.in-Ok.ensures.task in
-    let file = subst (λ z. g.F.Folder.is_file c.args.folder.now z c.in-Ok-open.source) c.as_str-name.ensures.value c.in-Ok-open.ensures.file in
     on_report g.F.Folder.is_file g.F.File.Source.account (map string_bytes c.args.words.now) g.F.Folder.missed
-    c.args.folder.now c.open.new.self g.R.Report.is_report cuts asks.others.ordered c.in-Ok-open.source c.run.new.source
-    (record { name = string_bytes c.in-Ok.task.file; asks = asks; file = file; none = c.in-Ok-open.ensures.counts })
+    c.args.folder.now c.open.new.self (g.R.Report.is_report c.args.report.now) cuts asks.others.ordered c.in-Ok-open.source c.run.new.source
+    (record { name = c.in-Ok.task.file.now; asks = asks; file = c.in-Ok-open.ensures.file; none = c.in-Ok-open.ensures.counts })
     _ _ c.run.result c.run.ensures.status
 
 pub returns-clause-error : goal.returns-clause-error
 returns-clause-error g c =
     let cuts = c.as_slice-cuts.result.now in
-    let asks = subst (λ z. Asks (map string_bytes c.args.words.now) (string_bytes c.in-Ok.task.file) z)
+    let asks = subst (λ z. Asks (map string_bytes c.args.words.now) c.in-Ok.task.file.now z)
     (sym c.as_slice-cuts.ensures.value) c.in-Ok.ensures.task in
-    let file = subst (λ z. g.F.Folder.is_file c.args.folder.now z c.in-Ok-open.source) c.as_str-name.ensures.value c.in-Ok-open.ensures.file in
     on_run g.F.Folder.is_file g.F.File.Source.account (map string_bytes c.args.words.now) g.F.Folder.missed
-    c.args.folder.now c.open.new.self g.R.Report.is_report cuts asks.others.ordered c.in-Ok-open.source c.run.new.source
-    (record { name = string_bytes c.in-Ok.task.file; asks = asks; file = file; none = c.in-Ok-open.ensures.counts })
+    c.args.folder.now c.open.new.self (g.R.Report.is_report c.args.report.now) cuts asks.others.ordered c.in-Ok-open.source c.run.new.source
+    (record { name = c.in-Ok.task.file.now; asks = asks; file = c.in-Ok-open.ensures.file; none = c.in-Ok-open.ensures.counts })
     _ _ _ _ c.run.result c.run.ensures.error

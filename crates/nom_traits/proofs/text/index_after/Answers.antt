@@ -4,7 +4,7 @@ use Rattle.nom_traits.proofs.text.index_after.Goals as goal
 
 pub loop-left-init : goal.loop-left-init
 loop-left-init c =
-    let start = after_start c.args.text.now c.args.count c.prove_known.ensures.0 in
+    let start = after_start c.args.text.now c.args.count c.known.ensures.0 in
     ([], 0, subst (λ r. IsAfter c.args.text.now r [] 0 c.args.count c.args.count) (sym c.chars-rest.ensures.rest) start)
 
 pub returns-in-None : goal.returns-in-None

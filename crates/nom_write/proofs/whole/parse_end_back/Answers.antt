@@ -11,5 +11,5 @@ returns-clause-back g c v xs form e =
     let h = g.P.Parser.grammar (g.P.Parser.state p) in
     reads_back g.I.Items.model g.met.I.Items.lawful g.P.Output.Viewed.view (g.P.StreamParser.Pins p) (all_consuming_of g.I.Items.model errs h)
     (g.met.P.StreamParser.pinned p c.requires.sound) (λ rest. rest ≡ []) false v xs [] c.args.input c.parse_complete.result
-    (whole_ends g.met.I.Items.lawful errs (g.met.P.Ending.ends p c.requires.sound c.requires.can c.requires.may) v xs form) c.prove_known.ensures
+    (whole_ends g.met.I.Items.lawful errs (g.met.P.Ending.ends p c.requires.sound c.requires.can c.requires.may) v xs form) c.known.ensures
     (e ∙ sym (append-nil xs)) refl c.parse_complete.ensures.shown

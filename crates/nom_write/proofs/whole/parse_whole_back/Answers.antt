@@ -11,5 +11,5 @@ returns-clause-back g c v xs form e f =
     let h = g.P.Parser.grammar (g.P.Parser.state p) in
     reads_back g.I.Items.model g.met.I.Items.lawful g.P.Output.Viewed.view (g.P.StreamParser.Pins p) (all_consuming_of g.I.Items.model errs h)
     (g.met.P.StreamParser.pinned p c.requires.sound) (λ rest. rest ≡ []) false v xs [] c.args.input c.parse_complete.result
-    (whole_reads g.met.I.Items.lawful errs f (g.met.P.Writer.reads p c.requires.sound c.requires.can) v xs form false) c.prove_known.ensures
+    (whole_reads g.met.I.Items.lawful errs f (g.met.P.Writer.reads p c.requires.sound c.requires.can) v xs form false) c.known.ensures
     (e ∙ sym (append-nil xs)) refl c.parse_complete.ensures.shown

@@ -8,4 +8,4 @@ slice_bounds-result-end c =
     omega (arith, length-take c.args.index c.args.self.now.tokens.now)
 
 pub returns : goal.returns
-returns c = tokens_front (λ t. t.tokens) (λ t. t.offset) c.args.self.now _ c.args.index c.requires c.prove_known.ensures refl refl
+returns c = tokens_front (λ t. t.tokens) (λ t. t.offset) c.args.self.now _ c.args.index c.requires c.known.ensures refl refl

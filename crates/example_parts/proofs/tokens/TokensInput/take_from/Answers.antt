@@ -13,5 +13,5 @@ slice_bounds-result-start c =
 
 pub returns : goal.returns
 returns c =
-    tokens_rest (λ t. t.tokens) (λ t. t.offset) c.args.self.now _ c.args.index c.requires c.prove_known.ensures
+    tokens_rest (λ t. t.tokens) (λ t. t.offset) c.args.self.now _ c.args.index c.requires c.known.ensures
     (take_all _ _ (omega (arith, length-drop c.args.index c.args.self.now.tokens.now))) c.saturating_add.ensures

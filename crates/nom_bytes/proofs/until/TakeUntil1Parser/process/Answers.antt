@@ -10,7 +10,7 @@ returns-in-Some-eq0-clause-shown g c =
 
 pub returns-in-Some-clause-shown : goal.returns-in-Some-clause-shown
 returns-in-Some-clause-shown g c =
-    until_found g.E.ParseError.errors g.met.I.FindSubstring.finding c.prove_known.ensures c.in-Some.ensures (λ e. not_none _ c.in-Some.n-test.1)
+    until_found g.E.ParseError.errors g.met.I.FindSubstring.finding c.known.ensures c.in-Some.ensures (λ e. not_none _ c.in-Some.n-test.1)
     c.take_from.ensures c.front.ensures
 
 pub returns-in-None-clause-shown : goal.returns-in-None-clause-shown

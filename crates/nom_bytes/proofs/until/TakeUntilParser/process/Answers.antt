@@ -5,7 +5,7 @@ use Rattle.nom_bytes.proofs.until.TakeUntilParser.process.Goals as goal
 
 pub returns-in-Some-clause-shown : goal.returns-in-Some-clause-shown
 returns-in-Some-clause-shown g c =
-    until_found g.E.ParseError.errors g.met.I.FindSubstring.finding c.prove_known.ensures c.in-Some.ensures (not_one _) c.take_from.ensures c.front.ensures
+    until_found g.E.ParseError.errors g.met.I.FindSubstring.finding c.known.ensures c.in-Some.ensures (not_one _) c.take_from.ensures c.front.ensures
 
 pub returns-in-None-clause-shown : goal.returns-in-None-clause-shown
 returns-in-None-clause-shown g c = until_open g.E.ParseError.errors g.I.FindSubstring.finds false (g.I.FindSubstring.needle_model c.args.self.now.tag)

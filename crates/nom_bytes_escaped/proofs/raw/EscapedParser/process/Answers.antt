@@ -11,7 +11,7 @@ loop-next-init g c = record {
   control_kept = refl;
   escapable_kept = refl;
   lack_is = c.new-lack.ensures.some (omega arith);
-  collected = collected_none g.met.I.Items.lawful c.prove_known.ensures tt;
+  collected = collected_none g.met.I.Items.lawful c.known.ensures tt;
 }
 
 pub returns-in_err-next-clause-shown : goal.returns-in_err-next-clause-shown

@@ -3,6 +3,7 @@ use Rattle.nom_internal.proofs.Shown.{accepts, err_from_residual}
 use Rattle.nom_repeat.proofs.Repeated.{collected_none, consumes, is_shorter}
 use Rattle.nom_bytes_escaped.proofs.TransformShown.{transform_at, transform_passed, transform_full, transform_empty, transform_more, transform_none}
 use Rattle.nom_bytes_escaped.proofs.TransformShown.{transform_other, transform_dangling, transform_done}
+use Rattle.nom_bytes_escaped.proofs.TextsBuilt.{growing_is_some}
 use Rattle.nom_bytes_escaped.proofs.transform.EscapedTransformParser.process.Goals as goal
 
 pub loop-text-init : goal.loop-text-init
@@ -10,7 +11,7 @@ loop-text-init g c = record {
   normal_kept = refl;
   control_kept = refl;
   transform_kept = refl;
-  collected = collected_none g.met.I.Items.lawful c.prove_known.ensures c.no_text-text.ensures;
+  collected = collected_none g.met.I.Items.lawful c.known.ensures c.no_text-text.ensures;
 }
 
 pub returns-in_err-next-clause-shown : goal.returns-in_err-next-clause-shown
@@ -26,7 +27,8 @@ returns-in_err-extend-in-Found-clause-shown g c =
     rw (err_from_residual c.from_residual-in_err-extend-in-Found.ensures) (
     transform_full (transform_at g.met.I.Items.lawful g.F.Error.ParseError.errors g.F.Parser.grammar g.G.Parser.grammar g.F.Output.ExtendInto.added
     g.G.Output.ExtendInto.added g.X.Builder.parts (λ y x. g.C.Value.code x ≡ y) i.normal_kept i.control_kept i.transform_kept i.collected
-    c.in_ok-next.ensures.shown) refl c.emitted.ensures c.in-Found.is c.in_err-extend-in-Found.ensures.refused)
+    c.in_ok-next.ensures.shown) refl c.emitted.ensures c.in-Found.is (growing_is_some _ _ _ _
+    c.in_err-extend-in-Found.ensures.full))
 
 pub returns-then-input_len-clause-shown : goal.returns-then-input_len-clause-shown
 returns-then-input_len-clause-shown g c =

@@ -13,5 +13,5 @@ returns-in_ok-rest-clause-shown g c =
 
 pub returns-else-self-clause-shown : goal.returns-else-self-clause-shown
 returns-else-self-clause-shown g c =
-    cond_none _ (g.F.Parser.grammar (g.F.Parser.state c.args.self.now.parser)) _ _ g.met.I.Items.lawful c.prove_known.ensures _ c.if-self.false _
+    cond_none _ (g.F.Parser.grammar (g.F.Parser.state c.args.self.now.parser)) _ _ g.met.I.Items.lawful c.known.ensures _ c.if-self.false _
     c.built-else-self.ensures

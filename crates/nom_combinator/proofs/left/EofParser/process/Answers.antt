@@ -11,8 +11,8 @@ pub returns-then-input_len-eq0-clause-shown : goal.returns-then-input_len-eq0-cl
 returns-then-input_len-eq0-clause-shown g c =
     let w = g.I.Items.model in
     let none = no_length w.item_len g.met.I.Items.lawful.positive (w.elements c.args.input) (sym c.input_len.ensures ∙ c.if-input_len-eq0.true) in
-    accepted (all_of w c.args.input) (rest_self w g.met.I.Items.lawful c.args.input c.prove_known.ensures) (none, refl, refl)
-    (whole_built w g.OM.Output.Mode.BUILDS c.args.input c.built.result c.prove_known.ensures c.built.ensures)
+    accepted (all_of w c.args.input) (rest_self w g.met.I.Items.lawful c.args.input c.known.ensures) (none, refl, refl)
+    (whole_built w g.OM.Output.Mode.BUILDS c.args.input c.built.result c.known.ensures c.built.ensures)
 
 pub returns-else-input_len-eq0-clause-shown : goal.returns-else-input_len-eq0-clause-shown
 returns-else-input_len-eq0-clause-shown g c =

@@ -13,7 +13,7 @@ pub returns-in-Err-Error-clause-shown : goal.returns-in-Err-Error-clause-shown
 returns-in-Err-Error-clause-shown g c =
     not_refused _ g.met.I.Items.lawful _ (λ i. g.F.Error.ParseError.errors.of_kind i Kind.Not) g.F.Error.ParseError.errors.grows
     (g.F.Parser.grammar (g.F.Parser.state c.args.self.now.parser)).meaning
-    _ _ c.prove_known.ensures _ _ _ c.in-Err-Error.field-0-is c.in-Err-Error.ensures.shown
+    _ _ c.known.ensures _ _ _ c.in-Err-Error.field-0-is c.in-Err-Error.ensures.shown
     c.built.ensures
 
 pub returns-in-Err-Incomplete-clause-shown : goal.returns-in-Err-Incomplete-clause-shown

@@ -7,7 +7,7 @@ returns-in-Ok-clause-shown g c =
 
 pub returns-in-Err-Error-clause-shown : goal.returns-in-Err-Error-clause-shown
 returns-in-Err-Error-clause-shown g c =
-    opt_refused _ g.met.I.Items.lawful _ (g.F.Parser.grammar (g.F.Parser.state c.args.self.now.parser)).meaning _ _ c.prove_known.ensures _ _ _
+    opt_refused _ g.met.I.Items.lawful _ (g.F.Parser.grammar (g.F.Parser.state c.args.self.now.parser)).meaning _ _ c.known.ensures _ _ _
     c.in-Err-Error.field-0-is c.in-Err-Error.ensures.shown c.built-in-Err-Error.ensures
 
 pub returns-in-Err-Incomplete-clause-shown : goal.returns-in-Err-Incomplete-clause-shown

@@ -10,7 +10,7 @@ returns-in_err-output-clause-shown g c =
     (err_from_residual c.from_residual.ensures)
 
 pub returns-clause-shown : goal.returns-clause-shown
-returns-clause-shown g c = peek_ok _ g.met.I.Items.lawful _ (g.F.Parser.grammar (g.F.Parser.state c.args.self.now.parser)).meaning _ _ c.prove_known.ensures _ _
+returns-clause-shown g c = peek_ok _ g.met.I.Items.lawful _ (g.F.Parser.grammar (g.F.Parser.state c.args.self.now.parser)).meaning _ _ c.known.ensures _ _
     c.in_ok-output.ensures.shown
 
 pub returns-clause-side_condition : goal.returns-clause-side_condition

@@ -4,7 +4,7 @@ use Rattle.nom_located.proofs.located.Located.new_extra.Goals as goal
 
 pub invariant_of-result : goal.invariant_of-result
 invariant_of-result g c =
-    let n = bytes_length g.I.Items.model g.I.AsBytes.bytes g.I.ByteItems.read g.met.I.ByteItems.reading c.args.fragment c.prove_known.ensures in
+    let n = bytes_length g.I.Items.model g.I.AsBytes.bytes g.I.ByteItems.read g.met.I.ByteItems.reading c.args.fragment c.known.ensures in
     let m = ap length c.as_bytes-length.ensures in
     record {
       fits = record {

@@ -1,6 +1,7 @@
-use Rattle.std.proofs.Common.{true}
+use Rattle.std.proofs.Common.{refl, true}
 use Rattle.std.proofs.lemmas.Bool.{lt-ltb, le-ltb}
 use Rattle.nom_error.specs.declared.kind.ErrorKind.TheVariants as Kind
+use Rattle.nom_internal.specs.Prelude.{RanOut}
 use Rattle.nom_repeat.proofs.InvertedShown.{inverted_fails, not_inverted}
 use Rattle.nom_repeat.proofs.Parts.{shown_as}
 use Rattle.nom_repeat.proofs.ListAccumulated.{list_of_none}
@@ -15,10 +16,18 @@ returns-then-self-clause-shown g c =
     (items_meaning g.I.Items.model g.F.Error.ParseError.errors (bounded_limits Kind.ManyMN s.min s.max) (Unit {0})
     (g.F.Parser.grammar (g.F.Parser.state s.parser)).meaning) _ (lt-ltb s.max s.min c.if-self.true) c.failure.ensures
 
-pub returns-clause-shown : goal.returns-clause-shown
-returns-clause-shown g c =
+pub returns-in-Ok-clause-shown : goal.returns-in-Ok-clause-shown
+returns-in-Ok-clause-shown g c =
     let s = c.args.self.now in
     not_inverted g.F.Error.ParseError.errors Kind.ManyMN
     (items_meaning g.I.Items.model g.F.Error.ParseError.errors (bounded_limits Kind.ManyMN s.min s.max) (Unit {0})
     (g.F.Parser.grammar (g.F.Parser.state s.parser)).meaning) true _ (le-ltb s.max s.min c.if-self.false)
-    (shown_as (list_of_none (g.F.Parser.grammar (g.F.Parser.state s.parser)).IsOutput _ c.list_ahead-none.ensures.empty) c.bounded_items.ensures.shown)
+    (shown_as (list_of_none (g.F.Parser.grammar (g.F.Parser.state s.parser)).IsOutput _ c.in-Ok.ensures.empty) c.bounded_items.ensures.shown)
+
+pub returns-in-Err-clause-shown : goal.returns-in-Err-clause-shown
+returns-in-Err-clause-shown g c =
+    let s = c.args.self.now in
+    not_inverted g.F.Error.ParseError.errors Kind.ManyMN
+    (items_meaning g.I.Items.model g.F.Error.ParseError.errors (bounded_limits Kind.ManyMN s.min s.max) (Unit {0})
+    (g.F.Parser.grammar (g.F.Parser.state s.parser)).meaning) true _ (le-ltb s.max s.min c.if-self.false)
+    (RanOut refl (c.accept_first.ensures.lacks (bounded_limits Kind.ManyMN s.min s.max) c.in-Err.ensures.some))

@@ -1,7 +1,7 @@
-use Rattle.std.proofs.Common.{◌≤◌, refl, ◌∙◌}
-use Rattle.std.specs.Prelude.{vec_len, vec_capacity}
+use Rattle.std.proofs.Common.{refl, ◌∙◌}
 use Rattle.std.specs.List.{AllZip}
 use Rattle.nom_internal.proofs.Shown.{accepts, both_built, built_error, err_from_residual}
+use Rattle.nom_repeat.specs.Lists.{ListLacksRoom}
 use Rattle.nom_repeat.proofs.Accumulating.{built_any, room_built}
 use Rattle.nom_repeat.proofs.Repeated.{collected_none, is_empty, consumes, is_shorter}
 use Rattle.nom_multi.specs.Till.{end_or_item}
@@ -13,7 +13,7 @@ pub loop-next-init : goal.loop-next-init
 loop-next-init g c = record {
   parser_kept = refl;
   end_kept = refl;
-  collected = collected_none g.met.I.Items.lawful c.prove_known.ensures (built_error _ _ _ _ (λ list none. rw none tt) c.none_yet-kept.ensures.empty);
+  collected = collected_none g.met.I.Items.lawful c.known.ensures (built_error _ _ _ _ (λ list none. rw none tt) c.none_yet-kept.ensures.empty);
 }
 
 pub returns-in-End-clause-shown : goal.returns-in-End-clause-shown
@@ -58,7 +58,7 @@ returns-in_err-push_item-in-Item-clause-shown g c =
     till_lacks_room g.F.Error.ParseError.errors (g.F.Parser.grammar (g.F.Parser.state c.args.self.now.parser)).meaning
     (g.G.Parser.grammar (g.G.Parser.state c.args.self.now.end)).meaning i.collected item.0 found.answered item.1
     (consumes found.rest_is c.input_len.ensures c.input_len-in-Item.ensures c.if-input_len.false)
-    (room_built (λ list. vec_capacity list ≤ vec_len list) _ _ _ i.collected.held c.in_err-push_item-in-Item.ensures.full))
+    (room_built (λ old _ new. ListLacksRoom old new) _ _ _ _ _ i.collected.held c.in_err-push_item-in-Item.ensures.lacks))
 
 pub loop-next-smaller : goal.loop-next-smaller
 loop-next-smaller g c =

@@ -25,4 +25,5 @@ returns-clause-shown g c =
           (dropped_meaning (g.F.Parser.grammar z).meaning);
       IsOutput = CountAccumulated c.in_ok-rest.first;
     }) c.in_ok-rest.ensures.kept c.any_items.ensures.shown in
-    count1_shown g.met.I.Items.lawful g.F.Error.ParseError.errors (g.F.Parser.grammar s).meaning c.built-none.ensures c.in_ok-rest.ensures.shown more
+    count1_shown g.met.I.Items.lawful g.F.Error.ParseError.errors (g.F.Parser.grammar s).meaning (g.met.F.Parser.lawful s) c.fits.ensures.known
+    c.fits.ensures.fits c.built-none.ensures c.in_ok-rest.ensures.shown more

@@ -37,7 +37,7 @@ returns-then-self-held-clause-decides g c =
     let there =
     stands_there g.R.Read.remaining g.G.Grammar.grammar _ _ i.kept _ c.parses.self _ i.so_far c.take-taken.new.held _ _
     c.in-Some.ensures c.take-taken.ensures.stays c.take-taken.ensures.takes _ in
-    decides_full there (omega (arith, c.len-held.ensures, c.if-self-held.true))
+    decides_full there c.if-self.false (omega (arith, c.len-held.ensures, c.if-self-held.true))
 
 pub returns-in-Err-Fault-clause-decides : goal.returns-in-Err-Fault-clause-decides
 returns-in-Err-Fault-clause-decides g c =

@@ -8,4 +8,4 @@ slice_bounds-result-end c =
     omega (arith, length-take c.args.index c.args.self.now.now)
 
 pub returns : goal.returns
-returns c = bytes_front c.args.self.now _ c.args.index c.prove_known.ensures c.requires refl
+returns c = bytes_front c.args.self.now _ c.args.index c.known.ensures c.requires refl

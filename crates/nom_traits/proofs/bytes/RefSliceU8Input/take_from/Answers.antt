@@ -13,4 +13,4 @@ slice_bounds-result-start c =
 
 pub returns : goal.returns
 returns c =
-    bytes_rest c.args.self.now _ c.args.index c.prove_known.ensures c.requires (take_all _ _ (omega (arith, length-drop c.args.index c.args.self.now.now)))
+    bytes_rest c.args.self.now _ c.args.index c.known.ensures c.requires (take_all _ _ (omega (arith, length-drop c.args.index c.args.self.now.now)))

@@ -13,8 +13,8 @@ returns-then-eq-clause-written g c =
     let v = c.args.value.now in
     let tag = c.args.self.now.tag.now in
     let holds : Holds text_model v (text_items tag) = record {
-      known = c.prove_known.ensures;
-      elements_are = sym (valid_items v.now c.prove_known.ensures.0) ∙ ap text_items (same_text v.now tag c.if-eq.ensures);
+      known = c.known.ensures;
+      elements_are = sym (valid_items v.now c.known.ensures.0) ∙ ap text_items (same_text v.now tag c.if-eq.ensures);
     } in
     beside (Holds text_model v (text_items tag)) (text_items tag) (λ s e. (v.now ≡ tag → ⊥) × (e ≡ Mismatch s.start)) g.S.Sink.model
     c.args.out.now c.write_tag.new.out c.write_tag.result holds c.write_tag.ensures.written

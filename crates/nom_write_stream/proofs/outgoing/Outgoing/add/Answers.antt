@@ -24,7 +24,7 @@ returns-else-end-start-clause-added g c =
     let w = c.in-Ok.ensures.written in
     added_item (g.P.Writer.Form c.args.writer.now c.args.value.now) (g.P.Writer.Fails c.args.writer.now c.args.value.now) c.args.self.now.most
     c.len-start.result c.len-end.result old.items w.0 new.items (c.len-start.ensures ∙ old.ok.0) (c.len-end.ensures ∙ new.ok.0) w.1 w.2
-    c.if-end-self.false c.if-end-start.false (subst FitsInput c.as_slice.ensures.value c.prove_known.ensures)
+    c.if-end-self.false c.if-end-start.false (subst FitsInput c.as_slice.ensures.value c.known.ensures)
 
 pub returns-in-None-clause-added : goal.returns-in-None-clause-added
 returns-in-None-clause-added g c =
