@@ -34,7 +34,6 @@ fn is_value(c: char) -> bool
 ///
 /// The end of the line, or of the input, is left. The error type is the caller's: a `Report` of `nom_report` says where a name
 /// or a value is missing.
-#[tactic(auto, using(nom::specs::Same::words))]
 pub fn named_value<'a, E: ParseError<&'a str> + ContextError<&'a str>>(
     input: &'a str,
 ) -> IResult<&'a str, (&'a str, &'a str), E>

@@ -54,7 +54,6 @@ pub fn digits(input: &[u8]) -> IResult<&[u8], &[u8]>
 }
 
 /// Two numbers, with a dash between them: a grammar of functions.
-#[tactic(auto, using(nom::specs::Same::words))]
 pub fn span(input: &[u8]) -> IResult<&[u8], (&[u8], &[u8])>
     ensures { Parses (separated_pair_of (called_complete behind_view digit1_of) (char_of 45) (called_complete behind_view digit1_of)) false input.entry result }
 {

@@ -33,7 +33,6 @@ fn is_hex_digit(c: char) -> bool
 }
 
 /// Two digits in base 16, as their number; where they aren't there, it refuses with `TakeWhileMN`.
-#[tactic(auto, using(nom::specs::Same::words))]
 fn hex_primary(input: &str) -> IResult<&str, u8>
     ensures { Parses primary_of false input.entry result }
 {

@@ -55,7 +55,6 @@ fn bit(c: char) -> Option<u32>
 }
 
 /// A binary digit after a hash sign.
-#[tactic(auto, using(nom::specs::Same::words))]
 pub fn numbered(input: &str) -> IResult<&str, u32>
     ensures { Parses (preceded_of (satisfy_of is_hash) (map_opt_of bit_in (none_of_of (codes "#")))) false input.entry result }
 {

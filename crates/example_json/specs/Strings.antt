@@ -9,7 +9,7 @@ use Rattle.std.specs.Cow.{IsBorrowedStr, cow_str_bytes}
 use Rattle.std.specs.declared.borrow.CowStr.{CowStr}
 use Rattle.nom_traits.specs.Classes.{is_hex_digit_code}
 use Rattle.nom_internal.specs.Prelude.{text_model}
-use Rattle.nom_internal.specs.Words.{map_opt_of}
+use Rattle.nom_internal.specs.Words.{map_opt_of, mapping}
 use Rattle.nom_bytes_escaped.specs.Words.{escaped_transform_of}
 use Rattle.nom.specs.Texts.{Text, TextWord, all_consuming_of, alt_of, char_of, map_of, one_of_of, or_of, pair_of, plain_errors, preceded_of, tag_of}
 use Rattle.nom.specs.Texts.{take_while_m_n_of, take_while1_of}
@@ -49,7 +49,7 @@ hexes_of = take_while_m_n_of 4 4 is_hex_digit_code
 
 -- what a function gives for an output; where that is nothing, the input is refused
 abbrev pub given_of : {O P : Type 0} → (O → Option P → Type 0) → TextWord O → TextWord P
-given_of = map_opt_of plain_errors (λ _. Unit {0})
+given_of Gives = map_opt_of plain_errors (mapping (λ _. Unit {0}) Gives)
 
 -- a letter or four digits after a backslash, or two times four, as the character that they stand for
 abbrev pub escape_of : TextWord ℕ

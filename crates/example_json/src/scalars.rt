@@ -32,7 +32,6 @@ pub fn token<'a>(input: &'a str, wanted: char) -> Answer<'a, char>
     terminated(char(wanted), multispace0()).parse_complete(input)
 }
 
-#[tactic(auto, using(nom::specs::Same::words))]
 fn literal<'a>(input: &'a str) -> Answer<'a, Json<'a>>
     ensures { Parses literal_of false input.entry result }
 {

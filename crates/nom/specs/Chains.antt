@@ -11,7 +11,7 @@ use Rattle.nom_internal.specs.Sequence.ThenBlames.{BlamesFirst, BlamesNext}
 use Rattle.nom_internal.specs.Tuples as Tuples
 use Rattle.nom_internal.specs.Word.{Answers, Word, answers_by, parses_by}
 use Rattle.nom_internal.specs.TupleWords.{tuple_of_eight, tuple_of_five, tuple_of_four, tuple_of_seven, tuple_of_six, tuple_of_three, tuple_of_two}
-use Rattle.nom_internal.specs.Words.{map_of, map_worded, pair_of, pair_worded, tuple_of, tuple_worded}
+use Rattle.nom_internal.specs.Words.{map_of, map_worded, mapping, pair_of, pair_worded, tuple_of, tuple_worded}
 
 -- the outputs of two steps
 abbrev paired : {I O P E : Type 0} → O → IResult I P E → IResult I (O × P) E
@@ -150,11 +150,11 @@ module _ {I A V O P E : Type 0} (w : Model I A) (Takes : O → Type 0) (Gives : 
 
 module _ {I A O P E : Type 0} (w : Model I A) (a : Word I O E) (s : Bool) (i : I) where
   pub map_stop : (Takes : O → Type 0) (Gives : O → P → Type 0) (e : Answer.Err E E Needed) → Answers w a s i (Err e) →
-      Answers w (map_of Takes Gives a) s i (Err e)
+      Answers w (map_of (mapping Takes Gives) a) s i (Err e)
   map_stop Takes Gives e h = answers_by w (map_worded Takes Gives refl) (map_stops w Takes Gives a.grammar s i e (parses_by w refl h))
 
   map_give : (Takes : O → Type 0) (Gives : O → P → Type 0) (j : I) (x : O) (y : P) → Gives x y → Answers w a s i (Ok (j, x)) →
-      Answers w (map_of Takes Gives a) s i (Ok (j, y))
+      Answers w (map_of (mapping Takes Gives) a) s i (Ok (j, y))
   map_give Takes Gives j x y q h = answers_by w (map_worded Takes Gives refl) (map_gives w Takes Gives a.grammar s i j x y q (parses_by w refl h))
 
 -- what a function maps of the outputs of two to eight steps
@@ -164,31 +164,31 @@ module _ {I T E : Type 0} (w : Model I T) (s : Bool) (l : InputLaws w) where
   both a b i j k x y h q = pair_give w a b s i l j k x y h q
 
   mapped : {F O P : Type 0} (pairs : F → O) (a : Word I O E) (Takes : F → Type 0) (Gives : F → P → Type 0) (i j : I) (f : F) (t : P) →
-      Answers w a s i (Ok (j, pairs f)) → Gives f t → Answers w (map_of Takes Gives (tuple_of pairs a)) s i (Ok (j, t))
+      Answers w a s i (Ok (j, pairs f)) → Gives f t → Answers w (map_of (mapping Takes Gives) (tuple_of pairs a)) s i (Ok (j, t))
   mapped pairs a Takes Gives i j f t h given = map_give w (tuple_of pairs a) s i Takes Gives j f t given (tuple_give w pairs a s i j f h)
 
   pub two_map : {A B P : Type 0} (a : Word I A E) (b : Word I B E) (Takes : A × B → Type 0) (Gives : A × B → P → Type 0) (i0 i1 i2 : I) (v0 : A) (v1 : B)
       (t : P) → Answers w a s i0 (Ok (i1, v0)) → Answers w b s i1 (Ok (i2, v1)) → Gives (v0, v1) t →
-      Answers w (map_of Takes Gives (tuple_of_two w a b)) s i0 (Ok (i2, t))
+      Answers w (map_of (mapping Takes Gives) (tuple_of_two w a b)) s i0 (Ok (i2, t))
   two_map a b Takes Gives i0 i1 i2 v0 v1 t h0 h1 given = mapped _ _ Takes Gives _ _ (v0, v1) t (both _ _ _ _ _ _ _ h0 h1) given
 
   pub three_map : {A B C P : Type 0} (a : Word I A E) (b : Word I B E) (c : Word I C E) (Takes : A × B × C → Type 0) (Gives : A × B × C → P → Type 0)
       (i0 i1 i2 i3 : I) (v0 : A) (v1 : B) (v2 : C) (t : P) → Answers w a s i0 (Ok (i1, v0)) → Answers w b s i1 (Ok (i2, v1)) →
-      Answers w c s i2 (Ok (i3, v2)) → Gives (v0, v1, v2) t → Answers w (map_of Takes Gives (tuple_of_three w a b c)) s i0 (Ok (i3, t))
+      Answers w c s i2 (Ok (i3, v2)) → Gives (v0, v1, v2) t → Answers w (map_of (mapping Takes Gives) (tuple_of_three w a b c)) s i0 (Ok (i3, t))
   three_map a b c Takes Gives i0 i1 i2 i3 v0 v1 v2 t h0 h1 h2 given = mapped _ _ Takes Gives _ _ (v0, v1, v2) t (both _ _ _ _ _ _ _ h0 (both _ _ _ _ _ _ _
       h1 h2)) given
 
   pub four_map : {A B C D P : Type 0} (a : Word I A E) (b : Word I B E) (c : Word I C E) (d : Word I D E) (Takes : A × B × C × D → Type 0)
       (Gives : A × B × C × D → P → Type 0) (i0 i1 i2 i3 i4 : I) (v0 : A) (v1 : B) (v2 : C) (v3 : D) (t : P) → Answers w a s i0 (Ok (i1, v0)) →
       Answers w b s i1 (Ok (i2, v1)) → Answers w c s i2 (Ok (i3, v2)) → Answers w d s i3 (Ok (i4, v3)) → Gives (v0, v1, v2, v3) t →
-      Answers w (map_of Takes Gives (tuple_of_four w a b c d)) s i0 (Ok (i4, t))
+      Answers w (map_of (mapping Takes Gives) (tuple_of_four w a b c d)) s i0 (Ok (i4, t))
   four_map a b c d Takes Gives i0 i1 i2 i3 i4 v0 v1 v2 v3 t h0 h1 h2 h3 given = mapped _ _ Takes Gives _ _ (v0, v1, v2, v3) t (both _ _ _ _ _ _ _ h0 (both _
       _ _ _ _ _ _ h1 (both _ _ _ _ _ _ _ h2 h3))) given
 
   pub five_map : {A B C D F P : Type 0} (a : Word I A E) (b : Word I B E) (c : Word I C E) (d : Word I D E) (f : Word I F E)
       (Takes : A × B × C × D × F → Type 0) (Gives : A × B × C × D × F → P → Type 0) (i0 i1 i2 i3 i4 i5 : I) (v0 : A) (v1 : B) (v2 : C) (v3 : D) (v4 : F)
       (t : P) → Answers w a s i0 (Ok (i1, v0)) → Answers w b s i1 (Ok (i2, v1)) → Answers w c s i2 (Ok (i3, v2)) → Answers w d s i3 (Ok (i4, v3)) →
-      Answers w f s i4 (Ok (i5, v4)) → Gives (v0, v1, v2, v3, v4) t → Answers w (map_of Takes Gives (tuple_of_five w a b c d f)) s i0 (Ok (i5, t))
+      Answers w f s i4 (Ok (i5, v4)) → Gives (v0, v1, v2, v3, v4) t → Answers w (map_of (mapping Takes Gives) (tuple_of_five w a b c d f)) s i0 (Ok (i5, t))
   five_map a b c d f Takes Gives i0 i1 i2 i3 i4 i5 v0 v1 v2 v3 v4 t h0 h1 h2 h3 h4 given = mapped _ _ Takes Gives _ _ (v0, v1, v2, v3, v4) t (both _ _ _ _ _
       _ _ h0 (both _ _ _ _ _ _ _ h1 (both _ _ _ _ _ _ _ h2 (both _ _ _ _ _ _ _ h3 h4)))) given
 
@@ -196,7 +196,7 @@ module _ {I T E : Type 0} (w : Model I T) (s : Bool) (l : InputLaws w) where
       (Takes : A × B × C × D × F × G → Type 0) (Gives : A × B × C × D × F × G → P → Type 0) (i0 i1 i2 i3 i4 i5 i6 : I) (v0 : A) (v1 : B) (v2 : C) (v3 : D)
       (v4 : F) (v5 : G) (t : P) → Answers w a s i0 (Ok (i1, v0)) → Answers w b s i1 (Ok (i2, v1)) → Answers w c s i2 (Ok (i3, v2)) →
       Answers w d s i3 (Ok (i4, v3)) → Answers w f s i4 (Ok (i5, v4)) → Answers w g s i5 (Ok (i6, v5)) → Gives (v0, v1, v2, v3, v4, v5) t →
-      Answers w (map_of Takes Gives (tuple_of_six w a b c d f g)) s i0 (Ok (i6, t))
+      Answers w (map_of (mapping Takes Gives) (tuple_of_six w a b c d f g)) s i0 (Ok (i6, t))
   six_map a b c d f g Takes Gives i0 i1 i2 i3 i4 i5 i6 v0 v1 v2 v3 v4 v5 t h0 h1 h2 h3 h4 h5 given = mapped _ _ Takes Gives _ _ (v0, v1, v2, v3, v4, v5) t
       (both _ _ _ _ _ _ _ h0 (both _ _ _ _ _ _ _ h1 (both _ _ _ _ _ _ _ h2 (both _ _ _ _ _ _ _ h3 (both _ _ _ _ _ _ _ h4 h5))))) given
 
@@ -205,7 +205,7 @@ module _ {I T E : Type 0} (w : Model I T) (s : Bool) (l : InputLaws w) where
       (v1 : B) (v2 : C) (v3 : D) (v4 : F) (v5 : G) (v6 : H) (t : P) → Answers w a s i0 (Ok (i1, v0)) → Answers w b s i1 (Ok (i2, v1)) →
       Answers w c s i2 (Ok (i3, v2)) → Answers w d s i3 (Ok (i4, v3)) → Answers w f s i4 (Ok (i5, v4)) → Answers w g s i5 (Ok (i6, v5)) →
       Answers w h s i6 (Ok (i7, v6)) → Gives (v0, v1, v2, v3, v4, v5, v6) t →
-      Answers w (map_of Takes Gives (tuple_of_seven w a b c d f g h)) s i0 (Ok (i7, t))
+      Answers w (map_of (mapping Takes Gives) (tuple_of_seven w a b c d f g h)) s i0 (Ok (i7, t))
   seven_map a b c d f g h Takes Gives i0 i1 i2 i3 i4 i5 i6 i7 v0 v1 v2 v3 v4 v5 v6 t h0 h1 h2 h3 h4 h5 h6 given = mapped _ _ Takes Gives _ _
       (v0, v1, v2, v3, v4, v5, v6) t (both _ _ _ _ _ _ _ h0 (both _ _ _ _ _ _ _ h1 (both _ _ _ _ _ _ _ h2 (both _ _ _ _ _ _ _ h3 (both _ _ _ _ _ _ _ h4
       (both _ _ _ _ _ _ _ h5 h6)))))) given
@@ -215,7 +215,7 @@ module _ {I T E : Type 0} (w : Model I T) (s : Bool) (l : InputLaws w) where
       (i0 i1 i2 i3 i4 i5 i6 i7 i8 : I) (v0 : A) (v1 : B) (v2 : C) (v3 : D) (v4 : F) (v5 : G) (v6 : H) (v7 : J) (t : P) → Answers w a s i0 (Ok (i1, v0)) →
       Answers w b s i1 (Ok (i2, v1)) → Answers w c s i2 (Ok (i3, v2)) → Answers w d s i3 (Ok (i4, v3)) → Answers w f s i4 (Ok (i5, v4)) →
       Answers w g s i5 (Ok (i6, v5)) → Answers w h s i6 (Ok (i7, v6)) → Answers w j s i7 (Ok (i8, v7)) → Gives (v0, v1, v2, v3, v4, v5, v6, v7) t →
-      Answers w (map_of Takes Gives (tuple_of_eight w a b c d f g h j)) s i0 (Ok (i8, t))
+      Answers w (map_of (mapping Takes Gives) (tuple_of_eight w a b c d f g h j)) s i0 (Ok (i8, t))
   eight_map a b c d f g h j Takes Gives i0 i1 i2 i3 i4 i5 i6 i7 i8 v0 v1 v2 v3 v4 v5 v6 v7 t h0 h1 h2 h3 h4 h5 h6 h7 given = mapped _ _ Takes Gives _ _
       (v0, v1, v2, v3, v4, v5, v6, v7) t (both _ _ _ _ _ _ _ h0 (both _ _ _ _ _ _ _ h1 (both _ _ _ _ _ _ _ h2 (both _ _ _ _ _ _ _ h3 (both _ _ _ _ _ _ _ h4
       (both _ _ _ _ _ _ _ h5 (both _ _ _ _ _ _ _ h6 h7))))))) given

@@ -309,3 +309,18 @@ permutation_of_eight = Grammars.permutation_of_eight text_model plain_errors
 -- items without one that escapes the next, and what follows it
 abbrev pub escaped_of : {O P : Type 0} → TextWord O → ℕ → TextWord P → TextWord Text
 escaped_of = Grammars.escaped_of text_model plain_errors (λ x. x)
+
+-- A grammar that contains itself, in a mode, with at most that many layers in each other: by the word of a layer, which takes that of the
+-- layers inside it. And a rule of several, which takes those of the rules inside it.
+abbrev pub recursive_of : {O : Type 0} → Bool → View O → (TextWord O → TextWord O) → ℕ → TextWord O
+recursive_of streaming view = Grammars.recursive_of text_model plain_errors view streaming
+
+abbrev pub recursive_rule_of : {O R : Type 0} → Bool → View O → ((R → TextWord O) → R → TextWord O) → ℕ → R → TextWord O
+recursive_rule_of streaming view = Grammars.recursive_rule_of text_model plain_errors view streaming
+
+-- The same as a stream parser, and what a function of it ensures: that a decided answer by the word stays on every longer input.
+abbrev pub stream_rule_of : {O R : Type 0} → View O → ((R → TextWord O) → R → TextWord O) → ℕ → R → TextWord O
+stream_rule_of view rule_of = Grammars.stream_rule_of text_model plain_errors view rule_of
+
+abbrev pub StreamsAs : {O : Type 0} → View O → TextWord O → Text → IResult Text O (Error Text) → Type 0
+StreamsAs = Grammars.StreamsAs text_model

@@ -16,6 +16,7 @@ pub mod multi;
 pub mod number;
 mod place;
 pub mod promises;
+pub mod recursion;
 pub mod sequence;
 
 pub use crate::place::position;

@@ -31,16 +31,17 @@ module _ {I A O E : Type 0} (w : Model I A) (errs : Errors I E) (view : View O) 
     pub stream_given_same : Takes ≡ Takes' → Gives ≡ Gives' → stream_given_of Takes Gives ≡ stream_given_of Takes' Gives'
     stream_given_same p q = ap₂ stream_given_of p q
 
-  -- a function that takes every input, and answers by a word as `parse` does
+  -- A function that takes every input, and answers by a word as `parse` does. Its contract is applied, as what a function ensures
+  -- computes to it: so the check compares the two as they are written.
   abbrev pub called : Word I O E → Word I O E
-  called h = given_of (λ _. Unit {0}) (Answers w h true)
+  called h = given_of (λ i. Unit {0}) (λ i r. Answers w h true i r)
 
   abbrev pub stream_called : Word I O E → Word I O E
-  stream_called h = stream_given_of (λ _. Unit {0}) (Answers w h true)
+  stream_called h = stream_given_of (λ i. Unit {0}) (λ i r. Answers w h true i r)
 
   -- and one that also ensures a second clause
   abbrev pub called_with : Word I O E → (I → IResult I O E → Type 0) → Word I O E
-  called_with h Also = given_of (λ _. Unit {0}) (λ i r. Answers w h true i r × Also i r)
+  called_with h Also = given_of (λ i. Unit {0}) (λ i r. Answers w h true i r × Also i r)
 
   abbrev pub stream_called_with : Word I O E → (I → IResult I O E → Type 0) → Word I O E
-  stream_called_with h Also = stream_given_of (λ _. Unit {0}) (λ i r. Answers w h true i r × Also i r)
+  stream_called_with h Also = stream_given_of (λ i. Unit {0}) (λ i r. Answers w h true i r × Also i r)

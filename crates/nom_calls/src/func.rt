@@ -13,8 +13,9 @@ use nom_traits::rests::CutRest;
 use nom_traits::view::Viewed;
 use std::marker::PhantomData;
 
-/// The parser that `func` returns.
+/// The parser that `func` returns. It may be copied if its function may.
 #[derive(Drop)]
+#[derive_where(Clone, Copy; F)]
 pub struct Func<F, I, O, E> {
     pub f: F,
     pub of: PhantomData<(I, O, E)>,
@@ -91,8 +92,9 @@ impl<I: CutRest, O: Viewed + Drop, E: ParseError<I>, F: Fn(I) -> IResult<I, O, E
     ghost lawful = { λ f. func_lawful I.model O.view (F.post f) E.errors (F.pre f) };
 }
 
-/// The stream parser that `stream_func` returns.
+/// The stream parser that `stream_func` returns. It may be copied if its function may.
 #[derive(Drop)]
+#[derive_where(Clone, Copy; F)]
 pub struct StreamFunc<F, I, O, E> {
     pub func: Func<F, I, O, E>,
 }

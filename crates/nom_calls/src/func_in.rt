@@ -12,8 +12,9 @@ use nom_traits::rests::CutRest;
 use nom_traits::view::Viewed;
 use std::marker::PhantomData;
 
-/// The parser that `func_in` returns.
+/// The parser that `func_in` returns. It may be copied if its function may.
 #[derive(Drop)]
+#[derive_where(Clone, Copy; A, F)]
 pub struct FuncIn<A, F, I, O, E> {
     pub alloc: A,
     pub f: F,
@@ -53,8 +54,9 @@ impl<
     ghost lawful = { λ s. func_lawful I.model O.view (F.post s.1 s.0) E.errors (F.pre s.1 s.0) };
 }
 
-/// The stream parser that `stream_func_in` returns.
+/// The stream parser that `stream_func_in` returns. It may be copied if its function may.
 #[derive(Drop)]
+#[derive_where(Clone, Copy; A, F)]
 pub struct StreamFuncIn<A, F, I, O, E> {
     pub func: FuncIn<A, F, I, O, E>,
 }

@@ -1,10 +1,13 @@
 -- The words of combinators.
 use Rattle.std.specs.Prelude.{◌≡◌, ℕ, Bool, List, Option}
+use Rattle.std.specs.Borrow.{Bor}
 use Rattle.std.proofs.Common.{refl, ap, ap₂}
 use Rattle.nom_error.specs.Errors.{Contexts, Errors}
 use Rattle.nom_traits.specs.Input.{Model}
 use Rattle.nom_internal.specs.Grammar.{valued, sliced}
+use Rattle.nom_internal.specs.Closures.{GivesAt, TakesAt}
 use Rattle.nom_internal.specs.Word.{Word, word}
+use Rattle.nom_internal.specs.Words.{Mapping, mapping, mapping_is}
 use Rattle.nom_combinator.specs.Conditions as Conditions
 use Rattle.nom_combinator.specs.Contexts as Contexts
 use Rattle.nom_combinator.specs.Ends as Ends
@@ -80,18 +83,18 @@ module _ {I O E : Type 0} (errs : Errors I E) where
     pub complete_same : g ≡ h → complete_of g ≡ complete_of h
     complete_same p = ap complete_of p
 
-  -- those of the outputs that a closure accepts
-  pub verify_of : (O → Type 0) → (O → Bool → Type 0) → Word I O E → Word I O E
-  verify_of Takes Says g = word (Outputs.verify_by errs Takes Says g.grammar)
+  -- those of the outputs that a closure on references accepts
+  pub verify_of : Mapping (Bor O) Bool → Word I O E → Word I O E
+  verify_of m g = word (Outputs.verify_by errs (TakesAt m.Takes) (GivesAt m.Gives) g.grammar)
 
   module _ {g h : Word I O E} where
-    pub verify_worded : (Takes : O → Type 0) (Says : O → Bool → Type 0) → g ≡ h → verify_of Takes Says g ≡ word (Outputs.verify_by errs Takes Says h.grammar)
+    pub verify_worded : (Takes : Bor O → Type 0) (Gives : Bor O → Bool → Type 0) → g ≡ h → verify_of (mapping Takes Gives) g ≡
+        word (Outputs.verify_by errs (TakesAt Takes) (GivesAt Gives) h.grammar)
     unfolding verify_of
-    verify_worded Takes Says p = ap (verify_of Takes Says) p
+    verify_worded Takes Gives p = ap₂ verify_of (mapping_is Takes Gives) p
 
-    pub verify_same : {Takes Takes' : O → Type 0} {Says Says' : O → Bool → Type 0} → Takes ≡ Takes' → Says ≡ Says' → g ≡ h →
-        verify_of Takes Says g ≡ verify_of Takes' Says' h
-    verify_same a b p = λ i. verify_of (a i) (b i) (p i)
+    pub verify_same : {m n : Mapping (Bor O) Bool} → m ≡ n → g ≡ h → verify_of m g ≡ verify_of n h
+    verify_same q p = ap₂ verify_of q p
 
 module _ {I O E : Type 0} (contexts : Contexts I E) where
   pub context_of : List ℕ → Word I O E → Word I O E

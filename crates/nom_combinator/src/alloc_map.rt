@@ -4,6 +4,7 @@ ghost use Rattle.nom_internal.specs.Prelude.{JudgedSideCondition, SeesConsistent
 ghost use Rattle.nom_internal.specs.laws.MappedLaws.{given_pinned};
 ghost use Rattle.nom_combinator.specs.MapAlloc.{map_alloc_by};
 ghost use Rattle.nom_combinator.specs.laws.MapAllocLaws.{map_alloc_lawful, map_alloc_steady};
+ghost use Rattle.nom_internal.specs.Words.{mapping};
 ghost use Rattle.nom_combinator.specs.AllocWords as Words;
 
 use nom_error::answer::{Err, OutOfMemory, PResult};
@@ -33,7 +34,7 @@ impl<I: Items, F: Parser<I> + Drop, O: Drop, G: Fn(F::Output) -> Result<O, OutOf
 
     ghost grammar = { λ s. map_alloc_by (G.pre s.1) (G.post s.1) (F.grammar s.0) };
 
-    ghost word = { λ s. Words.map_alloc_of (G.pre s.1) (G.post s.1) (F.word s.0) };
+    ghost word = { λ s. Words.map_alloc_of (mapping (G.pre s.1) (G.post s.1)) (F.word s.0) };
 
     ghost worded = { λ s. Words.map_alloc_worded (G.pre s.1) (G.post s.1) (F.worded s.0) };
 

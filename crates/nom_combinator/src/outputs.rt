@@ -1,10 +1,10 @@
 //! Parsers whose outputs are tested or replaced.
 ghost use Rattle.std.specs.Prelude.{◌≡◌, true};
-ghost use Rattle.std.specs.Borrow.{Bor};
-ghost use Rattle.std.specs.Fn.{FnReturnsAt};
 ghost use Rattle.nom_internal.specs.Cloned.{ClonesConsistently, clones_pinned};
+ghost use Rattle.nom_internal.specs.Closures.{GivesAt, TakesAt};
 ghost use Rattle.nom_internal.specs.Prelude.{JudgedSideCondition, with_outputs};
 ghost use Rattle.nom_internal.specs.laws.JudgedLaws.{judged_lawful, judged_steady};
+ghost use Rattle.nom_internal.specs.Words.{mapping};
 ghost use Rattle.nom_combinator.specs.Outputs.{value_by, verify_by};
 ghost use Rattle.nom_combinator.specs.laws.OutputLaws.{tested_pinned, value_lawful, value_steady};
 ghost use Rattle.nom_combinator.specs.Words as Words;
@@ -21,8 +21,8 @@ use nom_traits::view::Viewed;
 /// Returns whether an output passes a test.
 #[inline(always)]
 fn passes<O, G: Fn(&O) -> bool>(test: &G, output: &O) -> bool
-    requires callable { (p : Bor O) → p.now ≡ output.now → G.pre test.now p }
-    ensures { FnReturnsAt G.Fn test.now output.now result }
+    requires callable { TakesAt (G.pre test.now) output.now }
+    ensures { GivesAt (G.post test.now) output.now result }
 {
     test(output)
 }
@@ -48,11 +48,11 @@ impl<I: Items, A: Drop, F: Parser<I, Output = A> + Drop, G: Fn(&A) -> bool> Pars
 
     ghost Tree = { F.Tree };
 
-    ghost grammar = { λ s. verify_by F.Error.errors (λ o. (p : Bor A) → p.now ≡ o → G.pre s.1 p) (FnReturnsAt G.Fn s.1) (F.grammar s.0) };
+    ghost grammar = { λ s. verify_by F.Error.errors (TakesAt (G.pre s.1)) (GivesAt (G.post s.1)) (F.grammar s.0) };
 
-    ghost word = { λ s. Words.verify_of F.Error.errors (λ o. (p : Bor A) → p.now ≡ o → G.pre s.1 p) (FnReturnsAt G.Fn s.1) (F.word s.0) };
+    ghost word = { λ s. Words.verify_of F.Error.errors (mapping (G.pre s.1) (G.post s.1)) (F.word s.0) };
 
-    ghost worded = { λ s. Words.verify_worded F.Error.errors (λ o. (p : Bor A) → p.now ≡ o → G.pre s.1 p) (FnReturnsAt G.Fn s.1) (F.worded s.0) };
+    ghost worded = { λ s. Words.verify_worded F.Error.errors (G.pre s.1) (G.post s.1) (F.worded s.0) };
 
     ghost SideCondition = { λ mode old new i. JudgedSideCondition (F.SideCondition (with_outputs true mode) old.parser new.parser i) };
 

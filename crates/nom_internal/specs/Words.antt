@@ -1,6 +1,6 @@
 -- The words of this crate's parsers. `cut_worded` says of a word which grammar it is; `cut_same`, that words of equal parts are equal.
 use Rattle.std.specs.Prelude.{◌≡◌, Bool, Option, Result}
-use Rattle.std.proofs.Common.{ap, ap₂, subst}
+use Rattle.std.proofs.Common.{refl, ap, ap₂}
 use Rattle.nom_error.specs.Errors.{Errors, Externals}
 use Rattle.nom_traits.specs.Input.{Model}
 use Rattle.nom_internal.specs.Bounded as Bounded
@@ -91,52 +91,59 @@ module _ {I A O H S E X : Type 0} (w : Model I A) (give : Maker O H S) (k : Word
     pub flat_map_same : g ≡ h → flat_map_of g ≡ flat_map_of h
     flat_map_same p = ap flat_map_of p
 
+-- What a closure takes, and what it gives for it. As one closed term it is compared by itself, beside parts that are rewritten.
+pub record Mapping (O P : Type 0) : Type 1 where
+  pub Takes : O → Type 0
+  pub Gives : O → P → Type 0
+
+module _ {O P : Type 0} where
+  pub mapping : (O → Type 0) → (O → P → Type 0) → Mapping O P
+  mapping Takes Gives = record { Takes = Takes; Gives = Gives }
+
+  pub mapping_is : (Takes : O → Type 0) (Gives : O → P → Type 0) → mapping Takes Gives ≡ record { Takes = Takes; Gives = Gives }
+  unfolding mapping
+  mapping_is Takes Gives = refl
+
 -- outputs that a closure maps
 module _ {I O P E : Type 0} where
-  pub map_of : (O → Type 0) → (O → P → Type 0) → Word I O E → Word I P E
-  map_of Takes Gives g = word (Mapped.map_by Takes Gives g.grammar)
+  pub map_of : Mapping O P → Word I O E → Word I P E
+  map_of m g = word (Mapped.map_by m.Takes m.Gives g.grammar)
 
   module _ {g h : Word I O E} where
-    pub map_worded : (Takes : O → Type 0) (Gives : O → P → Type 0) → g ≡ h → map_of Takes Gives g ≡ word (Mapped.map_by Takes Gives h.grammar)
-    unfolding map_of
-    map_worded Takes Gives p = ap (map_of Takes Gives) p
+    pub map_worded : (Takes : O → Type 0) (Gives : O → P → Type 0) → g ≡ h → map_of (mapping Takes Gives) g ≡ word (Mapped.map_by Takes Gives h.grammar)
+    unfolding map_of mapping
+    map_worded Takes Gives p = ap (map_of (mapping Takes Gives)) p
 
-    pub map_same : {Takes Takes' : O → Type 0} {Gives Gives' : O → P → Type 0} → Takes ≡ Takes' → Gives ≡ Gives' → g ≡ h →
-        map_of Takes Gives g ≡ map_of Takes' Gives' h
-    map_same {Takes} {Takes'} {Gives} {Gives'} t q p =
-        subst (λ T. map_of Takes Gives g ≡ map_of T Gives' h) t (subst (λ G. map_of Takes Gives g ≡ map_of Takes G h) q (ap (map_of Takes Gives) p))
+    pub map_same : {m n : Mapping O P} → m ≡ n → g ≡ h → map_of m g ≡ map_of n h
+    map_same q p = ap₂ map_of q p
 
 -- outputs that a closure maps or refuses
 module _ {I O P E : Type 0} (errs : Errors I E) where
-  pub map_opt_of : (O → Type 0) → (O → Option P → Type 0) → Word I O E → Word I P E
-  map_opt_of Takes Gives g = word (Judged.map_opt_by errs Takes Gives g.grammar)
+  pub map_opt_of : Mapping O (Option P) → Word I O E → Word I P E
+  map_opt_of m g = word (Judged.map_opt_by errs m.Takes m.Gives g.grammar)
 
   module _ {g h : Word I O E} where
-    pub map_opt_worded : (Takes : O → Type 0) (Gives : O → Option P → Type 0) → g ≡ h → map_opt_of Takes Gives g ≡
+    pub map_opt_worded : (Takes : O → Type 0) (Gives : O → Option P → Type 0) → g ≡ h → map_opt_of (mapping Takes Gives) g ≡
         word (Judged.map_opt_by errs Takes Gives h.grammar)
-    unfolding map_opt_of
-    map_opt_worded Takes Gives p = ap (map_opt_of Takes Gives) p
+    unfolding map_opt_of mapping
+    map_opt_worded Takes Gives p = ap (map_opt_of (mapping Takes Gives)) p
 
-    pub map_opt_same : {Takes Takes' : O → Type 0} {Gives Gives' : O → Option P → Type 0} → Takes ≡ Takes' → Gives ≡ Gives' → g ≡ h →
-        map_opt_of Takes Gives g ≡ map_opt_of Takes' Gives' h
-    map_opt_same {Takes} {Takes'} {Gives} {Gives'} t q p = subst (λ T. map_opt_of Takes Gives g ≡ map_opt_of T Gives' h) t
-        (subst (λ G. map_opt_of Takes Gives g ≡ map_opt_of Takes G h) q (ap (map_opt_of Takes Gives) p))
+    pub map_opt_same : {m n : Mapping O (Option P)} → m ≡ n → g ≡ h → map_opt_of m g ≡ map_opt_of n h
+    map_opt_same q p = ap₂ map_opt_of q p
 
 -- outputs that a closure maps or refuses with an error
 module _ {I O P X E : Type 0} (externals : Externals I X E) where
-  pub map_res_of : (O → Type 0) → (O → Result P X → Type 0) → Word I O E → Word I P E
-  map_res_of Takes Gives g = word (Judged.map_res_by externals Takes Gives g.grammar)
+  pub map_res_of : Mapping O (Result P X) → Word I O E → Word I P E
+  map_res_of m g = word (Judged.map_res_by externals m.Takes m.Gives g.grammar)
 
   module _ {g h : Word I O E} where
-    pub map_res_worded : (Takes : O → Type 0) (Gives : O → Result P X → Type 0) → g ≡ h → map_res_of Takes Gives g ≡
+    pub map_res_worded : (Takes : O → Type 0) (Gives : O → Result P X → Type 0) → g ≡ h → map_res_of (mapping Takes Gives) g ≡
         word (Judged.map_res_by externals Takes Gives h.grammar)
-    unfolding map_res_of
-    map_res_worded Takes Gives p = ap (map_res_of Takes Gives) p
+    unfolding map_res_of mapping
+    map_res_worded Takes Gives p = ap (map_res_of (mapping Takes Gives)) p
 
-    pub map_res_same : {Takes Takes' : O → Type 0} {Gives Gives' : O → Result P X → Type 0} → Takes ≡ Takes' → Gives ≡ Gives' → g ≡ h →
-        map_res_of Takes Gives g ≡ map_res_of Takes' Gives' h
-    map_res_same {Takes} {Takes'} {Gives} {Gives'} t q p = subst (λ T. map_res_of Takes Gives g ≡ map_res_of T Gives' h) t
-        (subst (λ G. map_res_of Takes Gives g ≡ map_res_of Takes G h) q (ap (map_res_of Takes Gives) p))
+    pub map_res_same : {m n : Mapping O (Result P X)} → m ≡ n → g ≡ h → map_res_of m g ≡ map_res_of n h
+    map_res_same q p = ap₂ map_res_of q p
 
 -- outputs and errors that are converted
 module _ {I O P E F : Type 0} (Gives : O → P → Type 0) (Converts : E → F → Type 0) where

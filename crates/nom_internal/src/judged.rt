@@ -42,7 +42,7 @@ impl<I: Items, A: Drop, F: Parser<I, Output = A> + Drop, O: Drop, G: Fn(A) -> Op
 
     ghost grammar = { λ s. map_opt_by F.Error.errors (G.pre s.1) (G.post s.1) (F.grammar s.0) };
 
-    ghost word = { λ s. Words.map_opt_of F.Error.errors (G.pre s.1) (G.post s.1) (F.word s.0) };
+    ghost word = { λ s. Words.map_opt_of F.Error.errors (Words.mapping (G.pre s.1) (G.post s.1)) (F.word s.0) };
 
     ghost worded = { λ s. Words.map_opt_worded F.Error.errors (G.pre s.1) (G.post s.1) (F.worded s.0) };
 
@@ -131,7 +131,7 @@ where
 
     ghost grammar = { λ s. map_res_by F.Error.externals (G.pre s.1) (G.post s.1) (F.grammar s.0) };
 
-    ghost word = { λ s. Words.map_res_of F.Error.externals (G.pre s.1) (G.post s.1) (F.word s.0) };
+    ghost word = { λ s. Words.map_res_of F.Error.externals (Words.mapping (G.pre s.1) (G.post s.1)) (F.word s.0) };
 
     ghost worded = { λ s. Words.map_res_worded F.Error.externals (G.pre s.1) (G.post s.1) (F.worded s.0) };
 

@@ -31,7 +31,7 @@ impl<I: Items, A: Drop, F: Parser<I, Output = A> + Drop, O: Drop, G: Fn(A) -> O>
 
     ghost grammar = { λ s. map_by (G.pre s.1) (G.post s.1) (F.grammar s.0) };
 
-    ghost word = { λ s. Words.map_of (G.pre s.1) (G.post s.1) (F.word s.0) };
+    ghost word = { λ s. Words.map_of (Words.mapping (G.pre s.1) (G.post s.1)) (F.word s.0) };
 
     ghost worded = { λ s. Words.map_worded (G.pre s.1) (G.post s.1) (F.worded s.0) };
 

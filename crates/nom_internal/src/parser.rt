@@ -107,6 +107,20 @@ pub trait Parser<I: Items>: Sized {
         full(self.process::<OutputM<Emit, Emit, Complete>>(input))
     }
 
+    /// Parses an input in the mode `S`: like `parse` for `Streaming`, and like `parse_complete` for `Complete`.
+    ///
+    /// A function that is generic over its mode calls it.
+    #[inline(always)]
+    final fn parse_in<S: IsStreaming>(&mut self, input: I) -> IResult<I, Self::Output, Self::Error>
+        requires runs { (grammar (state self.old)).meaning.Runs }
+        ensures written { Answers I.model (word (state self.old)) S.STREAMING input result }
+        ensures shown { Parses I.model (grammar (state self.old)) S.STREAMING input result }
+        ensures kept { state self.new ≡ state self.old }
+        ensures side_condition { SideCondition (modes true true S.STREAMING) self.old self.new input (rest_of result) }
+    {
+        full(self.process::<OutputM<Emit, Emit, S>>(input))
+    }
+
     /// Runs this parser and then another, and returns both outputs.
     ///
     /// `tag("a").and(tag("b"))` on `"abc"` returns `("a", "b")` and leaves `"c"`.

@@ -4,6 +4,7 @@ use Rattle.std.proofs.Common.{ap, ap₂}
 use Rattle.nom_error.specs.Errors.{Errors, Externals}
 use Rattle.nom_traits.specs.Input.{Model}
 use Rattle.nom_internal.specs.Word.{Word, word}
+use Rattle.nom_internal.specs.Words.{Mapping, mapping, mapping_is}
 use Rattle.nom_operators.specs.declared.operation.Assoc.{Assoc}
 use Rattle.nom_operators.specs.declared.operation.Operation.{Operation}
 use Rattle.nom_operators.specs.declared.precedences.Unary.{Unary}
@@ -54,21 +55,19 @@ module _ {I A O M E : Type 0} (w : Model I A) (errs : Errors I E) where
 -- terms with operators between them: which operations the fold takes, what it gives for each, and what that tells
 module _ {I A P Q B O Y X M E : Type 0} (w : Model I A) (errs : Errors I E) (externals : Externals I X E) (Returns : Result O Y → Result O X → Type 0)
     (no_memory : Option Y) where
-  pub expression_of : (Operation P Q B O → Type 0) → (Operation P Q B O → Result O Y → Type 0) → Word I (TermOutput P O Q M) E → Word I (Binary B) E →
-      Word I O E
-  expression_of Takes Gives term binary = word
-      (Precedences.expression_by w errs externals Returns no_memory ((x : Operation P Q B O) → Takes x) Gives term.grammar binary.grammar)
+  pub expression_of : Mapping (Operation P Q B O) (Result O Y) → Word I (TermOutput P O Q M) E → Word I (Binary B) E → Word I O E
+  expression_of m term binary = word
+      (Precedences.expression_by w errs externals Returns no_memory ((x : Operation P Q B O) → m.Takes x) m.Gives term.grammar binary.grammar)
 
   module _ {g h : Word I (TermOutput P O Q M) E} {k l : Word I (Binary B) E} where
     pub expression_worded : (Takes : Operation P Q B O → Type 0) (Gives : Operation P Q B O → Result O Y → Type 0) → g ≡ h → k ≡ l →
-        expression_of Takes Gives g k ≡
+        expression_of (mapping Takes Gives) g k ≡
         word (Precedences.expression_by w errs externals Returns no_memory ((x : Operation P Q B O) → Takes x) Gives h.grammar l.grammar)
     unfolding expression_of
-    expression_worded Takes Gives p q = ap₂ (expression_of Takes Gives) p q
+    expression_worded Takes Gives p q = λ i. expression_of (mapping_is Takes Gives i) (p i) (q i)
 
-    pub expression_same : {Takes Takes' : Operation P Q B O → Type 0} {Gives Gives' : Operation P Q B O → Result O Y → Type 0} → Takes ≡ Takes' →
-        Gives ≡ Gives' → g ≡ h → k ≡ l → expression_of Takes Gives g k ≡ expression_of Takes' Gives' h l
-    expression_same a b p r = λ i. expression_of (a i) (b i) (p i) (r i)
+    pub expression_same : {m n : Mapping (Operation P Q B O) (Result O Y)} → m ≡ n → g ≡ h → k ≡ l → expression_of m g k ≡ expression_of n h l
+    expression_same t p q = λ i. expression_of (t i) (p i) (q i)
 
 -- an expression, and then no binary operator
 module _ {I A O B E : Type 0} (w : Model I A) (errs : Errors I E) where

@@ -1,5 +1,6 @@
 //! Expressions.
 ghost use Rattle.std.specs.Prelude.{◌≡◌, List, Result, true};
+ghost use Rattle.nom_internal.specs.Words.{mapping};
 ghost use Rattle.nom_internal.specs.Prelude.{modes, ShowsMeaning};
 ghost use Rattle.nom_language.specs.Evaluated.{IsEvaluated};
 ghost use Rattle.nom_language.specs.Precedences.{PrefixesWait, expression_by, terms_meaning};
@@ -84,8 +85,8 @@ where
     ghost grammar = { λ s. expression_by I.model T.Error.errors T.Error.externals W.Returns W.no_memory ((x : Operation P Q B O) → G.pre s.2 x)
         (G.post s.2) (T.grammar s.1) (C.grammar s.0) };
 
-    ghost word = { λ s. Words.expression_of I.model T.Error.errors T.Error.externals W.Returns W.no_memory (G.pre s.2) (G.post s.2)
-        (T.word s.1) (C.word s.0) };
+    ghost word = { λ s. Words.expression_of I.model T.Error.errors T.Error.externals W.Returns W.no_memory
+        (mapping (G.pre s.2) (G.post s.2)) (T.word s.1) (C.word s.0) };
 
     ghost worded = { λ s. Words.expression_worded I.model T.Error.errors T.Error.externals W.Returns W.no_memory (G.pre s.2) (G.post s.2)
         (T.worded s.1) (C.worded s.0) };

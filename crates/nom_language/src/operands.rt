@@ -2,6 +2,7 @@
 ghost use Rattle.std.specs.Prelude.{◌≡◌, List};
 ghost use Rattle.nom_combinator.specs.Verdicts.{not_meaning};
 ghost use Rattle.nom_error.specs.declared.kind.ErrorKind.TheVariants as Kind;
+ghost use Rattle.nom_internal.specs.Words.{mapping};
 ghost use Rattle.nom_internal.specs.Prelude.{modes, ShowsMeaning};
 ghost use Rattle.nom_language.specs.Precedences.{expression_by, require_operands_of};
 ghost use Rattle.nom_operators.specs.declared.operation.Operation.{Operation};
@@ -61,7 +62,7 @@ where
         W.no_memory ((x : Operation P Q B O) → G.pre s.2 x) (G.post s.2) (T.grammar s.1) (C.grammar s.0)) };
 
     ghost word = { λ s. Words.require_operands_of I.model T.Error.errors (C.word s.0) (Words.expression_of I.model T.Error.errors T.Error.externals
-        W.Returns W.no_memory (G.pre s.2) (G.post s.2) (T.word s.1) (C.word s.0)) };
+        W.Returns W.no_memory (mapping (G.pre s.2) (G.post s.2)) (T.word s.1) (C.word s.0)) };
 
     ghost worded = { λ s. Words.require_operands_worded I.model T.Error.errors (C.worded s.0)
         (Words.expression_worded I.model T.Error.errors T.Error.externals W.Returns W.no_memory (G.pre s.2) (G.post s.2) (T.worded s.1)

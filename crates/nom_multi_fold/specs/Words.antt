@@ -1,6 +1,6 @@
 -- The words of counts and folds.
 use Rattle.std.specs.Prelude.{◌≡◌, ℕ, List}
-use Rattle.std.proofs.Common.{ap}
+use Rattle.std.proofs.Common.{refl, ap, ap₂}
 use Rattle.std.specs.declared.ops.Bound.{Bound}
 use Rattle.nom_error.specs.Errors.{Errors}
 use Rattle.nom_traits.specs.Input.{Model}
@@ -59,76 +59,73 @@ module _ {I A O E : Type 0} (w : Model I A) (errs : Errors I E) where
         many_m_n_count_of least most g ≡ many_m_n_count_of least' most' h
     many_m_n_count_same a b p = λ i. many_m_n_count_of (a i) (b i) (p i)
 
--- folds by closures: when the first can be called, what the second takes, which first values and which next values they make
+-- The two closures of a fold: when the first can be called, what the second takes, which first values and which next values they make.
+-- As one closed term they are compared by themselves, beside parts that are rewritten.
+pub record Folding (O R S : Type 0) : Type 1 where
+  pub CanInit : Type 0
+  pub Takes : R → O → Type 0
+  pub Inits : S → Type 0
+  pub Gives : R → O → S → Type 0
+
+module _ {O R S : Type 0} where
+  pub folding : Type 0 → (R → O → Type 0) → (S → Type 0) → (R → O → S → Type 0) → Folding O R S
+  folding CanInit Takes Inits Gives = record { CanInit = CanInit; Takes = Takes; Inits = Inits; Gives = Gives }
+
+  pub folding_is : (CanInit : Type 0) (Takes : R → O → Type 0) (Inits : S → Type 0) (Gives : R → O → S → Type 0) → folding CanInit Takes Inits Gives ≡
+      record { CanInit = CanInit; Takes = Takes; Inits = Inits; Gives = Gives }
+  unfolding folding
+  folding_is CanInit Takes Inits Gives = refl
+
 module _ {I A O R E : Type 0} (w : Model I A) (errs : Errors I E) where
-  pub fold_many0_of : Type 0 → (R → O → Type 0) → (R → Type 0) → (R → O → R → Type 0) → Word I O E → Word I R E
-  fold_many0_of CanInit Takes Inits Gives g = word (Folds.fold_many0_by w errs (AreCallable CanInit Takes) Inits Gives g.grammar)
+  pub fold_many0_of : Folding O R R → Word I O E → Word I R E
+  fold_many0_of f g = word (Folds.fold_many0_by w errs (AreCallable f.CanInit f.Takes) f.Inits f.Gives g.grammar)
 
-  module _ {g h : Word I O E} where
-    pub fold_many0_worded : (CanInit : Type 0) (Takes : R → O → Type 0) (Inits : R → Type 0) (Gives : R → O → R → Type 0) → g ≡ h →
-        fold_many0_of CanInit Takes Inits Gives g ≡
-        word (Folds.fold_many0_by w errs (AreCallable CanInit Takes) Inits Gives h.grammar)
-    unfolding fold_many0_of
-    fold_many0_worded CanInit Takes Inits Gives p = ap (fold_many0_of CanInit Takes Inits Gives) p
+  pub fold_many1_of : Folding O R R → Word I O E → Word I R E
+  fold_many1_of f g = word (Folds.fold_many1_by w errs (AreCallable f.CanInit f.Takes) f.Inits f.Gives g.grammar)
 
-    pub fold_many0_same : {CanInit CanInit' : Type 0} {Takes Takes' : R → O → Type 0} {Inits Inits' : R → Type 0} {Gives Gives' : R → O → R → Type 0} →
-        CanInit ≡ CanInit' → Takes ≡ Takes' → Inits ≡ Inits' → Gives ≡ Gives' → g ≡ h →
-        fold_many0_of CanInit Takes Inits Gives g ≡ fold_many0_of CanInit' Takes' Inits' Gives' h
-    fold_many0_same a b c d p = λ i. fold_many0_of (a i) (b i) (c i) (d i) (p i)
-
-  pub fold_many1_of : Type 0 → (R → O → Type 0) → (R → Type 0) → (R → O → R → Type 0) → Word I O E → Word I R E
-  fold_many1_of CanInit Takes Inits Gives g = word (Folds.fold_many1_by w errs (AreCallable CanInit Takes) Inits Gives g.grammar)
-
-  module _ {g h : Word I O E} where
-    pub fold_many1_worded : (CanInit : Type 0) (Takes : R → O → Type 0) (Inits : R → Type 0) (Gives : R → O → R → Type 0) → g ≡ h →
-        fold_many1_of CanInit Takes Inits Gives g ≡
-        word (Folds.fold_many1_by w errs (AreCallable CanInit Takes) Inits Gives h.grammar)
-    unfolding fold_many1_of
-    fold_many1_worded CanInit Takes Inits Gives p = ap (fold_many1_of CanInit Takes Inits Gives) p
-
-    pub fold_many1_same : {CanInit CanInit' : Type 0} {Takes Takes' : R → O → Type 0} {Inits Inits' : R → Type 0} {Gives Gives' : R → O → R → Type 0} →
-        CanInit ≡ CanInit' → Takes ≡ Takes' → Inits ≡ Inits' → Gives ≡ Gives' → g ≡ h →
-        fold_many1_of CanInit Takes Inits Gives g ≡ fold_many1_of CanInit' Takes' Inits' Gives' h
-    fold_many1_same a b c d p = λ i. fold_many1_of (a i) (b i) (c i) (d i) (p i)
-
-  abbrev fold_many_m_n_meant : ℕ → ℕ → Type 0 → (R → O → Type 0) → (R → Type 0) → (R → O → R → Type 0) → Word I O E → Word I R E
-  fold_many_m_n_meant least most CanInit Takes Inits Gives g =
-      word (Folds.fold_many_m_n_by w errs (AreCallable CanInit Takes) Inits Gives g.grammar least most)
-
-  pub fold_many_m_n_of : ℕ → ℕ → Type 0 → (R → O → Type 0) → (R → Type 0) → (R → O → R → Type 0) → Word I O E → Word I R E
-  fold_many_m_n_of least most CanInit Takes Inits Gives g = fold_many_m_n_meant least most CanInit Takes Inits Gives g
-
-  module _ {g h : Word I O E} where
-    pub fold_many_m_n_worded : (least most : ℕ) (CanInit : Type 0) (Takes : R → O → Type 0) (Inits : R → Type 0) (Gives : R → O → R → Type 0) → g ≡ h →
-        fold_many_m_n_of least most CanInit Takes Inits Gives g ≡ fold_many_m_n_meant least most CanInit Takes Inits Gives h
-    unfolding fold_many_m_n_of
-    fold_many_m_n_worded least most CanInit Takes Inits Gives p = ap (fold_many_m_n_meant least most CanInit Takes Inits Gives) p
-
-    pub fold_many_m_n_same : {least least' most most' : ℕ} {CanInit CanInit' : Type 0} {Takes Takes' : R → O → Type 0} {Inits Inits' : R → Type 0}
-        {Gives Gives' : R → O → R → Type 0} → least ≡ least' → most ≡ most' → CanInit ≡ CanInit' → Takes ≡ Takes' → Inits ≡ Inits' → Gives ≡ Gives' → g ≡ h →
-        fold_many_m_n_of least most CanInit Takes Inits Gives g ≡ fold_many_m_n_of least' most' CanInit' Takes' Inits' Gives' h
-    fold_many_m_n_same a b c d e f p = λ i. fold_many_m_n_of (a i) (b i) (c i) (d i) (e i) (f i) (p i)
+  pub fold_many_m_n_of : ℕ → ℕ → Folding O R R → Word I O E → Word I R E
+  fold_many_m_n_of least most f g = word (Folds.fold_many_m_n_by w errs (AreCallable f.CanInit f.Takes) f.Inits f.Gives g.grammar least most)
 
   -- by a range of counts
-  abbrev fold_meant : Type 0 → Bound ℕ → Bound ℕ → Type 0 → (R → O → Type 0) → (R → Type 0) → (R → O → R → Type 0) → Word I O E → Word I R E
-  fold_meant IsSpent lower upper CanInit Takes Inits Gives g =
-      word (Ranges.fold_by w errs IsSpent lower upper (AreCallable CanInit Takes) Inits Gives g.grammar)
-
-  pub fold_of : Type 0 → Bound ℕ → Bound ℕ → Type 0 → (R → O → Type 0) → (R → Type 0) → (R → O → R → Type 0) → Word I O E → Word I R E
-  fold_of IsSpent lower upper CanInit Takes Inits Gives g = fold_meant IsSpent lower upper CanInit Takes Inits Gives g
+  pub fold_of : Type 0 → Bound ℕ → Bound ℕ → Folding O R R → Word I O E → Word I R E
+  fold_of IsSpent lower upper f g = word (Ranges.fold_by w errs IsSpent lower upper (AreCallable f.CanInit f.Takes) f.Inits f.Gives g.grammar)
 
   module _ {g h : Word I O E} where
-    pub fold_worded : (IsSpent : Type 0) (lower upper : Bound ℕ) (CanInit : Type 0) (Takes : R → O → Type 0) (Inits : R → Type 0)
-        (Gives : R → O → R → Type 0) → g ≡ h → fold_of IsSpent lower upper CanInit Takes Inits Gives g ≡ fold_meant IsSpent lower upper CanInit Takes Inits
-        Gives h
-    unfolding fold_of
-    fold_worded IsSpent lower upper CanInit Takes Inits Gives p = ap (fold_meant IsSpent lower upper CanInit Takes Inits Gives) p
+    module _ (CanInit : Type 0) (Takes : R → O → Type 0) (Inits : R → Type 0) (Gives : R → O → R → Type 0) where
+      pub fold_many0_worded : g ≡ h → fold_many0_of (folding CanInit Takes Inits Gives) g ≡
+          word (Folds.fold_many0_by w errs (AreCallable CanInit Takes) Inits Gives h.grammar)
+      unfolding fold_many0_of folding
+      fold_many0_worded p = ap (fold_many0_of (folding CanInit Takes Inits Gives)) p
 
-    pub fold_same : {IsSpent IsSpent' : Type 0} {lower lower' upper upper' : Bound ℕ} {CanInit CanInit' : Type 0} {Takes Takes' : R → O → Type 0}
-        {Inits Inits' : R → Type 0} {Gives Gives' : R → O → R → Type 0} → IsSpent ≡ IsSpent' → lower ≡ lower' → upper ≡ upper' → CanInit ≡ CanInit' →
-        Takes ≡ Takes' → Inits ≡ Inits' → Gives ≡ Gives' → g ≡ h →
-        fold_of IsSpent lower upper CanInit Takes Inits Gives g ≡ fold_of IsSpent' lower' upper' CanInit' Takes' Inits' Gives' h
-    fold_same a b c d e f s p = λ i. fold_of (a i) (b i) (c i) (d i) (e i) (f i) (s i) (p i)
+      pub fold_many1_worded : g ≡ h → fold_many1_of (folding CanInit Takes Inits Gives) g ≡
+          word (Folds.fold_many1_by w errs (AreCallable CanInit Takes) Inits Gives h.grammar)
+      unfolding fold_many1_of folding
+      fold_many1_worded p = ap (fold_many1_of (folding CanInit Takes Inits Gives)) p
+
+      pub fold_many_m_n_worded : (least most : ℕ) → g ≡ h → fold_many_m_n_of least most (folding CanInit Takes Inits Gives) g ≡
+          word (Folds.fold_many_m_n_by w errs (AreCallable CanInit Takes) Inits Gives h.grammar least most)
+      unfolding fold_many_m_n_of folding
+      fold_many_m_n_worded least most p = ap (fold_many_m_n_of least most (folding CanInit Takes Inits Gives)) p
+
+      pub fold_worded : (IsSpent : Type 0) (lower upper : Bound ℕ) → g ≡ h → fold_of IsSpent lower upper (folding CanInit Takes Inits Gives) g ≡
+          word (Ranges.fold_by w errs IsSpent lower upper (AreCallable CanInit Takes) Inits Gives h.grammar)
+      unfolding fold_of folding
+      fold_worded IsSpent lower upper p = ap (fold_of IsSpent lower upper (folding CanInit Takes Inits Gives)) p
+
+    module _ {f f' : Folding O R R} where
+      pub fold_many0_same : f ≡ f' → g ≡ h → fold_many0_of f g ≡ fold_many0_of f' h
+      fold_many0_same q p = ap₂ fold_many0_of q p
+
+      pub fold_many1_same : f ≡ f' → g ≡ h → fold_many1_of f g ≡ fold_many1_of f' h
+      fold_many1_same q p = ap₂ fold_many1_of q p
+
+      pub fold_many_m_n_same : {least least' most most' : ℕ} → least ≡ least' → most ≡ most' → f ≡ f' → g ≡ h →
+          fold_many_m_n_of least most f g ≡ fold_many_m_n_of least' most' f' h
+      fold_many_m_n_same a b q p = λ i. fold_many_m_n_of (a i) (b i) (q i) (p i)
+
+      pub fold_same : {IsSpent IsSpent' : Type 0} {lower lower' upper upper' : Bound ℕ} → IsSpent ≡ IsSpent' → lower ≡ lower' → upper ≡ upper' →
+          f ≡ f' → g ≡ h → fold_of IsSpent lower upper f g ≡ fold_of IsSpent' lower' upper' f' h
+      fold_same a b c q p = λ i. fold_of (a i) (b i) (c i) (q i) (p i)
 
 -- a collection of items, by a range of counts
 module _ {I A O C E : Type 0} (w : Model I A) (errs : Errors I E) (items : C → List O) where

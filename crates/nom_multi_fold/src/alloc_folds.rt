@@ -7,6 +7,7 @@ ghost use Rattle.nom_repeat.specs.declared.items.TooFew.TheVariants.{Fresh};
 ghost use Rattle.nom_multi_fold.specs.Folds.{Folds, AreCallable, FoldsConsistently};
 ghost use Rattle.nom_multi_fold.specs.FoldAlloc.{FoldsItem, IsPresent, Starts, folded_meaning, fold_many0_alloc_by, fold_many1_alloc_by};
 ghost use Rattle.nom_multi_fold.specs.AllocWords as Words;
+ghost use Rattle.nom_multi_fold.specs.Words.{folding};
 
 use nom_error::answer::{Err, OutOfMemory, PResult};
 use nom_error::kind::ErrorKind;
@@ -159,7 +160,7 @@ impl<
 
     ghost grammar = { λ s. fold_many0_alloc_by I.model F.Error.errors (AreCallable (H.pre s.1) (G.pre s.2)) (H.post s.1) (G.post s.2) (F.grammar s.0) };
 
-    ghost word = { λ s. Words.fold_many0_alloc_of I.model F.Error.errors (H.pre s.1) (G.pre s.2) (H.post s.1) (G.post s.2) (F.word s.0) };
+    ghost word = { λ s. Words.fold_many0_alloc_of I.model F.Error.errors (folding (H.pre s.1) (G.pre s.2) (H.post s.1) (G.post s.2)) (F.word s.0) };
 
     ghost worded = { λ s. Words.fold_many0_alloc_worded I.model F.Error.errors (H.pre s.1) (G.pre s.2) (H.post s.1) (G.post s.2) (F.worded s.0) };
 
@@ -218,7 +219,7 @@ impl<
 
     ghost grammar = { λ s. fold_many1_alloc_by I.model F.Error.errors (AreCallable (H.pre s.1) (G.pre s.2)) (H.post s.1) (G.post s.2) (F.grammar s.0) };
 
-    ghost word = { λ s. Words.fold_many1_alloc_of I.model F.Error.errors (H.pre s.1) (G.pre s.2) (H.post s.1) (G.post s.2) (F.word s.0) };
+    ghost word = { λ s. Words.fold_many1_alloc_of I.model F.Error.errors (folding (H.pre s.1) (G.pre s.2) (H.post s.1) (G.post s.2)) (F.word s.0) };
 
     ghost worded = { λ s. Words.fold_many1_alloc_worded I.model F.Error.errors (H.pre s.1) (G.pre s.2) (H.post s.1) (G.post s.2) (F.worded s.0) };
 

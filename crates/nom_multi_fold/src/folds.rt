@@ -3,6 +3,7 @@ ghost use Rattle.std.specs.Prelude.{List, ℕ};
 ghost use Rattle.nom_multi_fold.specs.Folds.{Folds, AreCallable, FoldsConsistently, fold_many0_by};
 ghost use Rattle.nom_multi_fold.specs.Folds.{fold_many1_by, fold_many_m_n_by};
 ghost use Rattle.nom_multi_fold.specs.Words as Words;
+ghost use Rattle.nom_multi_fold.specs.Words.{folding};
 
 use crate::folded::{Folded, carried, start};
 use nom_error::answer::PResult;
@@ -40,7 +41,7 @@ impl<I: Input, F: Parser<I> + Drop, R: Drop, H: Fn() -> R, G: Fn(R, F::Output) -
 
     ghost grammar = { λ s. fold_many0_by I.model F.Error.errors (AreCallable (H.pre s.1) (G.pre s.2)) (H.post s.1) (G.post s.2) (F.grammar s.0) };
 
-    ghost word = { λ s. Words.fold_many0_of I.model F.Error.errors (H.pre s.1) (G.pre s.2) (H.post s.1) (G.post s.2) (F.word s.0) };
+    ghost word = { λ s. Words.fold_many0_of I.model F.Error.errors (folding (H.pre s.1) (G.pre s.2) (H.post s.1) (G.post s.2)) (F.word s.0) };
 
     ghost worded = { λ s. Words.fold_many0_worded I.model F.Error.errors (H.pre s.1) (G.pre s.2) (H.post s.1) (G.post s.2) (F.worded s.0) };
 
@@ -99,7 +100,7 @@ impl<I: Input, F: Parser<I> + Drop, R: Drop, H: Fn() -> R, G: Fn(R, F::Output) -
 
     ghost grammar = { λ s. fold_many1_by I.model F.Error.errors (AreCallable (H.pre s.1) (G.pre s.2)) (H.post s.1) (G.post s.2) (F.grammar s.0) };
 
-    ghost word = { λ s. Words.fold_many1_of I.model F.Error.errors (H.pre s.1) (G.pre s.2) (H.post s.1) (G.post s.2) (F.word s.0) };
+    ghost word = { λ s. Words.fold_many1_of I.model F.Error.errors (folding (H.pre s.1) (G.pre s.2) (H.post s.1) (G.post s.2)) (F.word s.0) };
 
     ghost worded = { λ s. Words.fold_many1_worded I.model F.Error.errors (H.pre s.1) (G.pre s.2) (H.post s.1) (G.post s.2) (F.worded s.0) };
 
@@ -167,9 +168,9 @@ impl<I: Input, F: Parser<I> + Drop, R: Drop, H: Fn() -> R, G: Fn(R, F::Output) -
 
     ghost grammar = { λ s. fold_many_m_n_by I.model F.Error.errors (AreCallable (H.pre s.1) (G.pre s.2)) (H.post s.1) (G.post s.2) (F.grammar s.0) s.3 s.4 };
 
-    ghost word = { λ s. Words.fold_many_m_n_of I.model F.Error.errors s.3 s.4 (H.pre s.1) (G.pre s.2) (H.post s.1) (G.post s.2) (F.word s.0) };
+    ghost word = { λ s. Words.fold_many_m_n_of I.model F.Error.errors s.3 s.4 (folding (H.pre s.1) (G.pre s.2) (H.post s.1) (G.post s.2)) (F.word s.0) };
 
-    ghost worded = { λ s. Words.fold_many_m_n_worded I.model F.Error.errors s.3 s.4 (H.pre s.1) (G.pre s.2) (H.post s.1) (G.post s.2) (F.worded s.0) };
+    ghost worded = { λ s. Words.fold_many_m_n_worded I.model F.Error.errors (H.pre s.1) (G.pre s.2) (H.post s.1) (G.post s.2) s.3 s.4 (F.worded s.0) };
 
     #[inline]
     fn process<OM: OutputMode>(&mut self, input: I) -> PResult<I, R, F::Error> {

@@ -4,6 +4,7 @@ ghost use Rattle.nom_error.specs.declared.kind.ErrorKind.TheVariants as Kind;
 ghost use Rattle.nom_multi_fold.specs.Folds.{AreCallable, FoldsConsistently};
 ghost use Rattle.nom_multi_fold.specs.Ranges.{many_of, fold_by};
 ghost use Rattle.nom_multi_fold.specs.Words as Words;
+ghost use Rattle.nom_multi_fold.specs.Words.{folding};
 
 use crate::folded::{Folded, carried, start};
 use crate::gathered::{Gathered, collected, gather};
@@ -125,11 +126,11 @@ impl<
     ghost grammar = { λ s. fold_by I.model F.Error.errors (R.IsSpent s.3) (R.lower s.3) (R.upper s.3) (AreCallable (H.pre s.1) (G.pre s.2))
         (H.post s.1) (G.post s.2) (F.grammar s.0) };
 
-    ghost word = { λ s. Words.fold_of I.model F.Error.errors (R.IsSpent s.3) (R.lower s.3) (R.upper s.3) (H.pre s.1) (G.pre s.2) (H.post s.1)
-        (G.post s.2) (F.word s.0) };
+    ghost word = { λ s. Words.fold_of I.model F.Error.errors (R.IsSpent s.3) (R.lower s.3) (R.upper s.3)
+        (folding (H.pre s.1) (G.pre s.2) (H.post s.1) (G.post s.2)) (F.word s.0) };
 
-    ghost worded = { λ s. Words.fold_worded I.model F.Error.errors (R.IsSpent s.3) (R.lower s.3) (R.upper s.3) (H.pre s.1) (G.pre s.2) (H.post s.1)
-        (G.post s.2) (F.worded s.0) };
+    ghost worded = { λ s. Words.fold_worded I.model F.Error.errors (H.pre s.1) (G.pre s.2) (H.post s.1) (G.post s.2) (R.IsSpent s.3) (R.lower s.3)
+        (R.upper s.3) (F.worded s.0) };
 
     #[inline]
     fn process<OM: OutputMode>(&mut self, input: I) -> PResult<I, T, F::Error> {

@@ -1,5 +1,6 @@
 //! Expressions.
 ghost use Rattle.std.specs.Prelude.{◌≡◌, List, length};
+ghost use Rattle.nom.specs.Grammar.{mapping};
 ghost use Rattle.nom.specs.Prelude.{modes};
 ghost use Rattle.nom_precedence.specs.Readings.{AreKept, ShowsRead, whole_by};
 ghost use Rattle.nom_precedence.specs.Values.{folding, precedence_by};
@@ -58,10 +59,10 @@ impl<
     ghost grammar = { λ s. precedence_by I.model F.Error.errors ((x : Operation P.Output Q.Output B F.Output) → G.pre s.5 x) (G.post s.5) s.4
         (P.grammar s.0) (F.grammar s.1) (Q.grammar s.2) (C.grammar s.3) };
 
-    ghost word = { λ s. Words.precedence_of I.model F.Error.errors ((x : Operation P.Output Q.Output B F.Output) → G.pre s.5 x) (G.post s.5) s.4
+    ghost word = { λ s. Words.precedence_of I.model F.Error.errors s.4 (mapping (G.pre s.5) (G.post s.5))
         (P.word s.0) (F.word s.1) (Q.word s.2) (C.word s.3) };
 
-    ghost worded = { λ s. Words.precedence_worded I.model F.Error.errors ((x : Operation P.Output Q.Output B F.Output) → G.pre s.5 x) (G.post s.5) s.4
+    ghost worded = { λ s. Words.precedence_worded I.model F.Error.errors s.4 (G.pre s.5) (G.post s.5)
         (P.worded s.0) (F.worded s.1) (Q.worded s.2) (C.worded s.3) };
 
     fn process<OM: OutputMode>(&mut self, input: I) -> PResult<I, F::Output, F::Error> {

@@ -1,7 +1,6 @@
 //! Fixed values, and outputs that pass a test.
 ghost use Rattle.std.specs.Prelude.{◌≡◌, ◌⊎◌, true, false, length};
-ghost use Rattle.std.specs.Borrow.{Bor};
-ghost use Rattle.std.specs.Fn.{FnReturnsAt};
+ghost use Rattle.nom_internal.specs.Closures.{GivesAt, TakesAt};
 ghost use Rattle.nom_sink.specs.Written.{LacksRoom};
 ghost use Rattle.nom_sink.specs.declared.error.WriteError.{WriteError};
 ghost use Rattle.nom_write.specs.laws.OutputReads.{value_begins, value_reads, verify_begins, verify_reads};
@@ -42,22 +41,22 @@ impl<I: Items, O: Clone + PartialEq + Viewed, F: Constant<I> + Drop> Writer<I> f
 /// Returns whether a value passes a test.
 #[inline(always)]
 fn passes<O, G: Fn(&O) -> bool>(test: &G, value: &O) -> bool
-    requires callable { (p : Bor O) → p.now ≡ value.now → G.pre test.now p }
-    ensures { FnReturnsAt G.Fn test.now value.now result }
+    requires callable { TakesAt (G.pre test.now) value.now }
+    ensures { GivesAt (G.post test.now) value.now result }
 {
     test(value)
 }
 
 /// Writes a value that passes the test. Any other value is a mismatch.
 impl<I: Items, F: Writer<I> + Drop, G: Fn(&F::Output) -> bool> Writer<I> for Verify<F, G> {
-    ghost Form = { λ p v xs. FnReturnsAt G.Fn p.test v true × F.Form p.parser v xs };
+    ghost Form = { λ p v xs. GivesAt (G.post p.test) v true × F.Form p.parser v xs };
 
-    ghost Fails = { λ p v s e. (FnReturnsAt G.Fn p.test v false × (e ≡ WriteError.Mismatch s.start)) ⊎
-        (FnReturnsAt G.Fn p.test v true × F.Fails p.parser v s e) };
+    ghost Fails = { λ p v s e. (GivesAt (G.post p.test) v false × (e ≡ WriteError.Mismatch s.start)) ⊎
+        (GivesAt (G.post p.test) v true × F.Fails p.parser v s e) };
 
     ghost Follow = { λ p. F.Follow p.parser };
 
-    ghost CanWrite = { λ p. F.CanWrite p.parser × ((v : F.Output) (r : Bor F.Output) → r.now ≡ v → G.pre p.test r) };
+    ghost CanWrite = { λ p. F.CanWrite p.parser × ((v : F.Output) → TakesAt (G.pre p.test) v) };
 
     ghost First = { λ p. F.First p.parser };
 
@@ -70,9 +69,9 @@ impl<I: Items, F: Writer<I> + Drop, G: Fn(&F::Output) -> bool> Writer<I> for Ver
         }
     }
 
-    ghost reads = { λ p k c. verify_reads F.Error.errors (λ o. (r : Bor F.Output) → r.now ≡ o → G.pre p.test r) (FnReturnsAt G.Fn p.test) k.1
+    ghost reads = { λ p k c. verify_reads F.Error.errors (TakesAt (G.pre p.test)) (GivesAt (G.post p.test)) k.1
         (F.reads p.parser k.0 c.0) };
 
-    ghost begins = { λ p. verify_begins F.Error.errors (λ o. (r : Bor F.Output) → r.now ≡ o → G.pre p.test r) (FnReturnsAt G.Fn p.test)
+    ghost begins = { λ p. verify_begins F.Error.errors (TakesAt (G.pre p.test)) (GivesAt (G.post p.test))
         (F.begins p.parser) };
 }

@@ -1,7 +1,5 @@
 //! Values in the place of outputs, and outputs that pass a test.
-ghost use Rattle.std.specs.Prelude.{◌≡◌};
-ghost use Rattle.std.specs.Borrow.{Bor};
-ghost use Rattle.std.specs.Fn.{FnReturnsAt};
+ghost use Rattle.nom_internal.specs.Closures.{GivesAt, TakesAt};
 ghost use Rattle.nom_write_canonical.specs.laws.CaseForms.{value_accepts, verify_accepts};
 ghost use Rattle.nom_write_canonical.specs.laws.SequenceForms.{items_one, one_beside};
 
@@ -21,8 +19,7 @@ impl<I: Items, O: Clone + PartialEq + Viewed, F: CanonicalConstant<I> + Drop> Ca
 impl<I: Items, F: Canonical<I> + Drop, G: Fn(&F::Output) -> bool> Canonical<I> for Verify<F, G> {
     ghost IsCanonical = { λ p. F.IsCanonical p.parser };
 
-    ghost accepts_forms = { λ p c. verify_accepts F.Error.errors (λ o. (r : Bor F.Output) → r.now ≡ o → G.pre p.test r) (FnReturnsAt G.Fn p.test)
-        (F.accepts_forms p.parser c) };
+    ghost accepts_forms = { λ p c. verify_accepts F.Error.errors (TakesAt (G.pre p.test)) (GivesAt (G.post p.test)) (F.accepts_forms p.parser c) };
 
     ghost one_form = { λ p c v. one_beside (λ xs f. f.1) (F.one_form p.parser c v) };
 }

@@ -34,10 +34,10 @@ returns g c =
     (ap (λ p. p.second.m) c.pair.ensures.second ∙ (ap (λ p. p.m) c.preceded-low.ensures.second ∙ c.take_while_m_n-2.ensures.least)) in
     let low_most = ap (λ p. p.second.second.n) pairs ∙
     (ap (λ p. p.second.n) c.pair.ensures.second ∙ (ap (λ p. p.n) c.preceded-low.ensures.second ∙ c.take_while_m_n-2.ensures.most)) in
-    let meant = map_same refl refl (satisfy_same text_model plain_errors (λ x. x) letter_kind (char_within_same (λ x. x) (ap chars letters))) in
+    let meant = map_same refl (satisfy_same text_model plain_errors (λ x. x) letter_kind (char_within_same (λ x. x) (ap chars letters))) in
     let low = preceded_same text_model (tag_same text_model plain_errors _ _ sign) (bounded_same text_model plain_errors low_least low_most refl) in
-    let joined = map_opt_same plain_errors refl refl (pair_same text_model (bounded_same text_model plain_errors high_least high_most refl) low) in
-    let number = map_opt_same plain_errors refl refl (bounded_same text_model plain_errors alone_least alone_most refl) in
+    let joined = map_opt_same plain_errors refl (pair_same text_model (bounded_same text_model plain_errors high_least high_most refl) low) in
+    let number = map_opt_same plain_errors refl (bounded_same text_model plain_errors alone_least alone_most refl) in
     let code_of = preceded_same text_model (char_same text_model plain_errors (λ x. x) mark) (alt_same plain_errors (or_same plain_errors number joined)) in
     answers_same text_model false _ _ c.parse_complete.ensures.written (all_consuming_same text_model plain_errors
     (escaped_transform_same text_model plain_errors (λ x. x) _ _ _ (run1_same text_model plain_errors plain_kind refl) control

@@ -1,0 +1,4 @@
+pub mod Brackets
+pub mod Comments
+pub mod Sexprs
+pub mod Values
