@@ -12,11 +12,11 @@ use nom::bytes::{tag, take};
 use nom::error::Error;
 use nom::{Err, IResult, Items, OutOfMemory, Parser, parse_growing};
 use nom_io::counted::Counted;
-use nom_io::stream::Sink;
+use nom_io::stream::ByteWriter;
 use nom_run::error::RunError;
 use nom_run::folder::Disk;
 use nom_run::program::{read_words, status_by};
-use nom_run::report::{Report, beginning_len, write_built};
+use nom_run::report::{Reporting, beginning_len, write_built};
 use nom_run::text::{add_bytes, add_decided, add_error, add_failure, add_need, add_rest};
 use std::alloc::Allocator;
 use std::io;
@@ -88,10 +88,10 @@ fn text_of<A: Allocator + Copy>(
 /// The report on a record.
 struct Record;
 
-impl Report for Record {
+impl Reporting for Record {
     ghost is_report = { λ _. IsReport };
 
-    fn write<A: Allocator + Copy, W: Sink>(
+    fn write<A: Allocator + Copy, W: ByteWriter>(
         &self,
         alloc: A,
         bytes: &[u8],

@@ -1,12 +1,10 @@
 -- A name and its value.
 use Rattle.std.specs.Prelude.{◌≡◌, ℕ, ◌<◌, ◌==◌, ◌||◌, ◌&&◌, not, Bool, true, false, List, ◌∷◌, ◌++◌, length, codes}
 use Rattle.std.specs.Borrow.{Bor}
-use Rattle.std.specs.Char.{IsScalar, is_ascii_alphanumeric}
+use Rattle.std.specs.Char.{is_ascii_alphanumeric}
 use Rattle.std.specs.List.{All}
-use Rattle.nom_error.specs.Errors.{Contexts}
-use Rattle.nom_internal.specs.Prelude.{Errors, Stops, text_model}
-use Rattle.nom.specs.Grammar.{Word, context_of, separated_pair_of}
-use Rattle.nom.specs.Leaves.{char_of, take_while1_of}
+use Rattle.nom_internal.specs.Prelude.{Stops}
+use Rattle.nom.specs.Words.{Word, char_of, context_of, separated_pair_of, take_while1_of}
 
 -- a letter, a digit, or `_`
 abbrev pub in_name : ℕ → Bool
@@ -25,10 +23,6 @@ pub record IsNamed (cs name value rest : List ℕ) : Type 0 where
   pub is_value : All (λ c. in_value c ≡ true) value
   pub ends : Stops (λ c. in_value c ≡ false) rest
 
-abbrev Text : Type 0
-Text = Bor (List ℕ)
-
--- the grammar of the line, with errors of any type
-abbrev pub line_of : {E : Type 0} → Errors Text E → Contexts Text E → Word Text (Text × Text) E
-line_of errs contexts = separated_pair_of text_model (context_of contexts (codes "a name") (take_while1_of text_model errs IsScalar in_name))
-    (char_of text_model errs 61) (context_of contexts (codes "a value") (take_while1_of text_model errs IsScalar in_value))
+-- the grammar of the line
+abbrev pub line_of : {E : Type 0} → Word (Bor (List ℕ)) (Bor (List ℕ) × Bor (List ℕ)) E
+line_of = separated_pair_of (context_of (codes "a name") (take_while1_of in_name)) (char_of 61) (context_of (codes "a value") (take_while1_of in_value))

@@ -1,7 +1,6 @@
 //! A name and its value, as `color=dark red`.
 ghost use Rattle.std.specs.Prelude.{◌≡◌, false, chars, IfOk};
-ghost use Rattle.nom_internal.specs.Prelude.{text_model};
-ghost use Rattle.nom.specs.Grammar.{Answers};
+ghost use Rattle.nom.specs.Words.{Parses, texts_with, with_contexts};
 ghost use Rattle.example_formats.specs.Named.{IsNamed, in_name, in_value, line_of};
 
 use nom::bytes::take_while1;
@@ -37,7 +36,7 @@ fn is_value(c: char) -> bool
 pub fn named_value<'a, E: ParseError<&'a str> + ContextError<&'a str>>(
     input: &'a str,
 ) -> IResult<&'a str, (&'a str, &'a str), E>
-    ensures grammar { Answers text_model (line_of E.errors E.contexts) false input.entry result }
+    ensures grammar { Parses (with_contexts (texts_with E.errors) E.contexts) line_of false input.entry result }
     ensures named { IfOk result (λ a. IsNamed (chars input.now) (chars a.1.0.now) (chars a.1.1.now) (chars a.0.now)) }
 {
     let name = context("a name", take_while1(is_named));

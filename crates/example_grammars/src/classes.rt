@@ -2,9 +2,9 @@
 ghost use Rattle.std.specs.Prelude.{◌≡◌, codes, false};
 ghost use Rattle.nom.specs.Bytes as Bytes;
 ghost use Rattle.nom.specs.Texts.{Parses, alpha0_of, alpha1_of, alphanumeric0_of, alphanumeric1_of, alt_of, bin_digit0_of, bin_digit1_of, char_of};
-ghost use Rattle.nom.specs.Texts.{delimited_of, digit0_of, hex_digit0_of, hex_digit1_of, multispace0_of, multispace1_of, oct_digit0_of, oct_digit1_of};
-ghost use Rattle.nom.specs.Texts.{or_of, pair_of, preceded_of, recognize_of, separated_pair_of, space1_of, tag_of, take_till1_of, take_till_of};
-ghost use Rattle.nom.specs.Texts.{take_until1_of, take_while_of, tuple_of_three};
+ghost use Rattle.nom.specs.Texts.{delimited_of, digit0_of, hex_digit0_of, hex_digit1_of, multispace0_of, multispace1_of, oct_digit0_of};
+ghost use Rattle.nom.specs.Texts.{oct_digit1_of, or_of, pair_of, preceded_of, recognize_of, separated_pair_of, space1_of, tag_of, take_till1_of};
+ghost use Rattle.nom.specs.Texts.{take_till_of, take_until1_of, take_while_of, tuple_of_three};
 ghost use Rattle.example_grammars.specs.Codes.{is_comma};
 
 use nom::branch::alt;
@@ -88,7 +88,7 @@ pub fn fields(line: &str) -> IResult<&str, (&str, &str, &str)>
 
 /// A number of two bytes, the highest first, and one of four, the lowest first.
 pub fn point(input: &[u8]) -> IResult<&[u8], (i16, i32)>
-    ensures { Bytes.Parses (Bytes.pair_of (Bytes.signed_number_of Bytes.Big 2) (Bytes.signed_number_of Bytes.Little 4)) false input.entry result }
+    ensures { Bytes.Parses (Bytes.pair_of Bytes.be_i16_of Bytes.le_i32_of) false input.entry result }
 {
     pair(be_i16(), le_i32()).parse_complete(input)
 }

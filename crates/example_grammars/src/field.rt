@@ -4,10 +4,11 @@
 ghost use Rattle.std.specs.Prelude.{◌≡◌, codes, false, true};
 ghost use Rattle.nom.specs.BitWords as Bits;
 ghost use Rattle.nom.specs.Bytes as Bytes;
-ghost use Rattle.nom.specs.Texts.{Parses, alpha1_of, alt_of, char_of, crlf_of, decimal_of, delimited_of, digit1_of, hex_digit1_of};
-ghost use Rattle.nom.specs.Texts.{escaped_of, is_not_of, line_ending_of, many0_of, not_line_ending_of, one_of_of, opt_of, or_of, pair_of, preceded_of};
-ghost use Rattle.nom.specs.Texts.{recognize_of, separated_list0_of, separated_list1_of, separated_pair_of, space0_of, tag_of, terminated_of};
-ghost use Rattle.nom.specs.Texts.{tuple_of_five, tuple_of_four, tuple_of_three};
+ghost use Rattle.nom.specs.Texts.{Parses, alt_of, char_of, crlf_of, delimited_of, digit1_of, escaped_of, hex_digit1_of, is_not_of, line_ending_of};
+ghost use Rattle.nom.specs.Texts.{many0_of, not_line_ending_of, one_of_of, opt_of, or_of, pair_of, preceded_of, recognize_of, separated_list0_of};
+ghost use Rattle.nom.specs.Texts.{separated_list1_of, separated_pair_of, space0_of, tag_of, terminated_of, tuple_of_five, tuple_of_four};
+ghost use Rattle.nom.specs.Texts.{tuple_of_three, u32_of, u64_of, u8_of};
+ghost use Rattle.nom.specs.Words as Words;
 ghost use Rattle.example_grammars.specs.Field.{is_more};
 
 use nom::bits::{bits, bool, take as take_bits};
@@ -27,8 +28,8 @@ use std::alloc::Global;
 
 /// An IPv4 address, as `192.168.0.1`.
 pub fn ipv4(input: &str) -> IResult<&str, (u8, u8, u8, u8)>
-    ensures { Parses (tuple_of_four (terminated_of (decimal_of 8) (char_of 46)) (terminated_of (decimal_of 8) (char_of 46))
-        (terminated_of (decimal_of 8) (char_of 46)) (decimal_of 8)) false input.entry result }
+    ensures { Parses (tuple_of_four (terminated_of u8_of (char_of 46)) (terminated_of u8_of (char_of 46))
+        (terminated_of u8_of (char_of 46)) u8_of) false input.entry result }
 {
     (
         terminated(u8(), char('.')),
@@ -41,7 +42,7 @@ pub fn ipv4(input: &str) -> IResult<&str, (u8, u8, u8, u8)>
 
 /// A semantic version, as `1.0.12-beta.2+linux`: its three numbers, what comes before it, and its build.
 pub fn version(input: &str) -> IResult<&str, (u64, u64, u64, Option<&str>, Option<&str>)>
-    ensures { Parses (tuple_of_five (terminated_of (decimal_of 64) (char_of 46)) (terminated_of (decimal_of 64) (char_of 46)) (decimal_of 64)
+    ensures { Parses (tuple_of_five (terminated_of u64_of (char_of 46)) (terminated_of u64_of (char_of 46)) u64_of
         (opt_of (preceded_of (char_of 45) (is_not_of (codes "+")))) (opt_of (preceded_of (char_of 43) (is_not_of (codes " ")))))
         false input.entry result }
 {
@@ -60,8 +61,8 @@ pub fn version(input: &str) -> IResult<&str, (u64, u64, u64, Option<&str>, Optio
 /// A date and a time, as `2026-11-28T09:30:00`.
 pub fn date_time(input: &str) -> IResult<&str, ((u32, u8, u8), (u8, u8, u8))>
     ensures { Parses (separated_pair_of
-        (tuple_of_three (terminated_of (decimal_of 32) (char_of 45)) (terminated_of (decimal_of 8) (char_of 45)) (decimal_of 8)) (char_of 84)
-        (tuple_of_three (terminated_of (decimal_of 8) (char_of 58)) (terminated_of (decimal_of 8) (char_of 58)) (decimal_of 8))) false input.entry result }
+        (tuple_of_three (terminated_of u32_of (char_of 45)) (terminated_of u8_of (char_of 45)) u8_of) (char_of 84)
+        (tuple_of_three (terminated_of u8_of (char_of 58)) (terminated_of u8_of (char_of 58)) u8_of)) false input.entry result }
 {
     let date = (
         terminated(u32(), char('-')),
@@ -151,8 +152,8 @@ fn more(byte: u8) -> bool
 
 /// The fixed header of MQTT: the kind with its flags, and the bytes of the remaining length.
 pub fn fixed_header(input: &[u8]) -> IResult<&[u8], (u8, &[u8])>
-    ensures { Bytes.Parses (Bytes.pair_of (Bytes.number_of Bytes.Big 1)
-        (Bytes.recognize_of (Bytes.pair_of (Bytes.take_while_m_n_of 0 3 is_more) (Bytes.number_of Bytes.Big 1)))) true input.entry result }
+    ensures { Bytes.Parses (Bytes.pair_of Bytes.be_u8_of
+        (Bytes.recognize_of (Bytes.pair_of (Bytes.take_while_m_n_of 0 3 is_more) Bytes.be_u8_of))) true input.entry result }
 {
     let length = pair(take_while_m_n(0usize, 3usize, more), be_u8());
     pair(be_u8(), recognize(length)).parse(input)
@@ -161,8 +162,8 @@ pub fn fixed_header(input: &[u8]) -> IResult<&[u8], (u8, &[u8])>
 /// A question of DNS: the labels of a name, the type and the class.
 pub fn question(alloc: Global, input: &[u8]) -> IResult<&[u8], ((Vec<&[u8]>, &[u8]), u16, u16)>
     ensures { Bytes.Parses (Bytes.tuple_of_three
-        (Bytes.many_till_of (Bytes.length_data_of (Bytes.number_of Bytes.Big 1)) (Bytes.tag_of (codes "\0")))
-        (Bytes.number_of Bytes.Big 2) (Bytes.number_of Bytes.Big 2)) true input.entry result }
+        (Bytes.many_till_of (Bytes.length_data_of Bytes.be_u8_of) (Bytes.tag_of (codes "\0")))
+        Bytes.be_u16_of Bytes.be_u16_of) true input.entry result }
 {
     let name = many_till(alloc, length_data(be_u8()), tag("\0"));
     (name, be_u16(), be_u16()).parse(input)
@@ -170,15 +171,15 @@ pub fn question(alloc: Global, input: &[u8]) -> IResult<&[u8], ((Vec<&[u8]>, &[u
 
 /// A record of TLS: its type, its version and its fragment.
 pub fn record(input: &[u8]) -> IResult<&[u8], (u8, u16, &[u8])>
-    ensures { Bytes.Parses (Bytes.tuple_of_three (Bytes.number_of Bytes.Big 1) (Bytes.number_of Bytes.Big 2)
-        (Bytes.length_data_of (Bytes.number_of Bytes.Big 2))) true input.entry result }
+    ensures { Bytes.Parses (Bytes.tuple_of_three Bytes.be_u8_of Bytes.be_u16_of
+        (Bytes.length_data_of Bytes.be_u16_of)) true input.entry result }
 {
     (be_u8(), be_u16(), length_data(be_u16())).parse(input)
 }
 
 /// A netstring, as `5:hello,`.
 pub fn netstring(input: &[u8]) -> IResult<&[u8], &[u8]>
-    ensures { Bytes.Parses (Bytes.terminated_of (Bytes.length_data_of (Bytes.terminated_of (Bytes.decimal_of 32) (Bytes.char_of 58))) (Bytes.char_of 44))
+    ensures { Bytes.Parses (Bytes.terminated_of (Bytes.length_data_of (Bytes.terminated_of Bytes.u32_of (Bytes.char_of 58))) (Bytes.char_of 44))
         true input.entry result }
 {
     terminated(length_data(terminated(u32(), char(':'))), char(',')).parse(input)
@@ -240,8 +241,8 @@ pub fn pkt_line(input: &[u8]) -> IResult<&[u8], (&[u8], &[u8])>
 
 /// The first chunk of a PNG file: width, height, and five bytes that say how its pixels are stored.
 pub fn image_header(input: &[u8]) -> IResult<&[u8], (u32, u32, &[u8], u32)>
-    ensures { Bytes.Parses (Bytes.preceded_of (Bytes.pair_of (Bytes.number_of Bytes.Big 4) (Bytes.tag_of (codes "IHDR")))
-        (Bytes.tuple_of_four (Bytes.number_of Bytes.Big 4) (Bytes.number_of Bytes.Big 4) (Bytes.take_of 5) (Bytes.number_of Bytes.Big 4)))
+    ensures { Bytes.Parses (Bytes.preceded_of (Bytes.pair_of Bytes.be_u32_of (Bytes.tag_of (codes "IHDR")))
+        (Bytes.tuple_of_four Bytes.be_u32_of Bytes.be_u32_of (Bytes.take_of 5) Bytes.be_u32_of))
         true input.entry result }
 {
     let fields = (be_u32(), be_u32(), take(5usize), be_u32());
@@ -250,7 +251,7 @@ pub fn image_header(input: &[u8]) -> IResult<&[u8], (u32, u32, &[u8], u32)>
 
 /// The header of a WebSocket frame: whether it is the last, its reserved bits, its kind, whether it is masked, and its length.
 pub fn frame_header(input: &[u8]) -> IResult<&[u8], (bool, u8, u8, bool, u8)>
-    ensures { Bytes.Parses (Bits.bits_of (Bits.tuple_of_five Bits.bool_of (Bits.take_of 8 3) (Bits.take_of 8 4) Bits.bool_of (Bits.take_of 8 7)))
+    ensures { Words.Parses Words.bytes (Bits.bits_of (Words.tuple_of_five Bits.bool_of (Bits.take_of 8 3) (Bits.take_of 8 4) Bits.bool_of (Bits.take_of 8 7)))
         true input.entry result }
 {
     let length = take_bits(7usize);

@@ -1,10 +1,9 @@
 //! Functions whose contracts are their grammars, in the words of `Rattle.nom.specs.Bytes`.
 ghost use Rattle.std.specs.Prelude.{codes, true, false};
-ghost use Rattle.nom.specs.Prelude.{behind_view};
 ghost use Rattle.nom.specs.grammars.Bytes as Open;
 ghost use Rattle.nom.specs.grammars.Bytes.{AnswersAsPart};
-ghost use Rattle.nom.specs.Bytes.{Parses, alt_of, called_complete, char_of, delimited_of, digit1_of, is_a_of, is_not_of, many0_of, opt_of, or_of};
-ghost use Rattle.nom.specs.Bytes.{preceded_of, separated_pair_of, tag_of, take_of, terminated_of};
+ghost use Rattle.nom.specs.Bytes.{Parses, alt_of, char_of, complete_func_of, delimited_of, digit1_of, is_a_of, is_not_of, many0_of, opt_of, or_of};
+ghost use Rattle.nom.specs.Bytes.{preceded_of, separated_pair_of, slice_view, tag_of, take_of, terminated_of};
 
 use nom::branch::alt;
 use nom::bytes::{is_a, is_not, tag, take};
@@ -55,7 +54,7 @@ pub fn digits(input: &[u8]) -> IResult<&[u8], &[u8]>
 
 /// Two numbers, with a dash between them: a grammar of functions.
 pub fn span(input: &[u8]) -> IResult<&[u8], (&[u8], &[u8])>
-    ensures { Parses (separated_pair_of (called_complete behind_view digit1_of) (char_of 45) (called_complete behind_view digit1_of)) false input.entry result }
+    ensures { Parses (separated_pair_of (complete_func_of slice_view digit1_of) (char_of 45) (complete_func_of slice_view digit1_of)) false input.entry result }
 {
     let mut span = separated_pair(func(digits), char('-'), func(digits));
     span.parse_complete(input)
@@ -63,7 +62,7 @@ pub fn span(input: &[u8]) -> IResult<&[u8], (&[u8], &[u8])>
 
 /// Decimal digits, by a function of which the laws hold as of a parser.
 pub fn number(input: &[u8]) -> IResult<&[u8], &[u8]>
-    ensures { AnswersAsPart behind_view Open.digit1_of false input.entry result }
+    ensures { AnswersAsPart slice_view Open.digit1_of false input.entry result }
 {
     answer(&mut digit1(), input)
 }

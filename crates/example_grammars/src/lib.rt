@@ -13,6 +13,7 @@ mod hex;
 pub mod lengths;
 pub mod own;
 mod promises;
+pub mod sections;
 pub mod steps;
 pub mod words;
 

@@ -1,8 +1,8 @@
 //! More functions whose contracts are their grammars, over texts and over bytes.
 ghost use Rattle.std.specs.Prelude.{◌≡◌, codes, false};
 ghost use Rattle.nom.specs.Bytes as Bytes;
-ghost use Rattle.nom.specs.Texts.{Parses, alpha1_of, char_of, decimal_of, map_opt_of, none_of_of, not_line_ending_of, one_of_of, pair_of, preceded_of};
-ghost use Rattle.nom.specs.Texts.{satisfy_of, separated_pair_of, space0_of, tag_no_case_of, take_until_of, terminated_of, value_of};
+ghost use Rattle.nom.specs.Texts.{Parses, alpha1_of, char_of, map_opt_of, none_of_of, not_line_ending_of, one_of_of, pair_of, preceded_of};
+ghost use Rattle.nom.specs.Texts.{satisfy_of, separated_pair_of, space0_of, tag_no_case_of, take_until_of, terminated_of, u32_of, value_of};
 ghost use Rattle.example_grammars.specs.Codes.{bit_in, is_hash};
 
 use nom::bytes::{tag_no_case, take_until};
@@ -31,7 +31,7 @@ pub fn before_end(input: &str) -> IResult<&str, &str>
 
 /// A number, and a 1 after it where `k` or `M` follows.
 pub fn scaled(input: &str) -> IResult<&str, (u32, u8)>
-    ensures { Parses (pair_of (decimal_of 32) (value_of 1 (one_of_of (codes "kM")))) false input.entry result }
+    ensures { Parses (pair_of u32_of (value_of 1 (one_of_of (codes "kM")))) false input.entry result }
 {
     pair(u32(), value(1u8, one_of("kM"))).parse_complete(input)
 }
@@ -63,7 +63,7 @@ pub fn numbered(input: &str) -> IResult<&str, u32>
 
 /// Numbers of two bytes, as many as the first byte says.
 pub fn numbers(alloc: Global, input: &[u8]) -> IResult<&[u8], Vec<u16>>
-    ensures { Bytes.Parses (Bytes.length_count_of (Bytes.number_of Bytes.Big 1) (Bytes.number_of Bytes.Big 2)) false input.entry result }
+    ensures { Bytes.Parses (Bytes.length_count_of Bytes.be_u8_of Bytes.be_u16_of) false input.entry result }
 {
     length_count(alloc, be_u8(), be_u16()).parse_complete(input)
 }

@@ -4,7 +4,7 @@ use Rattle.nom_internal.specs.Prelude.{Grammar, Accept, Refuse, Stop, Fails, Nee
 use Rattle.nom_internal.specs.Prelude.{RunsOutInPart, text_model}
 use Rattle.nom_error.specs.declared.value.Error.{Error}
 use Rattle.nom_branch.specs.Words.{or_worded}
-use Rattle.nom.specs.Grammar.{answers_by, parses_by}
+use Rattle.nom.specs.Word.{answers_by, parses_by}
 use Rattle.nom.specs.grammars.Texts as Grammars
 use Rattle.nom.specs.Texts.{Parses, Text, TextWord, or_of, plain_errors}
 use Rattle.example_json.specs.Json.{refuses}

@@ -15,12 +15,12 @@ use Rattle.nom_traits.specs.Text.{items_len-text}
 use Rattle.nom_repeat.specs.Repeat.{Turn}
 use Rattle.nom_repeat.specs.Repeat.Turn.{Ends, Takes}
 use Rattle.nom_internal.specs.Tuples.{built_meaning}
-use Rattle.nom_internal.specs.Words.{map_worded, pair_worded, tuple_worded}
+use Rattle.nom_internal.specs.Words.{map_worded, pair_worded, tuple_of, tuple_worded}
 use Rattle.nom_branch.specs.Words.{alt_worded, or_worded}
 use Rattle.nom_combinator.specs.Verdicts.{opt_meaning, opt_outcome, verdict_case}
 use Rattle.nom_combinator.specs.Words.{opt_worded, recognize_worded}
 use Rattle.nom_sequence.specs.Words.{preceded_worded, terminated_worded}
-use Rattle.nom.specs.Grammar.{tuple_of, word}
+use Rattle.nom.specs.Word.{word}
 use Rattle.nom.specs.Texts.{Text, TextWord, alt_of, map_of, opt_of, or_of, pair_of, plain_errors, preceded_of, recognize_of, terminated_of}
 use Rattle.nom_json_run.specs.Json.{and_then}
 use Rattle.nom_json_run.proofs.Grammars.{sliced_is}

@@ -9,7 +9,7 @@ use Rattle.nom_internal.specs.Prelude.{text_model}
 use Rattle.nom_combinator.specs.Ends.{fail_leaf}
 use Rattle.nom_combinator.specs.Verdicts.{Looks, NeverCut, cut_outcome, verdict_case}
 use Rattle.nom_combinator.specs.Words.{cut_worded, fail_worded, peek_worded}
-use Rattle.nom.specs.Grammar.{parses_by}
+use Rattle.nom.specs.Word.{parses_by}
 use Rattle.nom.specs.Texts.{Parses, Text, TextWord, cut_of, fail_of, one_of_of, pair_of, peek_of, plain_errors}
 use Rattle.nom_json_run.specs.Json.{IsValue, JsonItem, JsonValue, after_byte, after_spaces, begins, closing, first_is, rest}
 use Rattle.nom_json_run.specs.Json.JsonItem.{element, member}
@@ -92,7 +92,7 @@ fails_ends xs Refuse o e h = subst (EndsSo (Only Failing) xs) (sym e) tt
 fails_ends xs (Stop (Fails c)) o e h = absurd h
 fails_ends xs (Stop (Needs k)) o e h = absurd h
 
-fails_described : {V : Type 0} → Described (Only Failing) (cut_of (fail_of {V = V}))
+fails_described : {V : Type 0} → Described (Only Failing) (cut_of (fail_of {O = V}))
 fails_described = by (cut_worded (fail_worded plain_errors)) (case_described
     (leaf_described fail_leaf (Only Refusing) (λ i n v known h. absurd h) (λ i known h. tt) (Unit {0}) (Unit {0}))
     (verdict_case cut_outcome (λ _. true) NeverCut) (λ i j e. e) refl (Only Failing) (λ i a o e h. fails_ends i.now a o e h))

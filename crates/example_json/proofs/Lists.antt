@@ -13,7 +13,7 @@ use Rattle.nom_repeat.specs.Repeat.{Turn, Reaches, Repeats, OnReply, TurnsBy}
 use Rattle.nom_repeat.specs.Repeat.Turn.{Ends}
 use Rattle.nom_repeat.proofs.Repeated.{Collected, collected_more, pieces_end}
 use Rattle.nom_repeat.proofs.Accumulating.{zip_push}
-use Rattle.nom.specs.Grammar.{answers_by, parses_by}
+use Rattle.nom.specs.Word.{answers_by, parses_by}
 use Rattle.nom.specs.grammars.Texts as Grammars
 use Rattle.nom.specs.Texts.{Parses, Text, TextWord}
 use Rattle.example_json.specs.Json.{IsItem, IsTaken, after_comma, item_at, list_of, list_turn, list_worded, refuses}

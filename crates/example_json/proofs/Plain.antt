@@ -29,7 +29,7 @@ use Rattle.nom_bytes_escaped.specs.NextPieces.{next_piece_meaning}
 use Rattle.nom_bytes_escaped.specs.Texts.{AddAll}
 use Rattle.nom_bytes_escaped.specs.Words.{escaped_transform_worded}
 use Rattle.nom_combinator.specs.Words.{all_consuming_worded}
-use Rattle.nom.specs.Grammar.{answers_by, parses_by, word}
+use Rattle.nom.specs.Word.{answers_by, parses_by, word}
 use Rattle.nom.specs.Texts as Words
 use Rattle.nom.specs.Texts.{Text, plain_errors}
 use Rattle.nom.specs.grammars.Grammar.{sliced}

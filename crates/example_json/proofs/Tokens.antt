@@ -7,7 +7,7 @@ use Rattle.nom_error.specs.declared.value.Error.{Error}
 use Rattle.nom_internal.proofs.Consumed.{rest_length}
 use Rattle.nom_character.specs.Words.{char_worded}
 use Rattle.nom_sequence.specs.Words.{terminated_worded}
-use Rattle.nom.specs.Grammar.{parses_by}
+use Rattle.nom.specs.Word.{parses_by}
 use Rattle.nom.specs.grammars.Texts as Grammars
 use Rattle.nom.specs.Texts.{Parses, Text, TextWord, plain_errors}
 use Rattle.example_json.specs.Scalars.{spaces_of, token_of}

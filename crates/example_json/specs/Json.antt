@@ -7,7 +7,7 @@ use Rattle.nom_error.specs.declared.answer.Err.TheVariants as Answered
 use Rattle.nom_error.specs.declared.value.Error.{Error}
 use Rattle.nom_repeat.specs.Repeat.{Turn, Rule, repeat_meaning}
 use Rattle.nom_repeat.specs.Repeat.Turn.{Takes, Ends}
-use Rattle.nom.specs.Grammar.{word}
+use Rattle.nom.specs.Word.{word}
 use Rattle.nom.specs.Texts.{Text, TextWord, eof_of, map_of, or_of, tuple_of_four, tuple_of_three, tuple_of_two}
 use Rattle.example_json.specs.declared.tree.Json.{Json}
 use Rattle.example_json.specs.declared.tree.Json.TheVariants as Value

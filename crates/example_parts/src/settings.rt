@@ -1,8 +1,7 @@
 //! A parser of it, with errors of any type.
 ghost use Rattle.std.specs.Prelude.{false};
-ghost use Rattle.nom.specs.Grammar.{Answers};
-ghost use Rattle.example_parts.specs.Settings.{setting_of};
-ghost use Rattle.example_parts.specs.Sources.{source_model};
+ghost use Rattle.nom.specs.Words.{Parses};
+ghost use Rattle.example_parts.specs.Settings.{setting_of, sources_with};
 
 use crate::source::Source;
 use nom::bytes::{is_not, tag};
@@ -15,7 +14,7 @@ use nom::{IResult, Parser};
 pub fn setting<'a, E: ParseError<Source<'a>>>(
     line: Source<'a>,
 ) -> IResult<Source<'a>, (Source<'a>, Source<'a>), E>
-    ensures { Answers source_model (setting_of E.errors) false line.entry result }
+    ensures { Parses (sources_with E.errors) setting_of false line.entry result }
 {
     let mut setting = separated_pair(is_not("="), tag("="), is_not("\n"));
     setting.parse_complete(line)

@@ -1,15 +1,11 @@
 -- Texts in brackets, with any error type.
-use Rattle.std.specs.Prelude.{ℕ, chars, codes, false}
-use Rattle.nom_error.specs.Errors.{Errors}
-use Rattle.nom.specs.Grammar.{Word, alt_of, delimited_of, or_of, recursive_of}
-use Rattle.nom.specs.Leaves.{char_of, is_not_of}
-use Rattle.nom.specs.Prelude.{text_model, text_view}
+use Rattle.std.specs.Prelude.{ℕ, codes, false}
 use Rattle.nom.specs.Texts.{Text}
+use Rattle.nom.specs.Words.{Word, alt_of, char_of, delimited_of, is_not_of, or_of, recursive_of, text_view}
 
-module _ {E : Type 0} (errs : Errors Text E) where
+module _ {E : Type 0} where
   abbrev pub comment_of : Word Text Text E → Word Text Text E
-  comment_of inner =
-      alt_of errs (or_of errs (delimited_of text_model (char_of text_model errs 40) inner (char_of text_model errs 41)) (is_not_of text_model errs (chars (codes "()"))))
+  comment_of inner = alt_of (or_of (delimited_of (char_of 40) inner (char_of 41)) (is_not_of (codes "()")))
 
   abbrev pub comments_of : ℕ → Word Text Text E
-  comments_of = recursive_of text_model errs text_view false comment_of
+  comments_of = recursive_of false text_view comment_of

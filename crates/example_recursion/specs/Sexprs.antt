@@ -1,7 +1,6 @@
 -- S-expressions, by their grammar.
 use Rattle.std.specs.Prelude.{ℕ, false}
-use Rattle.nom.specs.Prelude.{itself}
-use Rattle.nom.specs.Texts.{TextWord, alphanumeric1_of, alt_of, char_of, delimited_of, map_of, or_of, recursive_of, separated_list0_of}
+use Rattle.nom.specs.Texts.{TextWord, alphanumeric1_of, alt_of, char_of, delimited_of, map_of, or_of, plain_view, recursive_of, separated_list0_of}
 use Rattle.example_recursion.specs.declared.sexprs.Sexpr.{Sexpr}
 use Rattle.example_recursion.specs.declared.sexprs.Sexpr.TheVariants as Variant
 
@@ -12,4 +11,4 @@ sexpr_of inner =
 
 -- an S-expression of at most that many layers
 abbrev pub expression_of : ℕ → TextWord Sexpr
-expression_of = recursive_of false itself sexpr_of
+expression_of = recursive_of false plain_view sexpr_of

@@ -1,7 +1,6 @@
 //! Texts in brackets, which may hold such texts, for any error type: what nom writes as functions that are generic over it.
 ghost use Rattle.std.specs.Prelude.{false};
-ghost use Rattle.nom.specs.Grammar.{Answers};
-ghost use Rattle.nom.specs.Prelude.{text_model};
+ghost use Rattle.nom.specs.Words.{Parses, layer_at, texts_with};
 ghost use Rattle.example_recursion.specs.Comments.{comment_of, comments_of};
 
 use nom::branch::alt;
@@ -24,7 +23,7 @@ impl<'a, E: ParseError<&'a str>> Layer<&'a str> for Comments<E> {
 
     type Error = E;
 
-    ghost layer_of = { λ _. comment_of E.errors };
+    ghost layer_of = { λ _. layer_at (texts_with E.errors) comment_of };
 
     fn layer<S: IsStreaming, P: Parser<&'a str, Output = &'a str, Error = E> + Copy>(
         &self,
@@ -40,7 +39,7 @@ impl<'a, E: ParseError<&'a str>> Layer<&'a str> for Comments<E> {
 
 /// The text in brackets, of at most 64 layers, of which the text is one.
 pub fn comment<'a, E: ParseError<&'a str>>(input: &'a str) -> IResult<&'a str, &'a str, E>
-    ensures { Answers text_model (comments_of E.errors 64) false input.entry result }
+    ensures { Parses (texts_with E.errors) (comments_of 64) false input.entry result }
 {
     recursive::<Complete, _, _>(&Comments::<E> { of: PhantomData }, 64, input)
 }

@@ -1,7 +1,6 @@
 //! S-expressions, as `(add 1 (mul 2 3))`.
 ghost use Rattle.std.specs.Prelude.{◌≡◌, false};
-ghost use Rattle.nom.specs.Prelude.{itself};
-ghost use Rattle.nom.specs.Texts.{Parses, called_complete, char_of, separated_pair_of};
+ghost use Rattle.nom.specs.Texts.{Parses, char_of, complete_func_of, plain_view, separated_pair_of};
 ghost use Rattle.example_recursion.specs.Sexprs.{expression_of, sexpr_of};
 ghost use Rattle.example_recursion.specs.declared.sexprs.Sexpr.TheVariants as Variant;
 
@@ -68,7 +67,8 @@ pub fn expression<'a>(alloc: Global, input: &'a str) -> IResult<&'a str, Sexpr<'
 
 /// Two of them, as `(a b)=(c)`: a part of a larger grammar.
 pub fn equation<'a>(alloc: Global, input: &'a str) -> IResult<&'a str, (Sexpr<'a>, Sexpr<'a>)>
-    ensures { Parses (separated_pair_of (called_complete itself (expression_of 64)) (char_of 61) (called_complete itself (expression_of 64))) false input.entry result }
+    ensures { Parses (separated_pair_of (complete_func_of plain_view (expression_of 64)) (char_of 61) (complete_func_of plain_view (expression_of 64)))
+        false input.entry result }
 {
     separated_pair(
         func_in(alloc, expression),

@@ -8,7 +8,7 @@ use nom::bytes::{is_not, tag};
 use nom::combinator::map;
 use nom::error::Error;
 use nom::sequence::preceded;
-use nom_stream::grammar::{Grammar, parse_item};
+use nom_stream::item_parser::{ItemParser, parse_item};
 
 /// Fields, by their lengths. A field ends where the next one begins, so that only as a complete input the last one is
 /// decided.
@@ -21,7 +21,7 @@ fn len_of<'a>(bytes: &'a [u8]) -> usize
     bytes.len()
 }
 
-impl Grammar for Fields {
+impl ItemParser for Fields {
     type Item = usize;
 
     ghost State = { Unit {0} };

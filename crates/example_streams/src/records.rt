@@ -10,7 +10,7 @@ use nom::error::Error;
 use nom::multi::length_data;
 use nom::number::be_u8;
 use nom::sequence::preceded;
-use nom_stream::grammar::{Grammar, parse_item};
+use nom_stream::item_parser::{ItemParser, parse_item};
 
 /// Records, by how many bytes follow the length. These are the last ones of the item's, which `Stream::last` lends.
 #[derive(Clone, Copy)]
@@ -22,7 +22,7 @@ fn len_of<'a>(bytes: &'a [u8]) -> usize
     bytes.len()
 }
 
-impl Grammar for Records {
+impl ItemParser for Records {
     type Item = usize;
 
     ghost State = { Unit {0} };

@@ -1,5 +1,6 @@
 -- The results of an error type's functions, for types that keep one kind: an `impl` states it in a line.
-use Rattle.std.specs.Prelude.{◌≡◌}
+use Rattle.std.specs.Prelude.{◌≡◌, ℕ, List}
+use Rattle.std.specs.Borrow.{Bor}
 use Rattle.nom_error.specs.Errors.{Contexts, Errors, Externals}
 use Rattle.nom_error.specs.declared.kind.ErrorKind.{ErrorKind}
 use Rattle.nom_error.specs.declared.kind.ErrorKind.TheVariants as Kind
@@ -22,6 +23,14 @@ module _ {I E : Type 0} where
   -- names are dropped
   abbrev pub unnamed : Contexts I E
   unnamed = record { named = λ _ _ other e. e ≡ other; grows = ⊥ }
+
+  -- the name and its place, in place of the error from below
+  abbrev pub labels : (Bor (List ℕ) → I → E) → Contexts I E
+  labels make = record { named = λ i name _ e. (label : Bor (List ℕ)) × (label.now ≡ name) × (e ≡ make label i); grows = ⊥ }
+
+  -- an error at the place, whatever the closure's is
+  abbrev pub external_at : {X : Type 0} → (I → E) → Externals I X E
+  external_at make = record { of_external = λ i _ _ e. e ≡ make i; grows = ⊥ }
 
   -- the error of a closure, as it is
   abbrev pub outer : Externals I E E

@@ -6,6 +6,7 @@
 pub mod complete;
 pub mod streaming;
 
+pub use nom_ascii::AsciiSet;
 pub use nom_character::{
     AnyChar, Char, ClassRun, Crlf, Digit1, Fixed, LineEnding, LineMatch, MultiSpace0,
     NotLineEnding, Satisfy, alpha0, alpha1, alphanumeric0, alphanumeric1, anychar, bin_digit0,

@@ -1,7 +1,7 @@
 //! Readers and writers of std as sources and sinks.
 ghost use Rattle.std.specs.Prelude.{◌≡◌};
 
-use crate::stream::{Fault, Sink, Source};
+use crate::stream::{ByteWriter, Fault, Source};
 use std::io::{Read, Write};
 
 /// A reader or a writer of std, with the counts of its calls, of its failed calls and of those that took none
@@ -9,7 +9,7 @@ use std::io::{Read, Write};
 ///
 /// An interrupted call has failed. The counts stay at the greatest `u64`.
 ///
-/// A trait of std says nothing about how often it is called. `Source::read` and `Sink::write` alone raise the
+/// A trait of std says nothing about how often it is called. `Source::read` and `ByteWriter::write` alone raise the
 /// counts. The body of each of the two shows that it makes exactly one call; this isn't proved.
 #[derive(Drop)]
 pub struct Counted<T> {
@@ -83,7 +83,7 @@ impl<T: Read> Source for Counted<T> {
     }
 }
 
-impl<T: Write> Sink for Counted<T> {
+impl<T: Write> ByteWriter for Counted<T> {
     ghost account = { λ s. record { bytes = T.contents s.inner; calls = s.calls; failures = s.failed; stalls = s.stalled } };
 
     fn write(&mut self, bytes: &[u8]) -> Result<usize, Fault> {

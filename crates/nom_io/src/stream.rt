@@ -24,7 +24,7 @@ pub trait Source {
 }
 
 /// A sink for bytes.
-pub trait Sink {
+pub trait ByteWriter {
     // The bytes that were written, and the counts of calls.
     ghost account: { Self → Account };
 

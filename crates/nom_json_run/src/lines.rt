@@ -7,7 +7,7 @@ ghost use Rattle.nom_json_run.specs.JsonLines.{IsLine, StopsAtRead, ListsLines, 
 
 use crate::report::fault_report;
 use nom_error::answer::OutOfMemory;
-use nom_io::stream::Sink;
+use nom_io::stream::ByteWriter;
 use nom_run::error::RunError;
 use nom_run::run::write_all;
 use nom_stream::lines::Lines;
@@ -71,7 +71,7 @@ fn told<A: Allocator + Copy>(
 }
 
 // Writes what is told of a line, and answers whether a line was wrong, before or now.
-fn list<A: Allocator + Copy, W: Sink>(
+fn list<A: Allocator + Copy, W: ByteWriter>(
     alloc: A,
     sink: &mut W,
     number: u64,
@@ -93,7 +93,7 @@ fn list<A: Allocator + Copy, W: Sink>(
 }
 
 // WritesText that a line is longer than may be held.
-fn tell_too_long<A: Allocator + Copy, W: Sink>(
+fn tell_too_long<A: Allocator + Copy, W: ByteWriter>(
     alloc: A,
     sink: &mut W,
     number: u64,
@@ -117,7 +117,7 @@ fn tell_too_long<A: Allocator + Copy, W: Sink>(
 }
 
 // What is told where no line comes, and the status.
-fn stopped<A: Allocator + Copy, W: Sink>(
+fn stopped<A: Allocator + Copy, W: ByteWriter>(
     alloc: A,
     sink: &mut W,
     number: u64,
@@ -157,7 +157,7 @@ fn status_of(wrong: bool) -> u8
 /// `Write` if a write failed, which isn't tried again, and `OutOfMemory` if memory ran out for the next line.
 /// It is `Read` if a read failed, if the data of a stream that isn't `complete` end within a line, and after
 /// 2^64 - 1 lines.
-pub fn tell_lines<R: Read, A: Allocator + Copy, W: Sink>(
+pub fn tell_lines<R: Read, A: Allocator + Copy, W: ByteWriter>(
     alloc: A,
     stream: &mut Stream<R, A>,
     sink: &mut W,

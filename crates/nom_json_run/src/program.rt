@@ -10,7 +10,7 @@ ghost use Rattle.nom_json_run.specs.Asked.{Answers, Asks, AsksNothing, ChecksFil
 use crate::lines::tell_lines;
 use crate::report::Checked;
 use nom_io::counted::Counted;
-use nom_io::stream::Sink;
+use nom_io::stream::ByteWriter;
 use nom_run::error::RunError;
 use nom_run::folder::{Folder, open_reader};
 use nom_run::program::{status_after, status_for, status_on, tell_fault};
@@ -70,7 +70,11 @@ pub fn task_of(words: &[String]) -> Result<Task<'_>, RunError>
 }
 
 // The report on what a reader gives, and the status.
-fn check_input<A: Allocator + Copy, R: Read + Drop, W: Sink>(alloc: A, input: R, sink: &mut W) -> u8
+fn check_input<A: Allocator + Copy, R: Read + Drop, W: ByteWriter>(
+    alloc: A,
+    input: R,
+    sink: &mut W,
+) -> u8
     ensures { ChecksText R.remaining W.account input sink.old sink.new result }
 {
     let mut source = Counted::new(input);
@@ -81,7 +85,7 @@ fn check_input<A: Allocator + Copy, R: Read + Drop, W: Sink>(alloc: A, input: R,
 }
 
 // What is told of the lines of a reader, and the status.
-fn check_lines<A: Allocator + Copy, R: Read + Drop, W: Sink>(
+fn check_lines<A: Allocator + Copy, R: Read + Drop, W: ByteWriter>(
     alloc: A,
     reader: R,
     sink: &mut W,
@@ -94,7 +98,7 @@ fn check_lines<A: Allocator + Copy, R: Read + Drop, W: Sink>(
 }
 
 // The same of the lines of a file.
-fn check_file<A: Allocator + Copy, R: Read + Drop, G: Folder<File = Counted<R>>, W: Sink>(
+fn check_file<A: Allocator + Copy, R: Read + Drop, G: Folder<File = Counted<R>>, W: ByteWriter>(
     alloc: A,
     file: &str,
     files: &mut G,
@@ -115,7 +119,7 @@ fn perform<
     F: Folder,
     R: Read + Drop,
     G: Folder<File = Counted<R>>,
-    W: Sink,
+    W: ByteWriter,
 >(
     alloc: A,
     task: Task<'_>,
@@ -144,7 +148,7 @@ fn answer<
     F: Folder,
     R: Read + Drop,
     G: Folder<File = Counted<R>>,
-    W: Sink,
+    W: ByteWriter,
 >(alloc: A, words: &[String], input: I, folder: &mut F, files: &mut G, sink: &mut W) -> u8
     ensures { Answers F.is_file F.File.account F.missed folder.old folder.new I.remaining input W.account sink.old sink.new result A
         (ChecksFile G.is_file R.remaining G.missed files.old files.new W.account sink.old sink.new result A) (files.new ≡ files.old)
@@ -160,7 +164,13 @@ fn answer<
 ///
 /// They are what `read_words` returned. If they couldn't be read, it writes the line that shows the reason. `input` is standard
 /// input. A file is opened in `folder`, and a file of lines in `files`, whose files are readers of std.
-pub fn status_by<I: Read + Drop, F: Folder, R: Read + Drop, G: Folder<File = Counted<R>>, W: Sink>(
+pub fn status_by<
+    I: Read + Drop,
+    F: Folder,
+    R: Read + Drop,
+    G: Folder<File = Counted<R>>,
+    W: ByteWriter,
+>(
     alloc: Global,
     words: Result<Vec<String>, RunError>,
     input: I,

@@ -11,10 +11,10 @@ use nom_error::answer::OutOfMemory;
 use nom_error::kind::ErrorKind;
 use nom_error::outside::ContextError;
 use nom_error::value::ParseError;
-use nom_io::stream::Sink;
+use nom_io::stream::ByteWriter;
 use nom_report::{Placed, render_bytes, render_from};
 use nom_run::error::RunError;
-use nom_run::report::{Report, write_built};
+use nom_run::report::{Reporting, write_built};
 use std::alloc::Allocator;
 use std::str;
 
@@ -190,10 +190,10 @@ pub struct Checked<'a> {
     pub name: &'a str,
 }
 
-impl<'a> Report for Checked<'a> {
+impl<'a> Reporting for Checked<'a> {
     ghost is_report = { λ s bytes cuts. IsNamedReport s.name.now bytes };
 
-    fn write<A: Allocator + Copy, W: Sink>(
+    fn write<A: Allocator + Copy, W: ByteWriter>(
         &self,
         alloc: A,
         bytes: &[u8],

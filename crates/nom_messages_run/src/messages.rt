@@ -17,7 +17,7 @@ use nom::multi::{length_data, length_value};
 use nom::number::{be_u8, be_u16, be_u32};
 use nom::sequence::{pair, preceded};
 use nom::{IResult, Viewed};
-use nom_stream::grammar::{Grammar, parse_item};
+use nom_stream::item_parser::{ItemParser, parse_item};
 
 /// A message that owns what it holds.
 #[derive(Clone, Copy, Debug, PartialEq, Eq)]
@@ -54,7 +54,7 @@ fn close<'a>(_kind: &'a [u8]) -> Received
     Received::Close
 }
 
-impl Grammar for Messages {
+impl ItemParser for Messages {
     type Item = Received;
 
     ghost State = { Unit {0} };

@@ -8,10 +8,10 @@ ghost use Rattle.nom_messages_run.specs.Messages.{message_of};
 use crate::messages::{Messages, Received};
 use crate::put::{put_ending, put_received};
 use nom::OutOfMemory;
-use nom_io::stream::Sink;
+use nom_io::stream::ByteWriter;
 use nom_run::error::RunError;
 use nom_run::pieces::flush;
-use nom_stream::grammar::Grammar;
+use nom_stream::item_parser::ItemParser;
 use nom_stream::stream::{Stop, Stream};
 use std::alloc::Allocator;
 use std::io::Read;
@@ -49,7 +49,7 @@ fn take_room<A: Allocator>(room: &mut Vec<u8, A>) -> Result<(), OutOfMemory>
 }
 
 // Adds the line of a message, of which these are the bytes. If it has no room, what is held is written.
-fn list<A: Allocator, W: Sink>(
+fn list<A: Allocator, W: ByteWriter>(
     sink: &mut W,
     room: &mut Vec<u8, A>,
     message: Received,
@@ -68,7 +68,7 @@ fn list<A: Allocator, W: Sink>(
 }
 
 // Adds the last line, and writes all.
-fn end<A: Allocator, W: Sink>(
+fn end<A: Allocator, W: ByteWriter>(
     sink: &mut W,
     room: &mut Vec<u8, A>,
     why: Option<Stop>,
@@ -98,7 +98,7 @@ fn end<A: Allocator, W: Sink>(
 /// memory for them at the first line. The answer is `OutOfMemory` only if there was none then; nothing was
 /// written. The answer is `Write` if a write failed, which isn't tried again; only a beginning of the lines up
 /// to that one was written. The answer is `Read` after 2^64 - 1 messages.
-pub fn tell_items<R: Read, A: Allocator + Copy, G: Grammar<Item = Received>, W: Sink>(
+pub fn tell_items<R: Read, A: Allocator + Copy, G: ItemParser<Item = Received>, W: ByteWriter>(
     alloc: A,
     stream: &mut Stream<R, A>,
     grammar: &mut G,
@@ -129,7 +129,7 @@ pub fn tell_items<R: Read, A: Allocator + Copy, G: Grammar<Item = Received>, W: 
 }
 
 /// Writes the lines of messages as `tell_items` does.
-pub fn tell_messages<R: Read, A: Allocator + Copy, W: Sink>(
+pub fn tell_messages<R: Read, A: Allocator + Copy, W: ByteWriter>(
     alloc: A,
     stream: &mut Stream<R, A>,
     sink: &mut W,

@@ -14,7 +14,7 @@ use crate::pipe::tell_messages;
 use crate::report::Messages;
 use crate::write::{Halt, add_halt, halt_status, write_lines};
 use nom_io::counted::Counted;
-use nom_io::stream::Sink;
+use nom_io::stream::ByteWriter;
 use nom_run::error::RunError;
 use nom_run::folder::{Folder, open_reader};
 use nom_run::program::{status_after, status_for, tell_fault};
@@ -99,7 +99,11 @@ pub fn task_of(words: &[String]) -> Result<Task<'_>, RunError>
 }
 
 // The lines of standard input, and the status.
-fn tell_input<A: Allocator + Copy, R: Read + Drop, S: Sink>(alloc: A, input: R, sink: &mut S) -> u8
+fn tell_input<A: Allocator + Copy, R: Read + Drop, S: ByteWriter>(
+    alloc: A,
+    input: R,
+    sink: &mut S,
+) -> u8
     ensures { TellsInput R.remaining S.account input sink.old sink.new result A }
 {
     let mut stream = Stream::new(alloc, input, SETTINGS);
@@ -108,7 +112,7 @@ fn tell_input<A: Allocator + Copy, R: Read + Drop, S: Sink>(alloc: A, input: R, 
 }
 
 // Tells why no further line is written, and the status.
-fn tell_halt<A: Allocator + Copy, E: Sink>(alloc: A, halt: Halt, faults: &mut E) -> u8
+fn tell_halt<A: Allocator + Copy, E: ByteWriter>(alloc: A, halt: Halt, faults: &mut E) -> u8
     ensures { TellsHalt E.account halt faults.old faults.new result }
 {
     let mut text = String::new(alloc);
@@ -122,7 +126,7 @@ fn tell_halt<A: Allocator + Copy, E: Sink>(alloc: A, halt: Halt, faults: &mut E)
 }
 
 // The messages of a reader's lines, and the status. Faults are told apart from them.
-fn write_messages<A: Allocator + Copy, R: Read + Drop, W: Write + Drop, E: Sink>(
+fn write_messages<A: Allocator + Copy, R: Read + Drop, W: Write + Drop, E: ByteWriter>(
     alloc: A,
     reader: R,
     writer: W,
@@ -146,7 +150,7 @@ fn write_file<
     R: Read + Drop,
     G: Folder<File = Counted<R>>,
     W: Write + Drop,
-    E: Sink,
+    E: ByteWriter,
 >(alloc: A, file: &str, files: &mut G, writer: W, faults: &mut E) -> u8
     ensures { WritesFile G.is_file R.remaining G.missed files.old files.new W.contents writer E.account faults.old faults.new result A file.now }
 {
@@ -163,9 +167,9 @@ fn perform<
     F: Folder,
     R: Read + Drop,
     G: Folder<File = Counted<R>>,
-    S: Sink,
+    S: ByteWriter,
     W: Write + Drop,
-    E: Sink,
+    E: ByteWriter,
 >(
     alloc: A,
     task: Task<'_>,
@@ -196,9 +200,9 @@ fn answer<
     F: Folder,
     R: Read + Drop,
     G: Folder<File = Counted<R>>,
-    S: Sink,
+    S: ByteWriter,
     W: Write + Drop,
-    E: Sink,
+    E: ByteWriter,
 >(
     alloc: A,
     words: &[String],
@@ -231,9 +235,9 @@ pub fn status_by<
     F: Folder,
     R: Read + Drop,
     G: Folder<File = Counted<R>>,
-    S: Sink,
+    S: ByteWriter,
     W: Write + Drop,
-    E: Sink,
+    E: ByteWriter,
 >(
     alloc: Global,
     words: Result<Vec<String>, RunError>,

@@ -3,7 +3,7 @@ ghost use Rattle.nom_messages_run.specs.Back.{FileReadsBack, SentReadBack, Strea
 ghost use Rattle.nom_messages_run.specs.Whole.{LinesOfWhole};
 
 use crate::messages::{Messages, Received};
-use nom_stream::grammar::Grammar;
+use nom_stream::item_parser::ItemParser;
 use nom_stream::promises::{answers_of_whole, bytes_of_whole, items_of_whole};
 use nom_stream::stream::Stream;
 use nom_write_stream::outgoing::Outgoing;
@@ -16,7 +16,7 @@ use std::io::{Read, Write};
 /// The items are those that `iterator` returns for the whole (`AreItems`). The last line shows the outcome
 /// after them. If it is `end`, `error` or `need`, the lines are those of all items. This is true however the
 /// reader delivers its bytes.
-pub fn lines_of_whole<R: Read, A: Allocator + Copy, G: Grammar<Item = Received>>(
+pub fn lines_of_whole<R: Read, A: Allocator + Copy, G: ItemParser<Item = Received>>(
     stream: &Stream<R, A>,
     grammar: &G,
 )

@@ -9,14 +9,14 @@ ghost use Rattle.nom_messages_run.specs.Pipe.{ending_text, offset_text, received
 use crate::messages::Received;
 use itoa::Buffer;
 use nom::Needed;
-use nom_io::stream::Sink;
+use nom_io::stream::ByteWriter;
 use nom_run::error::RunError;
 use nom_run::pieces::{InPieces, put, put_each, put_texts};
 use nom_stream::stream::Stop;
 use std::alloc::Allocator;
 
 // Adds a number between two texts.
-fn put_numbered<A: Allocator, W: Sink>(
+fn put_numbered<A: Allocator, W: ByteWriter>(
     sink: &mut W,
     room: &mut Vec<u8, A>,
     before: &str,
@@ -32,7 +32,7 @@ fn put_numbered<A: Allocator, W: Sink>(
 }
 
 // Adds what is at an offset, after a text.
-fn put_offset<A: Allocator, W: Sink>(
+fn put_offset<A: Allocator, W: ByteWriter>(
     sink: &mut W,
     room: &mut Vec<u8, A>,
     before: &str,
@@ -52,7 +52,7 @@ fn put_offset<A: Allocator, W: Sink>(
 }
 
 // Adds how much more is needed.
-fn put_need<A: Allocator, W: Sink>(
+fn put_need<A: Allocator, W: ByteWriter>(
     sink: &mut W,
     room: &mut Vec<u8, A>,
     needed: Needed,
@@ -84,7 +84,7 @@ struct Digits;
 impl InPieces<u8> for Digits {
     ghost lines = { λ _ byte. hex_digit (byte / 16) ∷ hex_digit (byte % 16) ∷ [] };
 
-    fn put<A: Allocator, W: Sink>(
+    fn put<A: Allocator, W: ByteWriter>(
         &self,
         sink: &mut W,
         room: &mut Vec<u8, A>,
@@ -96,7 +96,7 @@ impl InPieces<u8> for Digits {
 }
 
 // Adds the digits of bytes, after a space, if there are any.
-fn put_digits<A: Allocator, W: Sink>(
+fn put_digits<A: Allocator, W: ByteWriter>(
     sink: &mut W,
     room: &mut Vec<u8, A>,
     bytes: &[u8],
@@ -116,7 +116,7 @@ fn put_digits<A: Allocator, W: Sink>(
 }
 
 // Adds the line of a text, of which these are the bytes.
-fn put_bytes<A: Allocator, W: Sink>(
+fn put_bytes<A: Allocator, W: ByteWriter>(
     sink: &mut W,
     room: &mut Vec<u8, A>,
     bytes: &[u8],
@@ -137,7 +137,7 @@ fn put_bytes<A: Allocator, W: Sink>(
 }
 
 // Adds the line of a message, of which these are the bytes.
-pub(crate) fn put_received<A: Allocator, W: Sink>(
+pub(crate) fn put_received<A: Allocator, W: ByteWriter>(
     sink: &mut W,
     room: &mut Vec<u8, A>,
     message: Received,
@@ -158,7 +158,7 @@ pub(crate) fn put_received<A: Allocator, W: Sink>(
 }
 
 // Adds the last line where the stream stopped.
-fn put_stop<A: Allocator, W: Sink>(
+fn put_stop<A: Allocator, W: ByteWriter>(
     sink: &mut W,
     room: &mut Vec<u8, A>,
     why: Stop,
@@ -180,7 +180,7 @@ fn put_stop<A: Allocator, W: Sink>(
 }
 
 // Adds the last line.
-pub(crate) fn put_ending<A: Allocator, W: Sink>(
+pub(crate) fn put_ending<A: Allocator, W: ByteWriter>(
     sink: &mut W,
     room: &mut Vec<u8, A>,
     why: Option<Stop>,

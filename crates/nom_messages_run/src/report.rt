@@ -5,9 +5,9 @@ ghost use Rattle.nom_messages_run.specs.Report.{IsReport, message_text, ping_tex
 
 use crate::protocol::{Message, messages};
 use nom::{Items, OutOfMemory};
-use nom_io::stream::Sink;
+use nom_io::stream::ByteWriter;
 use nom_run::error::RunError;
-use nom_run::report::{Lines, Report, beginning_len, tell, write_built};
+use nom_run::report::{Lines, Reporting, beginning_len, tell, write_built};
 use nom_run::text::{add_bytes, add_words};
 use std::alloc::Allocator;
 use std::fmt::Write;
@@ -54,10 +54,10 @@ fn text_of<A: Allocator + Copy>(
     tell(alloc, &Messages, grown.index, beginning, grown.result)
 }
 
-impl Report for Messages {
+impl Reporting for Messages {
     ghost is_report = { λ _. IsReport };
 
-    fn write<A: Allocator + Copy, W: Sink>(
+    fn write<A: Allocator + Copy, W: ByteWriter>(
         &self,
         alloc: A,
         bytes: &[u8],

@@ -1,7 +1,8 @@
 -- The word of an expression by levels.
 use Rattle.std.specs.Prelude.{◌≡◌, ℕ, List}
 use Rattle.nom.specs.Prelude.{Errors, Model}
-use Rattle.nom.specs.Grammar.{Mapping, Word, mapping, mapping_is, word}
+use Rattle.nom.specs.Word.{Word, word}
+use Rattle.nom.specs.Words.{Mapping, mapping, mapping_is}
 use Rattle.nom_operators.specs.declared.operation.Assoc.{Assoc}
 use Rattle.nom_operators.specs.declared.operation.Operation.{Operation}
 use Rattle.nom_precedence.specs.Values.{precedence_by}
@@ -18,6 +19,3 @@ module _ {I A F O G H E : Type 0} (w : Model I A) (errs : Errors I E) (levels : 
         word (precedence_by w errs ((x : Operation F G H O) → Takes x) Gives levels b.grammar d.grammar h.grammar l.grammar)
     unfolding precedence_of
     precedence_worded Takes Gives p q r s = λ i. precedence_of (mapping_is Takes Gives i) (p i) (q i) (r i) (s i)
-
-    pub precedence_same : {m n : Mapping (Operation F G H O) O} → m ≡ n → a ≡ b → c ≡ d → g ≡ h → k ≡ l → precedence_of m a c g k ≡ precedence_of n b d h l
-    precedence_same t p q r s = λ i. precedence_of (t i) (p i) (q i) (r i) (s i)

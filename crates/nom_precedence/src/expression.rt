@@ -1,6 +1,6 @@
 //! Expressions.
 ghost use Rattle.std.specs.Prelude.{◌≡◌, List, length};
-ghost use Rattle.nom.specs.Grammar.{mapping};
+ghost use Rattle.nom.specs.Words.{mapping};
 ghost use Rattle.nom.specs.Prelude.{modes};
 ghost use Rattle.nom_precedence.specs.Readings.{AreKept, ShowsRead, whole_by};
 ghost use Rattle.nom_precedence.specs.Values.{folding, precedence_by};

@@ -4,7 +4,7 @@
 pub mod report;
 
 pub use nom_io::counted::Counted;
-pub use nom_io::stream::{Sink, Source};
+pub use nom_io::stream::{ByteWriter, Source};
 pub use nom_run::error::RunError;
 pub use nom_run::words::read_cuts;
 pub use report::run;

@@ -14,9 +14,9 @@ use nom::number::be_u8;
 use nom::sequence::{preceded, terminated};
 use nom::{Grown, Items, parse_growing};
 use nom_error::answer::OutOfMemory;
-use nom_io::stream::{Sink, Source};
+use nom_io::stream::{ByteWriter, Source};
 use nom_run::error::RunError;
-use nom_run::report::{Lines, Report, beginning_len, tell, write_built};
+use nom_run::report::{Lines, Reporting, beginning_len, tell, write_built};
 use nom_run::run::run as run_report;
 use nom_run::text::add_bytes;
 use std::alloc::Allocator;
@@ -69,10 +69,10 @@ fn text_of<A: Allocator + Copy>(
     tell(alloc, &Records, grown.index, beginning, grown.result)
 }
 
-impl Report for Records {
+impl Reporting for Records {
     ghost is_report = { λ _. IsReport };
 
-    fn write<A: Allocator + Copy, W: Sink>(
+    fn write<A: Allocator + Copy, W: ByteWriter>(
         &self,
         alloc: A,
         bytes: &[u8],
@@ -88,7 +88,7 @@ impl Report for Records {
 /// The bytes are given in parts divided at the cuts (offsets in bytes). A cut below the one before is `Usage`, before anything
 /// is read. A cut above the length is `Usage`, after reading. Nothing was written then, nor after `Read` or `OutOfMemory`.
 /// After `Write`, a beginning of the report was. No failed call is tried again.
-pub fn run<A: Allocator + Copy, S: Source, W: Sink>(
+pub fn run<A: Allocator + Copy, S: Source, W: ByteWriter>(
     alloc: A,
     reader: &mut S,
     cuts: &[usize],

@@ -6,7 +6,7 @@ ghost use Rattle.nom_run.specs.Texts.{lines_text};
 use crate::error::RunError;
 use crate::run::write_all;
 use nom_error::answer::OutOfMemory;
-use nom_io::stream::Sink;
+use nom_io::stream::ByteWriter;
 use std::alloc::Allocator;
 
 // So many bytes are written at once.
@@ -23,7 +23,10 @@ pub fn make_room<A: Allocator>(alloc: A) -> Result<Vec<u8, A>, OutOfMemory>
 }
 
 /// Writes the bytes that aren't written yet.
-pub fn flush<A: Allocator, W: Sink>(sink: &mut W, room: &mut Vec<u8, A>) -> Result<(), RunError>
+pub fn flush<A: Allocator, W: ByteWriter>(
+    sink: &mut W,
+    room: &mut Vec<u8, A>,
+) -> Result<(), RunError>
     requires { HasRoom room.old }
     ensures room { HasRoom room.new }
     ensures none { IfOk result (λ _. room.new.items ≡ []) }
@@ -38,7 +41,7 @@ pub fn flush<A: Allocator, W: Sink>(sink: &mut W, room: &mut Vec<u8, A>) -> Resu
 }
 
 /// Adds bytes. If there is no room for them, they are written after those before them.
-pub fn put<A: Allocator, W: Sink>(
+pub fn put<A: Allocator, W: ByteWriter>(
     sink: &mut W,
     room: &mut Vec<u8, A>,
     bytes: &[u8],
@@ -83,7 +86,7 @@ pub trait InPieces<T> {
     ghost lines: { Self → T → List ℕ };
 
     /// Adds the lines of an item.
-    fn put<A: Allocator, W: Sink>(
+    fn put<A: Allocator, W: ByteWriter>(
         &self,
         sink: &mut W,
         room: &mut Vec<u8, A>,
@@ -95,7 +98,7 @@ pub trait InPieces<T> {
 }
 
 /// Adds the lines of items, in their order.
-pub fn put_each<A: Allocator, W: Sink, T, P: InPieces<T>>(
+pub fn put_each<A: Allocator, W: ByteWriter, T, P: InPieces<T>>(
     sink: &mut W,
     room: &mut Vec<u8, A>,
     each: &P,
@@ -120,7 +123,7 @@ struct Unchanged;
 impl<'a> InPieces<&'a str> for Unchanged {
     ghost lines = { λ _ text. text.now };
 
-    fn put<A: Allocator, W: Sink>(
+    fn put<A: Allocator, W: ByteWriter>(
         &self,
         sink: &mut W,
         room: &mut Vec<u8, A>,
@@ -131,7 +134,7 @@ impl<'a> InPieces<&'a str> for Unchanged {
 }
 
 /// Adds texts, in their order.
-pub fn put_texts<A: Allocator, W: Sink>(
+pub fn put_texts<A: Allocator, W: ByteWriter>(
     sink: &mut W,
     room: &mut Vec<u8, A>,
     texts: &[&str],

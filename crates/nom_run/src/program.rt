@@ -11,10 +11,10 @@ ghost use Rattle.nom_run.specs.Words.{StartsWithNumbers};
 
 use crate::error::RunError;
 use crate::folder::Folder;
-use crate::report::Report;
+use crate::report::Reporting;
 use crate::run::{run, write_all};
 use crate::words::cuts_of;
-use nom_io::stream::{Sink, Source};
+use nom_io::stream::{ByteWriter, Source};
 use std::alloc::{Allocator, Global};
 use std::env;
 use std::io::ErrorKind;
@@ -73,7 +73,7 @@ fn read_task<A: Allocator + Copy>(alloc: A, words: &[String]) -> Result<Task<'_,
 }
 
 // Writes the report on the file that the words name.
-fn answer<A: Allocator + Copy, R: Report, F: Folder, W: Sink>(
+fn answer<A: Allocator + Copy, R: Reporting, F: Folder, W: ByteWriter>(
     alloc: A,
     words: &[String],
     report: &R,
@@ -114,7 +114,7 @@ fn fault(error: RunError) -> &'static str
 
 /// Writes the line that shows why there is no report, and returns the status. After a failed write it writes
 /// nothing.
-pub fn tell_fault<W: Sink>(sink: &mut W, error: RunError) -> u8
+pub fn tell_fault<W: ByteWriter>(sink: &mut W, error: RunError) -> u8
     ensures status { result ≡ 3 }
     ensures wrote { WroteText (W.account sink.old) (W.account sink.new) (fault_text error) }
     ensures after_write { error ≡ RunError.Write → sink.new ≡ sink.old }
@@ -124,7 +124,7 @@ pub fn tell_fault<W: Sink>(sink: &mut W, error: RunError) -> u8
 }
 
 /// Returns the status of an answer. If there is none, it writes the line that shows the reason.
-pub fn status_after<W: Sink>(sink: &mut W, answer: Result<u8, RunError>) -> u8
+pub fn status_after<W: ByteWriter>(sink: &mut W, answer: Result<u8, RunError>) -> u8
     ensures { EndsWith W.account answer sink.old sink.new result }
 {
     match answer {
@@ -137,7 +137,7 @@ pub fn status_after<W: Sink>(sink: &mut W, answer: Result<u8, RunError>) -> u8
 ///
 /// The bytes are given in parts divided at the cuts (offsets in bytes). If there is no report, it writes the line that
 /// shows the reason.
-pub fn status_on<A: Allocator + Copy, R: Report, S: Source, W: Sink>(
+pub fn status_on<A: Allocator + Copy, R: Reporting, S: Source, W: ByteWriter>(
     alloc: A,
     report: &R,
     source: &mut S,
@@ -155,7 +155,7 @@ pub fn status_on<A: Allocator + Copy, R: Report, S: Source, W: Sink>(
 /// Writes the report on the file that words name, and returns the status. The first word is the program's name.
 ///
 /// If there is no report, it writes the line that shows the reason.
-pub fn status_for<A: Allocator + Copy, R: Report, F: Folder, W: Sink>(
+pub fn status_for<A: Allocator + Copy, R: Reporting, F: Folder, W: ByteWriter>(
     alloc: A,
     words: &[String],
     report: &R,
@@ -174,7 +174,7 @@ pub fn status_for<A: Allocator + Copy, R: Report, F: Folder, W: Sink>(
 /// Does what `status_for` does, for words that `read_words` returned.
 ///
 /// If they couldn't be read, it writes the line that shows the reason, and opens no file.
-pub fn status_by<R: Report, F: Folder, W: Sink>(
+pub fn status_by<R: Reporting, F: Folder, W: ByteWriter>(
     alloc: Global,
     words: Result<Vec<String>, RunError>,
     report: &R,

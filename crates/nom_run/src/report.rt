@@ -9,11 +9,11 @@ use crate::run::write_all;
 use crate::text::{add_decided, add_error, add_failure, add_need, add_rest};
 use nom_error::answer::{Err, IResult, OutOfMemory};
 use nom_error::value::Error;
-use nom_io::stream::Sink;
+use nom_io::stream::ByteWriter;
 use std::alloc::Allocator;
 
 /// A report of a program on the bytes of a file.
-pub trait Report {
+pub trait Reporting {
     // Whether a text and a status are the report on bytes, given in the parts that cuts make of them.
     ghost is_report: { Self → List ℕ → List ℕ → List ℕ → ℕ → Type 0 };
 
@@ -21,7 +21,7 @@ pub trait Report {
     ///
     /// The bytes are given in parts divided at `cuts` (offsets in bytes). If memory runs out, nothing was
     /// written. A failed write is not tried again.
-    fn write<A: Allocator + Copy, W: Sink>(
+    fn write<A: Allocator + Copy, W: ByteWriter>(
         &self,
         alloc: A,
         bytes: &[u8],
@@ -33,7 +33,7 @@ pub trait Report {
 }
 
 /// Writes a text that was built whole, and returns its status.
-pub fn write_built<A: Allocator, W: Sink>(
+pub fn write_built<A: Allocator, W: ByteWriter>(
     built: Result<(String<A>, u8), OutOfMemory>,
     sink: &mut W,
 ) -> Result<u8, RunError>

@@ -5,9 +5,9 @@ ghost use Rattle.nom_run.specs.Pieces.{Puts};
 ghost use Rattle.nom_run.specs.Runs.{CanGrow, CutAbove, Falls, MatchRunError, NeverFalls, NoneAbove, SomeAbove, ReadSome, ReadWhole, Reported, Stopped};
 
 use crate::error::RunError;
-use crate::report::Report;
+use crate::report::Reporting;
 use nom_error::answer::OutOfMemory;
-use nom_io::stream::{Sink, Source};
+use nom_io::stream::{ByteWriter, Source};
 use std::alloc::Allocator;
 
 // Whether no cut is below the one before.
@@ -67,7 +67,7 @@ fn read_all<A: Allocator, S: Source>(source: &mut S, bytes: &mut Vec<u8, A>) -> 
 /// Writes the text, in as many calls as it takes.
 ///
 /// A failed call is not tried again, and a write that takes no byte is a failure. Both are `Write`.
-pub fn write_all<W: Sink>(sink: &mut W, text: &[u8]) -> Result<(), RunError>
+pub fn write_all<W: ByteWriter>(sink: &mut W, text: &[u8]) -> Result<(), RunError>
     ensures none { text.now ≡ [] → sink.new ≡ sink.old }
     ensures puts { Puts (W.account sink.old) (W.account sink.new) [] text.now [] result }
 {
@@ -94,7 +94,7 @@ pub fn write_all<W: Sink>(sink: &mut W, text: &[u8]) -> Result<(), RunError>
 /// A failed call is not tried again, and a write that takes no byte is a failure. All memory of the report is
 /// taken before its first byte is written. `OutOfMemory` is answered only if something could grow. Either
 /// some bytes were read, or the source came to its end and there is a report to build.
-pub fn run<A: Allocator + Copy, R: Report, S: Source, W: Sink>(
+pub fn run<A: Allocator + Copy, R: Reporting, S: Source, W: ByteWriter>(
     alloc: A,
     report: &R,
     source: &mut S,

@@ -4,14 +4,14 @@ ghost use Rattle.nom_run.specs.Reporting.{ByWords};
 ghost use Rattle.nom_settings_run.specs.Asked.{Answers};
 
 use crate::report::Settings;
-use nom_io::stream::Sink;
+use nom_io::stream::ByteWriter;
 use nom_run::error::RunError;
 use nom_run::folder::Folder;
 use nom_run::program::{status_for, tell_fault};
 use std::alloc::{Allocator, Global};
 
 // Writes the settings of the file that the word after the program's name names. More words are wrong, and nothing is opened for them.
-fn answer<A: Allocator + Copy, F: Folder, W: Sink>(
+fn answer<A: Allocator + Copy, F: Folder, W: ByteWriter>(
     alloc: A,
     words: &[String],
     folder: &mut F,
@@ -30,7 +30,7 @@ fn answer<A: Allocator + Copy, F: Folder, W: Sink>(
 ///
 /// The first word is the program's name, and the second is the file. If there are no settings, it writes the line that shows
 /// the reason. More words are `usage`.
-pub fn status_by<F: Folder, W: Sink>(
+pub fn status_by<F: Folder, W: ByteWriter>(
     alloc: Global,
     words: Result<Vec<String>, RunError>,
     folder: &mut F,

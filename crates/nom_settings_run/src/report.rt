@@ -10,12 +10,12 @@ use itoa::Buffer;
 use nom_error::answer::{Err, IResult, OutOfMemory};
 use nom_error::kind::ErrorKind;
 use nom_error::value::Error;
-use nom_io::stream::Sink;
+use nom_io::stream::ByteWriter;
 use nom_located::Located;
 use nom_located::promises::stands_after;
 use nom_run::error::RunError;
 use nom_run::pieces::{InPieces, flush, make_room, put_each, put_texts};
-use nom_run::report::{Report, write_built};
+use nom_run::report::{Reporting, write_built};
 use nom_traits::input::{Input, Items};
 use std::alloc::Allocator;
 use std::fmt::Write;
@@ -25,7 +25,7 @@ use std::str;
 pub type Text<'a> = Located<&'a str>;
 
 // Adds a number, and a text after it.
-fn put_number<A: Allocator, W: Sink>(
+fn put_number<A: Allocator, W: ByteWriter>(
     sink: &mut W,
     room: &mut Vec<u8, A>,
     number: usize,
@@ -40,7 +40,7 @@ fn put_number<A: Allocator, W: Sink>(
 }
 
 // Adds the names of the section and of the setting, and the value.
-fn put_entry<A: Allocator, W: Sink>(
+fn put_entry<A: Allocator, W: ByteWriter>(
     sink: &mut W,
     room: &mut Vec<u8, A>,
     section: &str,
@@ -55,7 +55,7 @@ fn put_entry<A: Allocator, W: Sink>(
 }
 
 // Adds a line, by the parts of it.
-fn put_line<A: Allocator, W: Sink>(
+fn put_line<A: Allocator, W: ByteWriter>(
     sink: &mut W,
     room: &mut Vec<u8, A>,
     line: usize,
@@ -81,7 +81,7 @@ fn put_line<A: Allocator, W: Sink>(
 }
 
 // Adds the line of a setting.
-fn put_setting<'a, A: Allocator, W: Sink>(
+fn put_setting<'a, A: Allocator, W: ByteWriter>(
     sink: &mut W,
     room: &mut Vec<u8, A>,
     section: Text<'a>,
@@ -107,7 +107,7 @@ struct Under<'a> {
 impl<'a> InPieces<(Text<'a>, Text<'a>)> for Under<'a> {
     ghost lines = { λ s o. setting_text s.section o };
 
-    fn put<A: Allocator, W: Sink>(
+    fn put<A: Allocator, W: ByteWriter>(
         &self,
         sink: &mut W,
         room: &mut Vec<u8, A>,
@@ -120,7 +120,7 @@ impl<'a> InPieces<(Text<'a>, Text<'a>)> for Under<'a> {
 impl<'a, B: Allocator + Copy> InPieces<Section<Text<'a>, B>> for Settings {
     ghost lines = { λ _ o. section_text o.0 o.1.items };
 
-    fn put<A: Allocator, W: Sink>(
+    fn put<A: Allocator, W: ByteWriter>(
         &self,
         sink: &mut W,
         room: &mut Vec<u8, A>,
@@ -131,7 +131,7 @@ impl<'a, B: Allocator + Copy> InPieces<Section<Text<'a>, B>> for Settings {
 }
 
 // Writes the lines of sections, with room for them that was made. Memory runs out only if none could be.
-fn write_sections<'a, A: Allocator + Copy, W: Sink>(
+fn write_sections<'a, A: Allocator + Copy, W: ByteWriter>(
     made: Result<Vec<u8, A>, OutOfMemory>,
     found: &[Section<Text<'a>, A>],
     sink: &mut W,
@@ -203,7 +203,7 @@ fn tell_stop<'a, A: Allocator + Copy>(
 }
 
 // Writes the text for an answer, and answers its status.
-fn write_answer<'a, A: Allocator + Copy, W: Sink>(
+fn write_answer<'a, A: Allocator + Copy, W: ByteWriter>(
     alloc: A,
     answer: IResult<Text<'a>, Vec<Section<Text<'a>, A>, A>, Error<Text<'a>>>,
     sink: &mut W,
@@ -235,10 +235,10 @@ fn tell_bytes<A: Allocator + Copy>(
 /// The report on a file of settings. It is the same in whichever parts the bytes come.
 pub struct Settings;
 
-impl Report for Settings {
+impl Reporting for Settings {
     ghost is_report = { λ _. IsReport };
 
-    fn write<A: Allocator + Copy, W: Sink>(
+    fn write<A: Allocator + Copy, W: ByteWriter>(
         &self,
         alloc: A,
         bytes: &[u8],

@@ -2,7 +2,7 @@
 ghost use Rattle.std.specs.Prelude.{◌≡◌};
 ghost use Rattle.nom_stream.specs.Each.{FoldsEach, GivesEach};
 
-use crate::grammar::Grammar;
+use crate::item_parser::ItemParser;
 use crate::stream::{Stop, Stream};
 use std::alloc::Allocator;
 use std::io::Read;
@@ -13,7 +13,7 @@ impl<R: Read, A: Allocator + Copy> Stream<R, A> {
     /// The calls of `next_item` return the items. At a `Stop` all items before it were given to `f`, and the
     /// call can be made again. It also returns after 2^64 - 1 items.
     #[inline(always)]
-    pub fn for_each_item<G: Grammar, F: FnMut(G::Item)>(
+    pub fn for_each_item<G: ItemParser, F: FnMut(G::Item)>(
         &mut self,
         grammar: &mut G,
         mut f: F,
@@ -39,7 +39,7 @@ impl<R: Read, A: Allocator + Copy> Stream<R, A> {
     ///
     /// It returns what `f` returned last. At a `Stop` that is dropped. It also returns after 2^64 - 1 items.
     #[inline(always)]
-    pub fn fold_items<G: Grammar, B: Drop, F: FnMut(B, G::Item) -> B>(
+    pub fn fold_items<G: ItemParser, B: Drop, F: FnMut(B, G::Item) -> B>(
         &mut self,
         grammar: &mut G,
         init: B,

@@ -4,7 +4,7 @@ ghost use Rattle.nom_internal.specs.Prelude.{bytes_model};
 ghost use Rattle.nom_calls.specs.Func.{IsStreamParser, func_of};
 ghost use Rattle.nom_stream.specs.Functions.{CutsRest};
 
-use crate::grammar::Grammar;
+use crate::item_parser::ItemParser;
 use nom_error::answer::{Err, IResult};
 use nom_error::kind::ErrorKind;
 use nom_error::value::{Error, ParseError};
@@ -47,7 +47,7 @@ fn cut<'a, O: Drop>(input: &'a [u8], left: &'a [u8], value: O) -> IResult<&'a [u
     }
 }
 
-impl<O: Viewed + Drop, F: Fn(&[u8]) -> IResult<&[u8], O>> Grammar for ItemFunc<F, O> {
+impl<O: Viewed + Drop, F: Fn(&[u8]) -> IResult<&[u8], O>> ItemParser for ItemFunc<F, O> {
     type Item = O;
 
     ghost State = { F };

@@ -5,8 +5,8 @@
 
 pub mod each;
 pub mod function;
-pub mod grammar;
 pub mod held;
+pub mod item_parser;
 pub mod lines;
 pub mod promises;
 pub mod reader;

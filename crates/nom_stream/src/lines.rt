@@ -3,7 +3,7 @@ ghost use Rattle.std.specs.Prelude.{◌≡◌, Option};
 ghost use Rattle.nom_internal.specs.Prelude.{bytes_model, Slice};
 ghost use Rattle.nom_stream.specs.ReaderLines.{line_len, line_of};
 
-use crate::grammar::{Grammar, parse_item};
+use crate::item_parser::{ItemParser, parse_item};
 use nom_bytes::{is_not, tag};
 use nom_combinator::{map, opt};
 use nom_error::answer::IResult;
@@ -25,7 +25,7 @@ fn len_of<'a>(bytes: Option<&'a [u8]>) -> usize
     }
 }
 
-impl Grammar for Lines {
+impl ItemParser for Lines {
     type Item = usize;
 
     ghost State = { Unit {0} };

@@ -3,7 +3,7 @@
 ghost use Rattle.nom_stream.specs.Repeats.{ParsesFew};
 ghost use Rattle.nom_stream.specs.Wholes.{AnswersWhole, BytesOfWhole, ItemsOfWhole};
 
-use crate::grammar::Grammar;
+use crate::item_parser::ItemParser;
 use crate::settings::Settings;
 use crate::stream::Stream;
 use std::alloc::Allocator;
@@ -17,7 +17,7 @@ use std::io::Read;
 /// An item is the one that is accepted there, with as many bytes. A refusal is a refusal there. A failure is
 /// one too, unless it means that the missing part of a beginning is too large. `Incomplete` means that all is
 /// held and more is needed. `None` means that nothing is left.
-pub fn answers_of_whole<R: Read, A: Allocator + Copy, G: Grammar>(
+pub fn answers_of_whole<R: Read, A: Allocator + Copy, G: ItemParser>(
     _stream: &Stream<R, A>,
     _grammar: &G,
 )
@@ -31,7 +31,7 @@ pub fn answers_of_whole<R: Read, A: Allocator + Copy, G: Grammar>(
 /// Each item begins where the one before ended. This is true however the reader delivers its bytes. The
 /// offset counts the bytes of the items. Calls that returned no item change nothing, for example if a read
 /// failed or memory ran out.
-pub fn items_of_whole<R: Read, A: Allocator + Copy, G: Grammar>(
+pub fn items_of_whole<R: Read, A: Allocator + Copy, G: ItemParser>(
     _stream: &Stream<R, A>,
     _grammar: &G,
 )
@@ -43,7 +43,7 @@ pub fn items_of_whole<R: Read, A: Allocator + Copy, G: Grammar>(
 ///
 /// `last` borrows them after the call that returned the item. This is true however the reader delivers its
 /// bytes.
-pub fn bytes_of_whole<R: Read, A: Allocator + Copy, G: Grammar>(
+pub fn bytes_of_whole<R: Read, A: Allocator + Copy, G: ItemParser>(
     _stream: &Stream<R, A>,
     _grammar: &G,
 )
@@ -55,6 +55,6 @@ pub fn bytes_of_whole<R: Read, A: Allocator + Copy, G: Grammar>(
 ///
 /// After each such parse, as many bytes were read as were wanted (`AreFillings`). This is true however the
 /// reader delivers its bytes, and whatever a parser needs.
-pub fn parses_few<G: Grammar>(_settings: &Settings, _grammar: &G)
+pub fn parses_few<G: ItemParser>(_settings: &Settings, _grammar: &G)
     ensures { ParsesFew (G.grammar (G.state _grammar.now)) _settings.now }
 {}

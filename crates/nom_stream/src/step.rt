@@ -4,8 +4,8 @@ ghost use Rattle.nom_stream.specs.Held.{held_of};
 ghost use Rattle.nom_stream.specs.Items.{IsStopped, HoldsLast, IsUndecided, Stays, Takes};
 ghost use Rattle.nom_stream.specs.declared.step.Taken.TheVariants.{Undecided};
 
-use crate::grammar::Grammar;
 use crate::held::Held;
+use crate::item_parser::ItemParser;
 use nom_error::answer::{Err, Needed};
 use nom_error::kind::ErrorKind;
 use nom_error::value::Error;
@@ -45,7 +45,7 @@ fn stopped<T>(stop: Err<Error<&[u8]>>) -> Taken<T>
 ///
 /// `more` says whether more bytes may come. Nothing else is taken.
 #[inline(always)]
-pub fn take<A: Allocator, G: Grammar>(
+pub fn take<A: Allocator, G: ItemParser>(
     held: &mut Held<A>,
     grammar: &mut G,
     more: bool,

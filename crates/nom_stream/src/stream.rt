@@ -1,8 +1,8 @@
 //! The items of a reader.
 ghost use Rattle.std.specs.Prelude.{◌≤◌, vec_len};
 
-use crate::grammar::Grammar;
 use crate::held::Held;
+use crate::item_parser::ItemParser;
 use crate::reader::Reader;
 use crate::settings::Settings;
 use crate::step::{Taken, needed_of, take};
@@ -182,7 +182,7 @@ impl<R: Read, A: Allocator + Copy> Stream<R, A> {
 
     // What is told at the end of the reader, where what is held isn't decided.
     #[inline(never)]
-    fn finish<G: Grammar>(
+    fn finish<G: ItemParser>(
         &mut self,
         needed: Needed,
         grammar: &mut G,
@@ -204,7 +204,7 @@ impl<R: Read, A: Allocator + Copy> Stream<R, A> {
 
     // The same. It is here that the room for the answer is cleared, which a fault makes large, and so not for each item.
     #[inline(always)]
-    fn end<G: Grammar>(
+    fn end<G: ItemParser>(
         &mut self,
         needed: Needed,
         grammar: &mut G,
@@ -225,7 +225,7 @@ impl<R: Read, A: Allocator + Copy> Stream<R, A> {
     /// After a `Stop` all bytes are held, and the call can be made again. At a fault the held bytes don't
     /// decide; the same is true if there is no room for more.
     #[inline(always)]
-    pub fn next_item<G: Grammar>(
+    pub fn next_item<G: ItemParser>(
         &mut self,
         grammar: &mut G,
     ) -> Result<Option<(usize, G::Item)>, Stop>

@@ -8,7 +8,7 @@ use Rattle.nom_character.specs.Tests.{char_within_same}
 use Rattle.nom_character.specs.Words.{char_same, satisfy_same}
 use Rattle.nom_combinator.specs.Words.{all_consuming_same}
 use Rattle.nom_sequence.specs.Words.{preceded_same}
-use Rattle.nom.specs.Grammar.{answers_same}
+use Rattle.nom_internal.specs.Word.{answers_same}
 use Rattle.nom.specs.Texts.{plain_errors}
 use Rattle.example_json.proofs.strings.unescaped.Goals as goal
 

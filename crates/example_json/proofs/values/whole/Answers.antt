@@ -4,7 +4,7 @@ use Rattle.nom_internal.proofs.Shown.{err_from_residual}
 use Rattle.nom_calls.specs.Func.{Answers}
 use Rattle.nom_combinator.specs.Words.{eof_worded}
 use Rattle.nom.specs.Chains.{map_stop, pair_stop_later, tuple_stop, two_map}
-use Rattle.nom.specs.Grammar.{answers_by}
+use Rattle.nom.specs.Word.{answers_by}
 use Rattle.nom.specs.Texts.{Parses, eof_of, plain_errors}
 use Rattle.example_json.specs.Json.{json_of, json_text_of}
 use Rattle.example_json.proofs.values.whole.Goals as goal

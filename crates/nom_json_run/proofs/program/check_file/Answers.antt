@@ -9,6 +9,6 @@ returns-in-Ok g c =
       file.0,
       file.1,
       c.in-Ok.ensures.none,
-      subst (λ r. ChecksLines g.R.Read.remaining g.W.Sink.account r c.args.sink.now c.check_lines.new.sink
+      subst (λ r. ChecksLines g.R.Read.remaining g.W.ByteWriter.account r c.args.sink.now c.check_lines.new.sink
           c.check_lines.result g.row.A.Denot) file.2 c.check_lines.ensures,
     )

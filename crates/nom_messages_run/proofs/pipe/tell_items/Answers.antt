@@ -6,22 +6,22 @@ use Rattle.nom_messages_run.proofs.pipe.tell_items.Goals as goal
 pub returns-in-Err-list-clause-told : goal.returns-in-Err-list-clause-told
 returns-in-Err-list-clause-told g c =
     let i = c.loop-turn.invariant in
-    halts _ _ i.going c.in-Ok-Some.field-0-is (subst (λ z. Decides g.R.Read.remaining (g.G.Grammar.grammar z) c.loop-turn.stream c.next_item.new.self
+    halts _ _ i.going c.in-Ok-Some.field-0-is (subst (λ z. Decides g.R.Read.remaining (g.G.ItemParser.grammar z) c.loop-turn.stream c.next_item.new.self
     (Ok c.in-Ok-Some.field-0)) i.kept c.in-Ok-Some.ensures.decides) c.last.ensures
     (λ same few. let first = i.fresh few in (first.0, same ∙ first.1)) c.in-Err-list.ensures.puts
 
 pub returns-in-Ok-None-clause-told : goal.returns-in-Ok-None-clause-told
 returns-in-Ok-None-clause-told g c =
     let i = c.loop-turn.invariant in
-    ended _ _ i.going None (subst (λ z. Decides g.R.Read.remaining (g.G.Grammar.grammar z) c.loop-turn.stream c.next_item.new.self (Ok None)) i.kept
-    (subst (λ f. Decides g.R.Read.remaining (g.G.Grammar.grammar (g.G.Grammar.state c.loop-turn.grammar)) c.loop-turn.stream c.next_item.new.self
+    ended _ _ i.going None (subst (λ z. Decides g.R.Read.remaining (g.G.ItemParser.grammar z) c.loop-turn.stream c.next_item.new.self (Ok None)) i.kept
+    (subst (λ f. Decides g.R.Read.remaining (g.G.ItemParser.grammar (g.G.ItemParser.state c.loop-turn.grammar)) c.loop-turn.stream c.next_item.new.self
     (Ok f)) c.in-Ok-None.field-0-is c.in-Ok-None.ensures.decides))
     (λ h. let first = i.fresh h.1 in (first.0, h.0 ∙ first.1)) c.end.ensures
 
 pub returns-in-Err-clause-told : goal.returns-in-Err-clause-told
 returns-in-Err-clause-told g c =
     let i = c.loop-turn.invariant in
-    ended _ _ i.going (Some c.in-Err.why) (subst (λ z. Decides g.R.Read.remaining (g.G.Grammar.grammar z) c.loop-turn.stream c.next_item.new.self
+    ended _ _ i.going (Some c.in-Err.why) (subst (λ z. Decides g.R.Read.remaining (g.G.ItemParser.grammar z) c.loop-turn.stream c.next_item.new.self
     (Err c.in-Err.why)) i.kept c.in-Err.ensures.decides)
     (λ h. let first = i.fresh h.1 in (first.0, h.0 ∙ first.1)) c.end-in-Err.ensures
 
@@ -32,7 +32,7 @@ loop-turn-preserved g c =
       few = c.in-Ok.ensures.room.0;
       fresh = λ h. absurd (omega (arith, h, c.in-Ok.ensures.room.1));
       kept = c.in-Ok-Some.ensures.kept ∙ i.kept;
-      going = goes_on _ _ i.going c.in-Ok-Some.field-0-is (subst (λ z. Decides g.R.Read.remaining (g.G.Grammar.grammar z) c.loop-turn.stream
+      going = goes_on _ _ i.going c.in-Ok-Some.field-0-is (subst (λ z. Decides g.R.Read.remaining (g.G.ItemParser.grammar z) c.loop-turn.stream
           c.next_item.new.self (Ok c.in-Ok-Some.field-0)) i.kept c.in-Ok-Some.ensures.decides) c.last.ensures c.in-Ok.ensures.puts;
     }
 

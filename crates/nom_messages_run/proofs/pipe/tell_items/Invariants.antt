@@ -7,7 +7,7 @@ abbrev pub invariant-loop-turn : goal.invariant-loop-turn
 invariant-loop-turn g l = record {
   few : vec_len l.room ≤ 65536;
   fresh : vec_capacity l.room < 65536 → (l._turn ≡ 0) × (l.sink ≡ l.fn.sink);
-  kept : g.G.Grammar.state l.grammar ≡ g.G.Grammar.state l.fn.grammar;
-  going : Going g.R.Read.remaining (g.G.Grammar.grammar (g.G.Grammar.state l.fn.grammar)) l.fn.stream l.stream (g.W.Sink.account l.fn.sink)
-      (g.W.Sink.account l.sink) l.room.items l._turn;
+  kept : g.G.ItemParser.state l.grammar ≡ g.G.ItemParser.state l.fn.grammar;
+  going : Going g.R.Read.remaining (g.G.ItemParser.grammar (g.G.ItemParser.state l.fn.grammar)) l.fn.stream l.stream (g.W.ByteWriter.account l.fn.sink)
+      (g.W.ByteWriter.account l.sink) l.room.items l._turn;
 }

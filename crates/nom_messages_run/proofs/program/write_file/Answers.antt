@@ -9,6 +9,6 @@ returns-in-Ok g c =
       file.0,
       file.1,
       c.in-Ok.ensures.none,
-      subst (λ r. WritesMessages g.R.Read.remaining g.W.Write.contents g.E.Sink.account r c.args.writer
+      subst (λ r. WritesMessages g.R.Read.remaining g.W.Write.contents g.E.ByteWriter.account r c.args.writer
           c.args.faults.now c.write_messages.new.faults c.write_messages.result g.row.A.Denot) file.2 c.write_messages.ensures,
     )

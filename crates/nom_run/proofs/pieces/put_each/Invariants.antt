@@ -6,6 +6,6 @@ use Rattle.nom_run.proofs.pieces.put_each.Given as goal
 abbrev pub invariant-loop-item : goal.invariant-loop-item
 invariant-loop-item g l = record {
   room : HasRoom l.room;
-  puts : Puts (g.W.Sink.account l.fn.sink) (g.W.Sink.account l.sink) l.fn.room.items
+  puts : Puts (g.W.ByteWriter.account l.fn.sink) (g.W.ByteWriter.account l.sink) l.fn.room.items
       (lines_text (g.P.InPieces.lines l.each) (take l.item-index l.items)) l.room.items (Ok tt);
 }

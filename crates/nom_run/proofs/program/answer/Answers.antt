@@ -9,7 +9,7 @@ returns-clause-status g c =
     let asks = subst (λ z. Asks (map string_bytes c.args.words.now) c.in-Ok.task.file.now z)
     (sym c.as_slice-cuts.ensures.value) c.in-Ok.ensures.task in
     on_report g.F.Folder.is_file g.F.File.Source.account (map string_bytes c.args.words.now) g.F.Folder.missed
-    c.args.folder.now c.open.new.self (g.R.Report.is_report c.args.report.now) cuts asks.others.ordered c.in-Ok-open.source c.run.new.source
+    c.args.folder.now c.open.new.self (g.R.Reporting.is_report c.args.report.now) cuts asks.others.ordered c.in-Ok-open.source c.run.new.source
     (record { name = c.in-Ok.task.file.now; asks = asks; file = c.in-Ok-open.ensures.file; none = c.in-Ok-open.ensures.counts })
     _ _ c.run.result c.run.ensures.status
 
@@ -19,6 +19,6 @@ returns-clause-error g c =
     let asks = subst (λ z. Asks (map string_bytes c.args.words.now) c.in-Ok.task.file.now z)
     (sym c.as_slice-cuts.ensures.value) c.in-Ok.ensures.task in
     on_run g.F.Folder.is_file g.F.File.Source.account (map string_bytes c.args.words.now) g.F.Folder.missed
-    c.args.folder.now c.open.new.self (g.R.Report.is_report c.args.report.now) cuts asks.others.ordered c.in-Ok-open.source c.run.new.source
+    c.args.folder.now c.open.new.self (g.R.Reporting.is_report c.args.report.now) cuts asks.others.ordered c.in-Ok-open.source c.run.new.source
     (record { name = c.in-Ok.task.file.now; asks = asks; file = c.in-Ok-open.ensures.file; none = c.in-Ok-open.ensures.counts })
     _ _ _ _ c.run.result c.run.ensures.error

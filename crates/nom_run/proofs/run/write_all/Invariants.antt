@@ -6,7 +6,7 @@ abbrev pub invariant-loop-at : goal.invariant-loop-at
 invariant-loop-at g l = record {
   none : l.text ≡ [] → l.sink ≡ l.fn.sink;
   within : l.at ≤ length l.text;
-  wrote : Wrote (g.W.Sink.account l.fn.sink) (g.W.Sink.account l.sink) (take l.at l.text);
+  wrote : Wrote (g.W.ByteWriter.account l.fn.sink) (g.W.ByteWriter.account l.sink) (take l.at l.text);
 }
 
 abbrev pub decreases-loop-at : goal.decreases-loop-at

@@ -9,15 +9,15 @@ loop-turn-init g c = record { callable = c.requires.callable; kept = refl; given
 pub returns-in-Ok-None-clause-items : goal.returns-in-Ok-None-clause-items
 returns-in-Ok-None-clause-items g c =
     let i = c.loop-turn.invariant in
-    let d = subst (λ z. Decides g.R.Read.remaining (g.G.Grammar.grammar z) c.loop-turn.self c.next_item.new.self (Ok None)) i.kept
-    (subst (λ f. Decides g.R.Read.remaining (g.G.Grammar.grammar (g.G.Grammar.state c.loop-turn.grammar)) c.loop-turn.self c.next_item.new.self (Ok f))
+    let d = subst (λ z. Decides g.R.Read.remaining (g.G.ItemParser.grammar z) c.loop-turn.self c.next_item.new.self (Ok None)) i.kept
+    (subst (λ f. Decides g.R.Read.remaining (g.G.ItemParser.grammar (g.G.ItemParser.state c.loop-turn.grammar)) c.loop-turn.self c.next_item.new.self (Ok f))
     c.in-Ok-None.field-0-is c.in-Ok-None.ensures.decides) in
     (c.loop-turn.self, (c.loop-turn.f, c.loop-turn.acc), c.loop-turn._turn, i.given, (refl, inl d))
 
 pub returns-in-Err-clause-items : goal.returns-in-Err-clause-items
 returns-in-Err-clause-items g c =
     let i = c.loop-turn.invariant in
-    let d = subst (λ z. Decides g.R.Read.remaining (g.G.Grammar.grammar z) c.loop-turn.self c.next_item.new.self (Err c.in-Err.stop)) i.kept
+    let d = subst (λ z. Decides g.R.Read.remaining (g.G.ItemParser.grammar z) c.loop-turn.self c.next_item.new.self (Err c.in-Err.stop)) i.kept
     c.in-Err.ensures.decides in
     (c.loop-turn.self, (c.loop-turn.f, c.loop-turn.acc), c.loop-turn._turn, i.given, d)
 
@@ -30,9 +30,9 @@ returns-clause-items g c =
 pub loop-turn-preserved : goal.loop-turn-preserved
 loop-turn-preserved g c =
     let i = c.loop-turn.invariant in
-    let d = subst (λ z. Decides g.R.Read.remaining (g.G.Grammar.grammar z) c.loop-turn.self c.next_item.new.self
+    let d = subst (λ z. Decides g.R.Read.remaining (g.G.ItemParser.grammar z) c.loop-turn.self c.next_item.new.self
     (Ok (Some (c.in-Ok-Some._used, c.in-Ok-Some.item)))) i.kept
-    (subst (λ f. Decides g.R.Read.remaining (g.G.Grammar.grammar (g.G.Grammar.state c.loop-turn.grammar)) c.loop-turn.self c.next_item.new.self (Ok f))
+    (subst (λ f. Decides g.R.Read.remaining (g.G.ItemParser.grammar (g.G.ItemParser.state c.loop-turn.grammar)) c.loop-turn.self c.next_item.new.self (Ok f))
     c.in-Ok-Some.field-0-is c.in-Ok-Some.ensures.decides) in
     record {
       callable = search of_calls;

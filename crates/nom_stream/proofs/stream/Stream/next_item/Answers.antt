@@ -9,7 +9,7 @@ use Rattle.nom_stream.proofs.stream.Stream.next_item.Goals.{in-Ok, in-Err-OutOfM
 pub returns-in-None-clause-decides : goal.returns-in-None-clause-decides
 returns-in-None-clause-decides g c =
     let i = c.parses.invariant in
-    let takes = subst (λ z. Takes (g.G.Grammar.grammar z) true (held_of c.parses.self.held) (held_of c.take-taken.new.held) c.take-taken.result) i.kept
+    let takes = subst (λ z. Takes (g.G.ItemParser.grammar z) true (held_of c.parses.self.held) (held_of c.take-taken.new.held) c.take-taken.result) i.kept
     c.take-taken.ensures.takes in
     decides_item g.R.Read.remaining _ _ _ _ i.so_far _ _ c.take-taken.result _ c.in-None.ensures takes c.take-taken.ensures.last c.tell.ensures.tells
     c.tell.ensures.offset c.tell.ensures.others
@@ -18,16 +18,16 @@ pub returns-then-self-clause-decides : goal.returns-then-self-clause-decides
 returns-then-self-clause-decides g c =
     let i = c.parses.invariant in
     let there =
-    stands_there g.R.Read.remaining g.G.Grammar.grammar _ _ i.kept _ c.parses.self _ i.so_far c.take-taken.new.held _ _
+    stands_there g.R.Read.remaining g.G.ItemParser.grammar _ _ i.kept _ c.parses.self _ i.so_far c.take-taken.new.held _ _
     c.in-Some.ensures c.take-taken.ensures.stays c.take-taken.ensures.takes _ in
-    let ends = ends_by g.G.Grammar.grammar _ _ (c.take-taken.ensures.kept ∙ i.kept) c.end.ensures.ends in
+    let ends = ends_by g.G.ItemParser.grammar _ _ (c.take-taken.ensures.kept ∙ i.kept) c.end.ensures.ends in
     decides_end there _ _ c.if-self.true ends c.end.ensures.others
 
 pub returns-then-lacks-clause-decides : goal.returns-then-lacks-clause-decides
 returns-then-lacks-clause-decides g c =
     let i = c.parses.invariant in
     let there =
-    stands_there g.R.Read.remaining g.G.Grammar.grammar _ _ i.kept _ c.parses.self _ i.so_far c.take-taken.new.held _ _
+    stands_there g.R.Read.remaining g.G.ItemParser.grammar _ _ i.kept _ c.parses.self _ i.so_far c.take-taken.new.held _ _
     c.in-Some.ensures c.take-taken.ensures.stays c.take-taken.ensures.takes _ in
     decides_lack there c.if-lacks.true
 
@@ -35,7 +35,7 @@ pub returns-then-self-held-clause-decides : goal.returns-then-self-held-clause-d
 returns-then-self-held-clause-decides g c =
     let i = c.parses.invariant in
     let there =
-    stands_there g.R.Read.remaining g.G.Grammar.grammar _ _ i.kept _ c.parses.self _ i.so_far c.take-taken.new.held _ _
+    stands_there g.R.Read.remaining g.G.ItemParser.grammar _ _ i.kept _ c.parses.self _ i.so_far c.take-taken.new.held _ _
     c.in-Some.ensures c.take-taken.ensures.stays c.take-taken.ensures.takes _ in
     decides_full there c.if-self.false (omega (arith, c.len-held.ensures, c.if-self-held.true))
 
@@ -43,7 +43,7 @@ pub returns-in-Err-Fault-clause-decides : goal.returns-in-Err-Fault-clause-decid
 returns-in-Err-Fault-clause-decides g c =
     let i = c.parses.invariant in
     let there =
-    stands_there g.R.Read.remaining g.G.Grammar.grammar _ _ i.kept _ c.parses.self _ i.so_far c.take-taken.new.held _ _
+    stands_there g.R.Read.remaining g.G.ItemParser.grammar _ _ i.kept _ c.parses.self _ i.so_far c.take-taken.new.held _ _
     c.in-Some.ensures c.take-taken.ensures.stays c.take-taken.ensures.takes _ in
     decides_fault there c.if-self.false _ _ _ _ c.in-Err-Fault.field-0-is c.in-Err-Fault.ensures
 
@@ -52,7 +52,7 @@ parses-preserved g c =
     let i = c.parses.invariant in
     let few : length (held_of c.take-taken.new.held) < c.parses.self.settings.most = omega (arith, c.len-held.ensures, c.if-self-held.false) in
     let there =
-    stands_there g.R.Read.remaining g.G.Grammar.grammar _ _ i.kept _ c.parses.self _ i.so_far c.take-taken.new.held _ _
+    stands_there g.R.Read.remaining g.G.ItemParser.grammar _ _ i.kept _ c.parses.self _ i.so_far c.take-taken.new.held _ _
     c.in-Some.ensures c.take-taken.ensures.stays c.take-taken.ensures.takes _ in
     let as_many = c.wanted-wanted.ensures.wanted ∙ ap (wanted_of c.parses.self.settings c.in-Some.needed) c.len-held.ensures in
     record {

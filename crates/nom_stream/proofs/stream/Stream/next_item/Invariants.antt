@@ -5,8 +5,8 @@ use Rattle.nom_stream.proofs.stream.Stream.next_item.Given as goal
 
 abbrev pub invariant-parses : goal.invariant-parses
 invariant-parses g l = record {
-  kept : g.G.Grammar.state l.grammar ≡ g.G.Grammar.state l.fn.grammar;
-  so_far : SoFar g.R.Read.remaining (g.G.Grammar.grammar (g.G.Grammar.state l.fn.grammar)) l.fn.self l.self l.lacks;
+  kept : g.G.ItemParser.state l.grammar ≡ g.G.ItemParser.state l.fn.grammar;
+  so_far : SoFar g.R.Read.remaining (g.G.ItemParser.grammar (g.G.ItemParser.state l.fn.grammar)) l.fn.self l.self l.lacks;
 }
 
 abbrev pub decreases-parses : goal.decreases-parses
