@@ -1,11 +1,12 @@
 -- Which bits the masks of sets have.
-use Rattle.std.proofs.Common.{◌≡◌, ℕ, ◌+◌, ◌-◌, ◌/◌, ◌%◌, ◌^◌, ◌<◌, ◌≤◌, max, min, Bool, IsTrue, ◌↔◌, true, false, not, ◌&&◌, ◌||◌, ◌==◌, nat_lt, nat_le}
-use Rattle.std.proofs.Common.{List, [], ◌∷◌, fold, refl, sym, subst, ap, ◌∙◌, inl, inr, arith, ltb-true, ltb-false, lt-ltb, le-ltb, eq-eqb, ne_eqb}
-use Rattle.std.proofs.Common.{bit_and, bit_or}
+use Rattle.std.proofs.Common.{◌≡◌, ℕ, ◌+◌, ◌-◌, ◌/◌, ◌%◌, ◌^◌, ◌<◌, ◌≤◌, max, min}
+use Rattle.std.proofs.Common.{Bool, IsTrue, ◌↔◌, true, false, not, ◌&&◌, ◌||◌, ◌==◌, nat_lt, nat_le}
+use Rattle.std.proofs.Common.{List, [], ◌∷◌, fold, refl, sym, subst, ap, ◌∙◌, inl, inr, arith}
+use Rattle.std.proofs.Common.{ltb-true, ltb-false, lt-ltb, le-ltb, eq-eqb, ne_eqb, bit_and, bit_or}
 use Rattle.std.specs.Int.{bit_at, bit_not, w128}
 use Rattle.std.specs.List.{list_any}
 use Rattle.std.specs.Char.{is_ascii_alphabetic, is_ascii_alphanumeric, is_ascii_digit}
-use Rattle.std.proofs.lemmas.Bool.{agree_below_at, cases_eq, cases_Bool}
+use Rattle.std.proofs.lemmas.Bool.{cases_eq, cases_Bool}
 use Rattle.std.proofs.lemmas.Bool.Decides.{nat_tests}
 use Rattle.std.proofs.lemmas.Nat.{pow_pos, shr-shr}
 use Rattle.std.proofs.lemmas.Nat.Bits.{bit_at-zero, bit_at_and, bit_at_or, bit_at_not, bit_at_ones, bit_at-pow_same, bit_at-pow_other, shr_and_one}
@@ -143,30 +144,27 @@ pub none_beyond : (set : AsciiSet) (i : ℕ) → 128 ≤ i → false ≡ holds s
 unfolding holds
 none_beyond set i beyond = rw (le-ltb i 128 beyond) refl
 
--- the classes, code by code
-class_holds : (set : AsciiSet) (class : ℕ → Bool) → ((i : ℕ) → i < 128 → (bit_at set.mask i == 1) ≡ class i) →
-    ((i : ℕ) → 128 ≤ i → class i ≡ false) → (i : ℕ) → holds set i ≡ class i
-unfolding holds
-class_holds set class below above i = elim (cases_Bool (nat_lt i 128)) [
-  | inl within ↦ rw within (below i (ltb-true i 128 within))
-  | inr beyond ↦ rw beyond (sym (above i (ltb-false i 128 beyond)))
-]
-
-pub alphas_have : (i : ℕ) → holds alphas i ≡ is_ascii_alphabetic i
+-- the classes
+alphas_hold : (i : ℕ) → holds alphas i ≡ is_ascii_alphabetic i
 unfolding alphas
-alphas_have = class_holds _ is_ascii_alphabetic
-    (λ i. agree_below_at (λ j. bit_at alphas.mask j == 1) is_ascii_alphabetic 128 i refl) (λ i h. grind (arith, nat_tests))
+alphas_hold i = and_holds (span_of 97 122) (span_of 65 90) i ∙ rw (span_holds 97 122 i, span_holds 65 90 i) (grind (arith, nat_tests))
 
-pub digits_have : (i : ℕ) → holds digits i ≡ is_ascii_digit i
+digits_hold : (i : ℕ) → holds digits i ≡ is_ascii_digit i
 unfolding digits
-digits_have = class_holds _ is_ascii_digit
-    (λ i. agree_below_at (λ j. bit_at digits.mask j == 1) is_ascii_digit 128 i refl) (λ i h. grind (arith, nat_tests))
+digits_hold i = span_holds 48 57 i ∙ grind (arith, nat_tests)
 
-pub alphanumerics_have : (i : ℕ) → holds alphanumerics i ≡ is_ascii_alphanumeric i
+alphanumerics_hold : (i : ℕ) → holds alphanumerics i ≡ is_ascii_alphanumeric i
 unfolding alphanumerics
-alphanumerics_have = class_holds _ is_ascii_alphanumeric
-    (λ i. agree_below_at (λ j. bit_at alphanumerics.mask j == 1) is_ascii_alphanumeric 128 i refl)
-    (λ i h. grind (arith, nat_tests))
+alphanumerics_hold i = and_holds alphas digits i ∙ rw (alphas_hold i, digits_hold i) (grind (arith, nat_tests))
+
+pub alphas_have : (s : AsciiSet) → s ≡ alphas → (i : ℕ) → holds s i ≡ is_ascii_alphabetic i
+alphas_have s is i = ap (λ t. holds t i) is ∙ alphas_hold i
+
+pub digits_have : (s : AsciiSet) → s ≡ digits → (i : ℕ) → holds s i ≡ is_ascii_digit i
+digits_have s is i = ap (λ t. holds t i) is ∙ digits_hold i
+
+pub alphanumerics_have : (s : AsciiSet) → s ≡ alphanumerics → (i : ℕ) → holds s i ≡ is_ascii_alphanumeric i
+alphanumerics_have s is i = ap (λ t. holds t i) is ∙ alphanumerics_hold i
 
 -- what a test of an item shows
 pub held : (set : AsciiSet) (i : ℕ) (b : Bool) → b ≡ holds set i → IsTrue b ↔ Held set i

@@ -37,10 +37,10 @@ except_of set other = record { mask = bit_and set.mask (bit_not w128 other.mask)
 
 -- the letters, the digits, and both
 unfoldable pub alphas : AsciiSet
-alphas = record { mask = 0x7FFFFFE07FFFFFE0000000000000000 }
+alphas = and_of (span_of 97 122) (span_of 65 90)
 
 unfoldable pub digits : AsciiSet
-digits = record { mask = 0x3FF000000000000 }
+digits = span_of 48 57
 
 unfoldable pub alphanumerics : AsciiSet
-alphanumerics = record { mask = 0x7FFFFFE07FFFFFE03FF000000000000 }
+alphanumerics = and_of alphas digits

@@ -25,9 +25,7 @@ impl AsciiSet {
         ensures set { result ≡ alphas }
         ensures has { (code : ℕ) → holds result code ≡ is_ascii_alphabetic code }
     {
-        AsciiSet {
-            mask: 0x7FF_FFFE_07FF_FFFE_0000_0000_0000_0000,
-        }
+        AsciiSet::span('a', 'z').and(AsciiSet::span('A', 'Z'))
     }
 
     /// Returns the digits `0` to `9`.
@@ -36,9 +34,7 @@ impl AsciiSet {
         ensures set { result ≡ digits }
         ensures has { (code : ℕ) → holds result code ≡ is_ascii_digit code }
     {
-        AsciiSet {
-            mask: 0x3FF_0000_0000_0000,
-        }
+        AsciiSet::span('0', '9')
     }
 
     /// Returns the letters and the digits.
@@ -47,9 +43,7 @@ impl AsciiSet {
         ensures set { result ≡ alphanumerics }
         ensures has { (code : ℕ) → holds result code ≡ is_ascii_alphanumeric code }
     {
-        AsciiSet {
-            mask: 0x7FF_FFFE_07FF_FFFE_03FF_0000_0000_0000,
-        }
+        AsciiSet::alpha().and(AsciiSet::digit())
     }
 
     /// Returns the ASCII characters of a text. It leaves out the others.

@@ -20,7 +20,8 @@ module _ {R I A O E : Type 0} (w : Model I A) (errs : Errors I E) (view : View O
   unfolding recursive_rule_of
   rule_deepest d q i r e h = subst (λ k. Answers w (recursive_rule_of w errs view s rule_of k q) s i r) (sym e) h
 
-  below : (d : ℕ) (q : R) → (d ≡ 0 → ⊥) → recursive_rule_of w errs view s rule_of d q ≡ rule_of (λ p. inner_of w errs view s (recursive_rule_of w errs view s rule_of (d - 1) p)) q
+  below : (d : ℕ) (q : R) → (d ≡ 0 → ⊥) →
+      recursive_rule_of w errs view s rule_of d q ≡ rule_of (λ p. inner_of w errs view s (recursive_rule_of w errs view s rule_of (d - 1) p)) q
   unfolding recursive_rule_of
   below zero q h = absurd (h refl)
   below (suc d) q h =
@@ -32,7 +33,8 @@ module _ {R I A O E : Type 0} (w : Model I A) (errs : Errors I E) (view : View O
       ((p : R) (i : I) → IsProp (Takes p i)) → ((p : R) (i : I) → Takes p i) → Answers w (recursive_rule_of w errs view s rule_of d q) s i r
   rule_below d Takes q i r n h one all =
       subst (λ k. Answers w k s i r) (sym (below d q n))
-      (subst (λ T. Answers w (rule_of (λ p. given_of w errs view (T p) (Answers w (recursive_rule_of w errs view s rule_of (d - 1) p) s)) q) s i r) (take_any Takes one all) h)
+      (subst (λ T. Answers w (rule_of (λ p. given_of w errs view (T p) (Answers w (recursive_rule_of w errs view s rule_of (d - 1) p) s)) q) s i r)
+      (take_any Takes one all) h)
 
 module _ {I A O E : Type 0} (w : Model I A) (errs : Errors I E) (s : Bool) (i : I) where
   pub deep_fails : (r : IResult I O E) (e : E) → errs.of_kind i Kind.TooLarge e → r ≡ Err (Failure e) → Answers w (too_deep_of errs) s i r

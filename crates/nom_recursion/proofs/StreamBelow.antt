@@ -32,7 +32,8 @@ module _ {I A O E : Type 0} (w : Model I A) (view : View O) where
 
   module _ (errs : Errors I E) where
     -- what stands in the place of a rule that would be too deep is taken as a failure
-    told_deep : (i : I) (r : IResult I O E) (o : Outcome view.Value) → Parses w (record { meaning = failing_meaning errs Kind.TooLarge; IsOutput = λ v x. x ≡ v }) true i r →
+    told_deep : (i : I) (r : IResult I O E) (o : Outcome view.Value) →
+        Parses w (record { meaning = failing_meaning errs Kind.TooLarge; IsOutput = λ v x. x ≡ v }) true i r →
         TakenAs w view i r o → o ≡ Stop (Fails Outright)
     told_deep i r o (ParseRanOut e h) t = absurd (subst (λ x. TakenAs w view i x o) e t)
     told_deep i r o (Parsed (Accept n v) a p) t = cc (a)
@@ -75,5 +76,6 @@ module _ {I A O E : Type 0} (w : Model I A) (view : View O) where
           ((p : R) (i : I) → IsProp (Takes p i)) → ((p : R) (i : I) → Takes p i) → StreamsAs w view (stream_rule_of w errs view rule_of d q) i r
       stream_below d Takes q i r n h one all =
           subst (λ k. StreamsAs w view k i r) (sym (below d q n))
-          (subst (λ T. StreamsAs w view (rule_of (λ p. stream_given_of w errs view (T p) (StreamsAs w view (stream_rule_of w errs view rule_of (d - 1) p))) q) i r)
+          (subst (λ T. StreamsAs w view (rule_of (λ p. stream_given_of w errs view (T p) (StreamsAs w view (stream_rule_of w errs view rule_of (d - 1) p)))
+          q) i r)
           (take_any Takes one all) h)

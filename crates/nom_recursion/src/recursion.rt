@@ -106,7 +106,8 @@ pub fn recursive_rule<S: IsStreaming, I: CutRest, G: Rules<I>>(
     }
     let below = depth - 1;
     let inside = |rule: G::Rule, input: I|
-        ensures { Answers I.model (recursive_rule_of I.model G.Error.errors G.Output.view S.STREAMING (G.rule_of grammar.entry.now) below rule) S.STREAMING input result }
+        ensures { Answers I.model (recursive_rule_of I.model G.Error.errors G.Output.view S.STREAMING (G.rule_of grammar.entry.now) below rule)
+            S.STREAMING input result }
     { recursive_rule::<S, I, G>(grammar, rule, below, input) };
     let inner = FuncIn {
         alloc: rule,

@@ -1,8 +1,10 @@
-use Rattle.std.proofs.Common.{refl}
 use Rattle.nom_ascii.specs.Sets.{digits}
 use Rattle.nom_ascii.proofs.Bits.{digits_have}
 use Rattle.nom_ascii.proofs.AsciiSet.digit.Goals as goal
 
-pub returns : goal.returns
+pub returns-clause-set : goal.returns-clause-set
 unfolding digits
-returns c = record { set = refl; has = digits_have }
+returns-clause-set c = cc (c.span.ensures.set)
+
+pub returns-clause-has : goal.returns-clause-has
+returns-clause-has c = digits_have _ (returns-clause-set c)

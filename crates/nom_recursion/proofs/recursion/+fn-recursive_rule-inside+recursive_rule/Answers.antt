@@ -8,4 +8,6 @@ pub returns-then-depth-eq0 : goal.returns-then-depth-eq0
 returns-then-depth-eq0 g t c = rule_deepest _ _ _ _ _ _ _ _ _ c.if-depth-eq0.true c.too_deep.ensures
 
 pub returns : goal.returns
-returns g t c = rule_below _ _ _ _ _ c.args.depth _ c.args.rule c.args.input c.rule.result c.if-depth-eq0.false c.rule.ensures (λ p i. hlevel (le_prop, Mem-prop)) (λ p i. (search rules, (λ a m. m, (λ a m. m, (λ a m. m, (λ a m. m, (λ a m. m, (λ a m. m, λ a m. m))))))))
+returns g t c = rule_below _ _ _ _ _ c.args.depth _ c.args.rule c.args.input c.rule.result c.if-depth-eq0.false c.rule.ensures
+    (λ p i. hlevel (le_prop, Mem-prop))
+    (λ p i. (search rules, (λ a m. m, (λ a m. m, (λ a m. m, (λ a m. m, (λ a m. m, (λ a m. m, λ a m. m))))))))

@@ -11,4 +11,6 @@ pub rule-requires-clause-sound : goal.rule-requires-clause-sound
 rule-requires-clause-sound g t c = λ r. streams_soundly _ _ (λ i q h. h)
 
 pub returns : goal.returns
-returns g t c = stream_below _ _ _ _ c.args.depth _ c.args.rule c.args.input c.rule.result c.if-depth-eq0.false c.rule.ensures (λ p i. hlevel (le_prop, Mem-prop)) (λ p i. (search rules, (λ a m. m, (λ a m. m, (λ a m. m, (λ a m. m, (λ a m. m, λ a m. m)))))))
+returns g t c = stream_below _ _ _ _ c.args.depth _ c.args.rule c.args.input c.rule.result c.if-depth-eq0.false c.rule.ensures
+    (λ p i. hlevel (le_prop, Mem-prop))
+    (λ p i. (search rules, (λ a m. m, (λ a m. m, (λ a m. m, (λ a m. m, (λ a m. m, λ a m. m)))))))
