@@ -5,4 +5,3 @@ pub mod NamedValues
 pub mod Numbers
 pub mod Parts
 pub mod Sequences
-pub mod WrittenSections

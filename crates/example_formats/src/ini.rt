@@ -1,6 +1,6 @@
 //! Sections of settings, as INI files have them.
 ghost use Rattle.std.specs.Prelude.{◌≡◌, false};
-ghost use Rattle.nom.specs.grammars.Texts.{Parses};
+ghost use Rattle.nom.specs.Texts.{Parses};
 ghost use Rattle.example_formats.specs.Named.{in_value};
 ghost use Rattle.example_formats.specs.Sections.{sections_of};
 
@@ -10,7 +10,7 @@ use nom::combinator::{map, opt};
 use nom::error::Error;
 use nom::multi::many0;
 use nom::sequence::{delimited, pair, separated_pair, terminated};
-use nom::{IResult, Parser};
+use nom::{Complete, IResult, parse_in};
 use std::alloc::Global;
 
 /// A section: its name, and its settings in their order, each a name and a value. All are slices of the input.
@@ -57,5 +57,5 @@ pub fn sections<'a>(
     let line = separated_pair(is_not("[=\r\n"), char('='), take_while(is_value));
     let setting = terminated(line, pair(opt(char('\r')), char('\n')));
     let section = map(pair(header, many0(alloc, setting)), section_of);
-    many0(alloc, section).parse_complete(input)
+    parse_in::<Complete, _, _>(many0(alloc, section), input)
 }

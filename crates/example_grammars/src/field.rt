@@ -23,7 +23,7 @@ use nom::error::Error;
 use nom::multi::{length_data, many_till, many0, separated_list0, separated_list1};
 use nom::number::{be_u8, be_u16, be_u32};
 use nom::sequence::{delimited, pair, preceded, separated_pair, terminated};
-use nom::{IResult, Parser};
+use nom::{Complete, IResult, Parser, Streaming, parse_in};
 use std::alloc::Global;
 
 /// An IPv4 address, as `192.168.0.1`.
@@ -74,7 +74,7 @@ pub fn date_time(input: &str) -> IResult<&str, ((u32, u8, u8), (u8, u8, u8))>
         terminated(u8(), char(':')),
         u8(),
     );
-    separated_pair(date, char('T'), time).parse_complete(input)
+    parse_in::<Complete, _, _>(separated_pair(date, char('T'), time), input)
 }
 
 /// The zone of a time: `Z`, or an offset as `+02:00`.
@@ -105,7 +105,8 @@ pub fn uri(
     let authority = opt(preceded(tag("//"), is_not("/?#")));
     let query = opt(preceded(char('?'), is_not("#")));
     let fragment = opt(preceded(char('#'), is_not(" ")));
-    (scheme, authority, opt(is_not("?#")), query, fragment).parse_complete(input)
+    let uri = (scheme, authority, opt(is_not("?#")), query, fragment);
+    parse_in::<Complete, _, _>(uri, input)
 }
 
 /// The request line of HTTP/1.1: method, target, and the two numbers of the version. More input may come.
@@ -140,7 +141,8 @@ pub fn chunk_line(input: &[u8]) -> IResult<&[u8], (&[u8], Option<&[u8]>)>
         (Bytes.opt_of (Bytes.preceded_of (Bytes.char_of 59) (Bytes.is_not_of (codes "\r\n"))))) Bytes.crlf_of) true input.entry result }
 {
     let extension = preceded(char(';'), is_not("\r\n"));
-    terminated(pair(hex_digit1(), opt(extension)), crlf()).parse(input)
+    let line = terminated(pair(hex_digit1(), opt(extension)), crlf());
+    parse_in::<Streaming, _, _>(line, input)
 }
 
 /// Whether another byte of a length follows.
@@ -193,7 +195,8 @@ pub fn csv_record(alloc: Global, input: &str) -> IResult<&str, Vec<&str>>
 {
     let quoted = delimited(char('"'), is_not("\""), char('"'));
     let field = alt((quoted, is_not(",\"\r\n")));
-    terminated(separated_list0(alloc, char(','), field), line_ending()).parse_complete(input)
+    let record = terminated(separated_list0(alloc, char(','), field), line_ending());
+    parse_in::<Complete, _, _>(record, input)
 }
 
 /// A section of an INI file: its name, and its settings.

@@ -14,6 +14,7 @@ pub mod lengths;
 pub mod own;
 mod promises;
 pub mod sections;
+pub mod standards;
 pub mod steps;
 pub mod words;
 

@@ -11,7 +11,7 @@ use nom::character::{char, one_of};
 use nom::combinator::{all_consuming, map, map_opt};
 use nom::error::Error;
 use nom::sequence::{pair, preceded};
-use nom::{Items, Parser};
+use nom::{Complete, Items, Parser, parse_in};
 use std::alloc::Allocator;
 use std::borrow::CowStr;
 
@@ -80,7 +80,7 @@ fn unescaped<'a, A: Allocator + Copy>(alloc: A, written: &'a str) -> Answer<'a, 
     let joined = map_opt(pair(take_while_m_n(4, 4, is_hex), low), joined);
     let escape = alt((letter, preceded(char('u'), alt((alone, joined)))));
     let text = escaped_transform(alloc, take_while1(is_plain), '\\', escape);
-    all_consuming(text).parse_complete(written)
+    parse_in::<Complete, _, _>(all_consuming(text), written)
 }
 
 /// What a string means, as it is written between its quotes:

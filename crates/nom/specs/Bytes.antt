@@ -1,4 +1,4 @@
--- Grammars over slices of bytes, with `Error`: the words of `Words`, by `docs/words`.
+-- Grammars over slices of bytes, with `Error`: the words of `Words`, by `tools/words`.
 use Rattle.std.specs.Prelude.{◌≡◌, ◌-◌, ◌<◌, ℕ, Bool, List, Option, Some, None, Result, length, Contains, chars, ◌^◌, ℤ, pos, true, false, Vec, FitsSigned}
 use Rattle.std.specs.Borrow.{Bor}
 use Rattle.nom_ascii.specs.Sets.{Held}

@@ -1,7 +1,7 @@
 -- The words of grammars, for the contracts of functions that parse. Each is named as its call, and is the grammar that its implementation is
 -- proved to parse, over any input and with any error type. Those are what the kit names: `bytes`, `texts_with (kinds Syntax)`. A contract
 -- `Parses kit word streaming input result` needs no proof of its own. What a word means is said by its law, as `many0_worded`.
--- `docs/words` writes `Bytes` and `Texts` from this list: the same at `&[u8]` and `&str`, with `Error`.
+-- `tools/words` writes `Bytes` and `Texts` from this list: the same at `&[u8]` and `&str`, with `Error`.
 use Rattle.std.specs.Prelude.{◌≡◌, ◌-◌, ◌^◌, ℕ, ℤ, pos, Bool, true, false, List, Option, Some, None, Result, Vec, FitsSigned, length, Contains, chars}
 use Rattle.std.specs.Borrow.{Bor}
 use Rattle.std.specs.Int.{FitsUnsignedBits, w8, w16, w32, w64, w128}

@@ -16,7 +16,6 @@ pub use nom_character::{
     predicate, satisfy, space0, space1, tab,
 };
 pub use nom_character_integer::{
-    Digits, Integer, digits_u8, digits_u8_m_n, digits_u16, digits_u16_m_n, digits_u32,
-    digits_u32_m_n, digits_u64, digits_u64_m_n, i8, i16, i32, i64, i128, isize, u8, u16, u32, u64,
-    u128, usize,
+    Digits, Integer, digits, digits_m_n, i8, i16, i32, i64, i128, isize, u8, u16, u32, u64, u128,
+    usize,
 };

@@ -42,6 +42,7 @@ pub use nom_internal::map::Map;
 pub use nom_internal::parser::{Parser, StreamParser};
 pub use nom_internal::sequence::And;
 pub use nom_located::{Line, Located, line_of};
+pub use nom_recursion::recursion::parse_in;
 pub use nom_search::bytes::{AsBytes, ByteItems};
 pub use nom_search::collection::{Collection, ViewedCollection};
 pub use nom_search::extend::{Builder, ExtendInto};

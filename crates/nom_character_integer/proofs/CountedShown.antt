@@ -2,8 +2,8 @@
 use Rattle.std.proofs.Common.{◌≡◌, ℕ, ◌-◌, ◌<◌, ◌≤◌, max, Bool, true, false, Option, Some, Ok, length, refl, sym, ◌∙◌, ap, subst, arith}
 use Rattle.nom_internal.specs.Prelude.{Modes, Built, Errors, Model, IsSuffixOf, ShowsMeaning}
 use Rattle.nom_internal.proofs.Shown.{accepted}
-use Rattle.nom_character_integer.specs.declared.digits.Run.{Run}
-use Rattle.nom_character_integer.specs.CountedDigits.{first_digits, number_of, AreEnded, digits_meaning}
+use Rattle.nom_character_integer.specs.declared.bounded.Run.{Run}
+use Rattle.nom_character_integer.specs.CountedDigits.{first_digits, number_of, AreEnded, counted_digits, digits_meaning}
 use Rattle.nom_character_integer.specs.CountedRead.{IsRun}
 
 -- the greatest number, named otherwise
@@ -37,5 +37,6 @@ module _ {I A : Type 0} (w : Model I A) (code : A → ℕ) (base m n greatest : 
   pub digits_shown : {T E : Type 0} (of_number : ℕ → T) (errs : Errors I E) (mode : Modes) (j : I) (x : Option T) → IsSuffixOf w i run.length j →
       (run.ended ≡ false → mode.streaming ≡ false) → m ≤ run.count → Built mode.outputs (λ y. y ≡ of_number run.value) x →
       ShowsMeaning w (λ v y. y ≡ of_number v) (digits_meaning w code base m n greatest errs) mode i (Ok (j, x))
+  unfolding counted_digits
   digits_shown of_number errs mode j x rest h k built =
       accepted run.value rest (subst (λ c. m ≤ c) r.count_is k, ended mode.streaming h, r.length_is, r.value_is, r.fits) built

@@ -27,8 +27,9 @@ module _ {A : Type 0} (code : A → ℕ) (base : ℕ) where
 
 module _ {I A : Type 0} (w : Model I A) (code : A → ℕ) (base m n greatest : ℕ) where
   -- At least m and at most n digits; the tree is their number. Refused is a number above the greatest, whatever follows it, and fewer digits. Where the
-  -- input ends before n digits, more is needed: as many as are missing up to m, and 1 at least.
-  abbrev pub counted_digits : Leaf I ℕ
+  -- input ends before n digits, more is needed: as many as are missing up to m, and 1 at least. It is `unfoldable`, so that a search for a composed
+  -- parser's contract doesn't divide the digits of a written count into cases.
+  unfoldable pub counted_digits : Leaf I ℕ
   counted_digits = record {
     Accepts = λ s i k v. let ds = first_digits code base n (w.elements i) in
         (m ≤ length ds) × (s ≡ true → AreEnded code base n (w.elements i)) × (k ≡ items_len w.item_len ds) × (v ≡ number_of code base ds) × (v ≤ greatest);

@@ -1,7 +1,7 @@
 -- The reading of a number in a bounded count of digits.
 use Rattle.std.specs.Prelude.{◌≡◌, ℕ, ◌<◌, ◌≤◌, true, false, length}
 use Rattle.nom_internal.specs.Prelude.{Model, items_len}
-use Rattle.nom_character_integer.specs.declared.digits.Run.{Run}
+use Rattle.nom_character_integer.specs.declared.bounded.Run.{Run}
 use Rattle.nom_character_integer.specs.CountedDigits.{first_digits, number_of, AreEnded}
 
 module _ {I A : Type 0} (w : Model I A) (code : A → ℕ) (base n greatest : ℕ) where

@@ -1,87 +1,31 @@
 //! Parsers of numbers in a count of digits that always run in complete mode, whatever mode is requested.
 ghost use Rattle.std.specs.Prelude.{◌≡◌};
 
-use crate::digits::Digits;
+use crate::bounded::{Digits, Unsigned};
 use nom_error::mode::Complete;
 use nom_internal::fixed::Fixed;
 use nom_internal::one_mode::fixed;
 
-/// Works like `character::digits_u8`, always in complete mode.
+/// Works like `character::digits`, always in complete mode.
 #[inline(always)]
-pub fn digits_u8<I, E>(radix: u32, n: usize) -> Fixed<Digits<u8, I, E>, Complete>
+pub fn digits<T: Unsigned, I, E>(radix: u32, n: usize) -> Fixed<Digits<T, I, E>, Complete>
     ensures radix { result.parser.radix ≡ radix }
     ensures least { result.parser.m ≡ n }
     ensures most { result.parser.n ≡ n }
 {
-    fixed(crate::digits_u8(radix, n))
+    fixed(crate::digits(radix, n))
 }
 
-/// Works like `character::digits_u16`, always in complete mode.
+/// Works like `character::digits_m_n`, always in complete mode.
 #[inline(always)]
-pub fn digits_u16<I, E>(radix: u32, n: usize) -> Fixed<Digits<u16, I, E>, Complete>
-    ensures radix { result.parser.radix ≡ radix }
-    ensures least { result.parser.m ≡ n }
-    ensures most { result.parser.n ≡ n }
-{
-    fixed(crate::digits_u16(radix, n))
-}
-
-/// Works like `character::digits_u32`, always in complete mode.
-#[inline(always)]
-pub fn digits_u32<I, E>(radix: u32, n: usize) -> Fixed<Digits<u32, I, E>, Complete>
-    ensures radix { result.parser.radix ≡ radix }
-    ensures least { result.parser.m ≡ n }
-    ensures most { result.parser.n ≡ n }
-{
-    fixed(crate::digits_u32(radix, n))
-}
-
-/// Works like `character::digits_u64`, always in complete mode.
-#[inline(always)]
-pub fn digits_u64<I, E>(radix: u32, n: usize) -> Fixed<Digits<u64, I, E>, Complete>
-    ensures radix { result.parser.radix ≡ radix }
-    ensures least { result.parser.m ≡ n }
-    ensures most { result.parser.n ≡ n }
-{
-    fixed(crate::digits_u64(radix, n))
-}
-
-/// Works like `character::digits_u8_m_n`, always in complete mode.
-#[inline(always)]
-pub fn digits_u8_m_n<I, E>(radix: u32, m: usize, n: usize) -> Fixed<Digits<u8, I, E>, Complete>
+pub fn digits_m_n<T: Unsigned, I, E>(
+    radix: u32,
+    m: usize,
+    n: usize,
+) -> Fixed<Digits<T, I, E>, Complete>
     ensures radix { result.parser.radix ≡ radix }
     ensures least { result.parser.m ≡ m }
     ensures most { result.parser.n ≡ n }
 {
-    fixed(crate::digits_u8_m_n(radix, m, n))
-}
-
-/// Works like `character::digits_u16_m_n`, always in complete mode.
-#[inline(always)]
-pub fn digits_u16_m_n<I, E>(radix: u32, m: usize, n: usize) -> Fixed<Digits<u16, I, E>, Complete>
-    ensures radix { result.parser.radix ≡ radix }
-    ensures least { result.parser.m ≡ m }
-    ensures most { result.parser.n ≡ n }
-{
-    fixed(crate::digits_u16_m_n(radix, m, n))
-}
-
-/// Works like `character::digits_u32_m_n`, always in complete mode.
-#[inline(always)]
-pub fn digits_u32_m_n<I, E>(radix: u32, m: usize, n: usize) -> Fixed<Digits<u32, I, E>, Complete>
-    ensures radix { result.parser.radix ≡ radix }
-    ensures least { result.parser.m ≡ m }
-    ensures most { result.parser.n ≡ n }
-{
-    fixed(crate::digits_u32_m_n(radix, m, n))
-}
-
-/// Works like `character::digits_u64_m_n`, always in complete mode.
-#[inline(always)]
-pub fn digits_u64_m_n<I, E>(radix: u32, m: usize, n: usize) -> Fixed<Digits<u64, I, E>, Complete>
-    ensures radix { result.parser.radix ≡ radix }
-    ensures least { result.parser.m ≡ m }
-    ensures most { result.parser.n ≡ n }
-{
-    fixed(crate::digits_u64_m_n(radix, m, n))
+    fixed(crate::digits_m_n(radix, m, n))
 }

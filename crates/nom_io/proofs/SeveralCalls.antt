@@ -3,7 +3,7 @@ use Rattle.std.proofs.Common.{ap, ◌∙◌}
 use Rattle.std_io.specs.declared.io.error.Error.{Error}
 use Rattle.nom_io.specs.Account.{one_more}
 use Rattle.nom_io.specs.Faults.{NoFault, OneFault}
-use Rattle.nom_io.specs.declared.faults.Faults.{Faults}
+use Rattle.nom_io.specs.declared.counted.Faults.{Faults}
 
 module _ (a b c : Faults) where
   pub none_then : NoFault a b → NoFault b c → NoFault a c

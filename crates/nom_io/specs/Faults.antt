@@ -4,7 +4,7 @@ use Rattle.std.specs.IoError.{error_kind}
 use Rattle.std_io.specs.declared.io.error.Error.{Error}
 use Rattle.std_io.specs.declared.io.kind.ErrorKind.TheVariants.{Interrupted, WriteZero}
 use Rattle.nom_io.specs.Account.{one_more}
-use Rattle.nom_io.specs.declared.faults.Faults.{Faults}
+use Rattle.nom_io.specs.declared.counted.Faults.{Faults}
 
 -- no call failed or was interrupted
 abbrev pub HasNone : Faults → Type 0

@@ -2,5 +2,5 @@
 #![tactic(auto)]
 
 pub mod counted;
-pub mod faults;
+pub mod retried;
 pub mod stream;

@@ -46,11 +46,11 @@ pub record IsNew {R A : Type 0} (reader : R) (settings : Settings) (s : Stream R
 -- a reader of which no call was made
 pub record IsFresh {R : Type 0} (reader : R) (s : Counted R) : Type 0 where
   pub inner : s.inner ≡ reader
-  pub none : (s.calls ≡ 0) × (s.failed ≡ 0) × (s.stalled ≡ 0)
+  pub none : (s.calls ≡ 0) × (s.faults.count ≡ 0) × (s.stalled ≡ 0)
 
 -- the account of a reader, by what it has left
 abbrev pub account_of : {R : Type 0} → (left : R → Option (List ℕ)) → Counted R → Account
-account_of left s = record { bytes = left s.inner; calls = s.calls; failures = s.failed; stalls = s.stalled }
+account_of left s = record { bytes = left s.inner; calls = s.calls; failures = s.faults.count; stalls = s.stalled }
 
 -- By what a reader has left, and the account of the sink: what is written, and the status.
 module _ {R W : Type 0} (left : R → Option (List ℕ)) (account : W → Account) (reader : R) (a b : W) (status : ℕ) where

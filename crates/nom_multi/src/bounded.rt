@@ -8,7 +8,7 @@ use nom_error::kind::ErrorKind;
 use nom_error::mode::OutputMode;
 use nom_error::value::ParseError;
 use nom_internal::parser::{Parser, StreamParser};
-use nom_repeat::ahead::{accept_first, list_ahead};
+use nom_repeat::ahead::list_ahead;
 use nom_repeat::bounds::bounded_items;
 use nom_repeat::exact::items_exactly;
 use nom_repeat::inverted::failure;
@@ -44,12 +44,9 @@ impl<I: Items, A: Allocator + Copy, F: Parser<I> + Drop> Parser<I> for Count<A, 
 
     #[inline]
     fn process<OM: OutputMode>(&mut self, input: I) -> PResult<I, Self::Output, Self::Error> {
-        match list_ahead::<OM::Output, I, F, A>(&self.parser, input, self.alloc, self.count) {
+        match list_ahead::<OM, I, F, A>(&mut self.parser, input, self.alloc, self.count) {
             Ok(none) => items_exactly::<OM, I, F, A>(&mut self.parser, input, none, self.count),
-            Err(_) => {
-                accept_first::<OM, I, F>(&mut self.parser, input);
-                Err(Err::OutOfMemory)
-            }
+            Err(_) => Err(Err::OutOfMemory),
         }
     }
 
@@ -100,7 +97,7 @@ impl<I: Input, A: Allocator + Copy, F: Parser<I> + Drop> Parser<I> for ManyMN<A,
         if self.max < self.min {
             return Err(failure(input, ErrorKind::ManyMN));
         }
-        match list_ahead::<OM::Output, I, F, A>(&self.parser, input, self.alloc, self.max) {
+        match list_ahead::<OM, I, F, A>(&mut self.parser, input, self.alloc, self.max) {
             Ok(none) => bounded_items::<OM, I, F, Vec<F::Output, A>>(
                 &mut self.parser,
                 input,
@@ -109,10 +106,7 @@ impl<I: Input, A: Allocator + Copy, F: Parser<I> + Drop> Parser<I> for ManyMN<A,
                 self.min,
                 self.max,
             ),
-            Err(_) => {
-                accept_first::<OM, I, F>(&mut self.parser, input);
-                Err(Err::OutOfMemory)
-            }
+            Err(_) => Err(Err::OutOfMemory),
         }
     }
 

@@ -7,7 +7,7 @@ use nom_error::answer::{Err, PResult};
 use nom_error::mode::{Emit, OutputM, OutputMode};
 use nom_error::value::ParseError;
 use nom_internal::parser::{Parser, StreamParser};
-use nom_repeat::ahead::{accept_first, list_ahead};
+use nom_repeat::ahead::list_ahead;
 use nom_repeat::exact::items_exactly;
 use nom_traits::convert::ToUsize;
 use nom_traits::input::Items;
@@ -54,12 +54,9 @@ impl<
             Some(length) => length.to_usize(),
             None => unreachable!(),
         };
-        match list_ahead::<OM::Output, I, G, A>(&self.parser, rest, self.alloc, count) {
+        match list_ahead::<OM, I, G, A>(&mut self.parser, rest, self.alloc, count) {
             Ok(none) => items_exactly::<OM, I, G, A>(&mut self.parser, rest, none, count),
-            Err(_) => {
-                accept_first::<OM, I, G>(&mut self.parser, rest);
-                Err(Err::OutOfMemory)
-            }
+            Err(_) => Err(Err::OutOfMemory),
         }
     }
 

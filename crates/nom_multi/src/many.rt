@@ -8,7 +8,7 @@ use nom_error::kind::ErrorKind;
 use nom_error::mode::OutputMode;
 use nom_error::value::ParseError;
 use nom_internal::parser::{Parser, StreamParser};
-use nom_repeat::ahead::{accept_first, list_ahead};
+use nom_repeat::ahead::list_ahead;
 use nom_repeat::bounds::{any_items, one_item};
 use nom_repeat::items::TooFew;
 use nom_traits::input::{Input, Items};
@@ -42,17 +42,14 @@ impl<I: Input, A: Allocator + Copy, F: Parser<I> + Drop> Parser<I> for Many0<A, 
 
     #[inline]
     fn process<OM: OutputMode>(&mut self, input: I) -> PResult<I, Self::Output, Self::Error> {
-        match list_ahead::<OM::Output, I, F, A>(&self.parser, input, self.alloc, usize::MAX) {
+        match list_ahead::<OM, I, F, A>(&mut self.parser, input, self.alloc, usize::MAX) {
             Ok(none) => any_items::<OM, I, F, Vec<F::Output, A>>(
                 &mut self.parser,
                 input,
                 none,
                 ErrorKind::Many0,
             ),
-            Err(_) => {
-                accept_first::<OM, I, F>(&mut self.parser, input);
-                Err(Err::OutOfMemory)
-            }
+            Err(_) => Err(Err::OutOfMemory),
         }
     }
 
@@ -98,17 +95,14 @@ impl<I: Input, A: Allocator + Copy, F: Parser<I> + Drop> Parser<I> for Many1<A, 
 
     #[inline]
     fn process<OM: OutputMode>(&mut self, input: I) -> PResult<I, Self::Output, Self::Error> {
-        let none = match list_ahead::<OM::Output, I, F, A>(
-            &self.parser,
+        let none = match list_ahead::<OM, I, F, A>(
+            &mut self.parser,
             input,
             self.alloc,
             usize::MAX,
         ) {
             Ok(none) => none,
-            Err(_) => {
-                accept_first::<OM, I, F>(&mut self.parser, input);
-                return Err(Err::OutOfMemory);
-            }
+            Err(_) => return Err(Err::OutOfMemory),
         };
         let (rest, first) = one_item::<OM, OM::Error, I, F, Vec<F::Output, A>>(
             &mut self.parser,

@@ -49,34 +49,40 @@ pub fn certain_count<I: Items, F: Parser<I>>(parser: &F, input: I, most: usize) 
 /// Returns an empty list if outputs are built, with room for the items of which the input is certain, at most
 /// `most`.
 ///
-/// If memory for this room is refused, `accept_first` is to be called, and the answer is `OutOfMemory`.
-#[inline(always)]
-pub fn list_ahead<M: Mode, I: Items, F: Parser<I>, A: Allocator>(
-    parser: &F,
+/// If memory for this room is refused, the first of these items is accepted and not kept: memory runs out only where an
+/// item was accepted. The answer is then `OutOfMemory`.
+///
+/// It is compiled apart, so that nothing is left of it if the parser has no width, and then goes in.
+// A call of the parser that was left would be one caller more of a function of the user's, which then isn't inlined.
+#[inline]
+pub fn list_ahead<OM: OutputMode, I: Items, F: Parser<I>, A: Allocator>(
+    parser: &mut F,
     input: I,
     alloc: A,
     most: usize,
 ) -> Result<Option<Vec<F::Output, A>>, OutOfMemory>
-    ensures empty { IfOk result (λ made. Built M.BUILDS (λ list. list.items ≡ []) made) }
-    ensures ready { IfOk result (λ made. Built M.BUILDS (λ _. Unit {0}) made) }
-    ensures built { OnErr result (M.BUILDS ≡ true) }
+    requires runs { (F.grammar (F.state parser.old)).meaning.Runs }
+    ensures empty { IfOk result (λ made. Built OM.Output.BUILDS (λ list. list.items ≡ []) made) }
+    ensures ready { IfOk result (λ made. Built OM.Output.BUILDS (λ _. Unit {0}) made) }
     ensures some { OnErr result (0 < most) }
-    ensures certain { OnErr result (IsCertain I.model (F.grammar (F.state parser.now)).meaning input) }
+    ensures lacks { OnErr result ((b : Limits) → IsBelow b.most 0 →
+        (items_meaning I.model F.Error.errors b (Unit {0}) (F.grammar (F.state parser.old)).meaning).may_run_out
+        (modes OM.Output.BUILDS OM.Error.BUILDS OM.Incomplete.STREAMING) input) }
+    ensures kept { F.state parser.new ≡ F.state parser.old }
 {
     let certain = certain_count(parser, input, most);
-    match with_room::<M, F::Output, A>(alloc, certain) {
+    match with_room::<OM::Output, F::Output, A>(alloc, certain) {
         Ok(made) => Ok(made),
-        Err(error) => Err(error),
+        Err(error) => {
+            accept_first::<OM, I, F>(parser, input);
+            Err(error)
+        }
     }
 }
 
 /// Accepts the first of the items of which the input is certain. There is no memory to keep it.
-///
-/// So memory runs out only where an item was accepted.
-// Apart and cold. It runs at the end of a parse alone.
-#[cold]
-#[inline(never)]
-pub fn accept_first<OM: OutputMode, I: Items, F: Parser<I>>(parser: &mut F, input: I)
+#[inline(always)]
+fn accept_first<OM: OutputMode, I: Items, F: Parser<I>>(parser: &mut F, input: I)
     requires runs { (F.grammar (F.state parser.old)).meaning.Runs }
     requires built { OM.Output.BUILDS ≡ true }
     requires certain { IsCertain I.model (F.grammar (F.state parser.old)).meaning input }

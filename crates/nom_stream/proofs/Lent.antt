@@ -1,14 +1,13 @@
 -- The bytes of an item are those of the whole.
-use Rattle.std.proofs.Common.{arith, ◌≡◌, ℕ, ◌≤◌, Bool, true, false, List, ◌++◌, length, take, Option, Some, Ok, sym, ◌∙◌, ap, subst, length-append}
+use Rattle.std.proofs.Common.{arith, ◌≡◌, ℕ, zero, suc, ◌≤◌, Bool, true, false, List, ◌++◌, length, take, Option, Some, Ok, Err, refl, sym, ◌∙◌, ap, subst, length-append}
 use Rattle.std.proofs.lemmas.List.{take-append-le}
 use Rattle.nom_internal.specs.Prelude.{Needed, Grammar}
+use Rattle.nom_error.specs.declared.answer.Err.TheVariants as Stops
 use Rattle.nom_error.specs.declared.value.Error.{Error}
 use Rattle.nom_stream.specs.declared.held.Held.{Held}
-use Rattle.nom_stream.specs.declared.step.Taken.{Taken}
-use Rattle.nom_stream.specs.declared.step.Taken.TheVariants as Took
 use Rattle.nom_stream.specs.declared.stream.Stream.{Stream}
 use Rattle.nom_stream.specs.Held.{held_of, last_of}
-use Rattle.nom_stream.specs.Items.{Bytes, HoldsLast, Takes}
+use Rattle.nom_stream.specs.Items.{Bytes, HoldsLast, Taken, Takes}
 use Rattle.nom_stream.specs.Streams.{Answers, Ends, IsItemResult}
 use Rattle.nom_stream.specs.Streams.Answers.{Decided, AtEnd, Full, Faulted, Lacking}
 use Rattle.nom_stream.specs.Streams.Ends.{Clean, Within, Completed}
@@ -21,23 +20,24 @@ module _ {A V O : Type 0} (grammar : Grammar Bytes V O (Error Bytes)) (h : Held 
   AreFirst old = last_of n h ≡ take n (old ++ after)
 
   -- an item has no more bytes than were held
-  fits : (more : Bool) (old : List ℕ) (k : ℕ) (p : O) → Takes grammar more old (held_of h) (Took.Item k p) → k ≤ length old
+  fits : (more : Bool) (old : List ℕ) (k : ℕ) (p : O) → Takes grammar more old (held_of h) (Ok (k, p)) → k ≤ length old
   fits more old k p t =
-      let means = meant grammar more old (held_of h) (Took.Item k p) t in
+      let means = meant grammar more old (held_of h) (Ok (k, p)) t in
       let front = (means.3).0 in
       omega (arith, (means.3).1, ap length t.is_held, ap length (means.3).2, length-append front (held_of h))
 
   of_taken : (more : Bool) (old : List ℕ) (taken : Taken O) → Takes grammar more old (held_of h) taken → HoldsLast old h taken →
       IsItemResult taken (Ok (Some (n, o))) → AreFirst old
-  of_taken more old (Took.Item k p) t l e =
-      let both : ◌≡◌ {A = ℕ × O} (n, o) (k, p) = cc (e) in
-      let same : n ≡ k = ap (λ (z : ℕ × O). z.0) both in
-      subst (λ z. last_of z h ≡ take z (old ++ after)) (sym same) (l.1 ∙ sym (take-append-le k old after (fits more old k p t)))
-  of_taken more old Took.Nothing t l e = absurd (cc (e))
-  of_taken more old (Took.Undecided k) t l e = absurd (cc (e))
-  of_taken more old (Took.Refused k at) t l e = absurd (cc (e))
-  of_taken more old (Took.Failed k at) t l e = absurd (cc (e))
-  of_taken more old Took.OutOfMemory t l e = absurd (cc (e))
+  of_taken more old (Ok (zero, p)) t l e = let f = e.0 refl in absurd (cc (f))
+  of_taken more old (Ok (suc k, p)) t l e =
+      let f = e.1 (omega arith) in
+      let both : ◌≡◌ {A = ℕ × O} (n, o) (suc k, p) = cc (f) in
+      let same : n ≡ suc k = ap (λ (z : ℕ × O). z.0) both in
+      subst (λ z. last_of z h ≡ take z (old ++ after)) (sym same) (l.1 ∙ sym (take-append-le (suc k) old after (fits more old (suc k) p t)))
+  of_taken more old (Err (Stops.Incomplete k)) t l e = absurd (cc (e))
+  of_taken more old (Err (Stops.Error k)) t l e = absurd (cc (e))
+  of_taken more old (Err (Stops.Failure k)) t l e = absurd (cc (e))
+  of_taken more old (Err Stops.OutOfMemory) t l e = absurd (cc (e))
 
 module _ {R A V O : Type 0} (grammar : Grammar Bytes V O (Error Bytes)) (u t : Stream R A) (n : ℕ) (o : O) (after : List ℕ) where
   abbrev Lends : Type 0

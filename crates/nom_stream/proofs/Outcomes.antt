@@ -4,9 +4,7 @@ use Rattle.nom_internal.specs.Prelude.{size_of, Needed, bytes_model, IsSuffixOf,
 use Rattle.nom_internal.specs.Prelude.{ParsesOutcome, ParseRanOut, Parsed, Cause}
 use Rattle.nom_error.specs.declared.answer.Err.TheVariants as Stopped
 use Rattle.nom_error.specs.declared.value.Error.{Error}
-use Rattle.nom_stream.specs.declared.step.Taken.{Taken}
-use Rattle.nom_stream.specs.declared.step.Taken.TheVariants as Took
-use Rattle.nom_stream.specs.Items.{Bytes, Answered, Takes, taken_of}
+use Rattle.nom_stream.specs.Items.{Bytes, Answered, Taken, Takes}
 use Rattle.nom_stream.specs.Items as Items
 
 pub nil_of : (xs : List ℕ) → length xs ≡ 0 → xs ≡ []
@@ -79,27 +77,21 @@ module _ {V O : Type 0} (grammar : Grammar Bytes V O (Error Bytes)) (more : Bool
 
   -- the outcome for what was taken, and what is held then
   abbrev pub Means : List ℕ → Taken O → Type 0
-  Means new (Took.Item n o) = (v : V) × grammar.IsOutput v o × grammar.meaning.answers more x (Accept n v) × ((front : List ℕ) × (length front ≡ n) ×
+  Means new (Ok (n, o)) = (v : V) × grammar.IsOutput v o × grammar.meaning.answers more x (Accept n v) × ((front : List ℕ) × (length front ≡ n) ×
       (x.now ≡ front ++ new))
-  Means new Took.Nothing = ((v : V) × grammar.meaning.answers more x (Accept 0 v)) × (new ≡ x.now)
-  Means new (Took.Undecided k) = grammar.meaning.answers more x (Stop (Needs (size_of k))) × (new ≡ x.now)
-  Means new (Took.Refused e at) = grammar.meaning.answers more x Refuse × (new ≡ x.now)
-  Means new (Took.Failed e at) = HasFailed × (new ≡ x.now)
-  Means new Took.OutOfMemory = new ≡ x.now
+  Means new (Err (Stopped.Incomplete k)) = grammar.meaning.answers more x (Stop (Needs (size_of k))) × (new ≡ x.now)
+  Means new (Err (Stopped.Error e)) = grammar.meaning.answers more x Refuse × (new ≡ x.now)
+  Means new (Err (Stopped.Failure e)) = HasFailed × (new ≡ x.now)
+  Means new (Err Stopped.OutOfMemory) = new ≡ x.now
 
   -- the length that was accepted is how many bytes were taken
   same_size : (n size : ℕ) (front rest : List ℕ) → n + length rest ≡ length x.now → x.now ≡ front ++ rest → length front ≡ size → n ≡ size
   same_size n size front rest a e f = omega (arith, a, ap length e, length-append front rest, f)
 
-  accepted : (n : ℕ) (j : Bytes) (o : O) (new : List ℕ) → n + length j.now ≡ length x.now → new ≡ j.now → Accepts j o → Means new (taken_of n o)
-  accepted zero j o new e is a =
+  accepted : (n : ℕ) (j : Bytes) (o : O) (new : List ℕ) → n + length j.now ≡ length x.now → new ≡ j.now → Accepts j o → Means new (Ok (n, o))
+  accepted n j o new e is a =
       let rest = a.rest in
-      let size : zero ≡ a.size = same_size zero a.size rest.front j.now e rest.whole (sym (items_len-ones rest.front) ∙ rest.length_is) in
-      let none : rest.front ≡ [] = nil_of rest.front (omega (arith, size, items_len-ones rest.front, rest.length_is)) in
-      ((a.tree, subst (λ z. grammar.meaning.answers more x (Accept z a.tree)) (sym size) a.accepted), is ∙ sym (rest.whole ∙ ap (λ z. z ++ j.now) none))
-  accepted (suc n) j o new e is a =
-      let rest = a.rest in
-      let size : suc n ≡ a.size = same_size (suc n) a.size rest.front j.now e rest.whole (sym (items_len-ones rest.front) ∙ rest.length_is) in (
+      let size : n ≡ a.size = same_size n a.size rest.front j.now e rest.whole (sym (items_len-ones rest.front) ∙ rest.length_is) in (
         a.tree,
         a.item,
         subst (λ z. grammar.meaning.answers more x (Accept z a.tree)) (sym size) a.accepted,

@@ -5,16 +5,14 @@ use Rattle.std.proofs.Common.{append-nil, length-append, vec_len, inl, inr}
 use Rattle.std.specs.Coded.{le_prop}
 use Rattle.std_io.specs.declared.io.error.Error as Io
 use Rattle.nom_internal.specs.Prelude.{Needed, Grammar}
+use Rattle.nom_error.specs.declared.answer.Err.TheVariants as Stops
 use Rattle.nom_error.specs.declared.value.Error.{Error}
 use Rattle.nom_stream.specs.declared.held.Held.{Held}
-use Rattle.nom_stream.specs.declared.step.Taken.{Taken}
-use Rattle.nom_stream.specs.declared.step.Taken.TheVariants as Took
-use Rattle.nom_stream.specs.declared.step.Taken.TheVariants.{Undecided}
 use Rattle.nom_stream.specs.declared.stream.Stop.TheVariants as Stopped
 use Rattle.nom_stream.specs.declared.stream.Stream.{Stream}
 use Rattle.nom_stream.specs.declared.stream.Unread.{Unread}
 use Rattle.nom_stream.specs.Held.{held_of}
-use Rattle.nom_stream.specs.Items.{Bytes, HoldsLast, IsUndecided, Stays, Takes}
+use Rattle.nom_stream.specs.Items.{Bytes, HoldsLast, IsUndecided, Stays, Taken, Takes, undecided}
 use Rattle.nom_io.specs.Faults.{NoFault, OneFault}
 use Rattle.nom_io.proofs.SeveralCalls.{fault_kept, fault_then, none_then}
 use Rattle.nom_stream.specs.Streams.{Answers, AreFillings, CountsFaults, Decides, Ends, EndsAsReader}
@@ -72,12 +70,12 @@ still_none s u t a b (inr f) = inr (f.0, ((f.1).0, subst (λ z. OneFault s.sourc
 
 -- an answer that tells no fault
 counts_none : {R A O : Type 0} (s t : Stream R A) (taken : Taken O) (r : ItemResult O) → IsItemResult taken r → TellsNoFault s t → CountsFaults s t r
-counts_none s t (Took.Item n o) r e f = subst (CountsFaults s t) (sym e) f
-counts_none s t Took.Nothing r e f = subst (CountsFaults s t) (sym e) f
-counts_none s t (Took.Undecided k) r e f = subst (CountsFaults s t) (sym e) f
-counts_none s t (Took.Refused k n) r e f = subst (CountsFaults s t) (sym e) f
-counts_none s t (Took.Failed k n) r e f = subst (CountsFaults s t) (sym e) f
-counts_none s t Took.OutOfMemory r e f = subst (CountsFaults s t) (sym e) f
+counts_none s t (Ok (zero, o)) r e f = subst (CountsFaults s t) (sym (e.0 refl)) f
+counts_none s t (Ok (suc n, o)) r e f = subst (CountsFaults s t) (sym (e.1 (omega arith))) f
+counts_none s t (Err (Stops.Incomplete k)) r e f = subst (CountsFaults s t) (sym e) f
+counts_none s t (Err (Stops.Error k)) r e f = subst (CountsFaults s t) (sym e) f
+counts_none s t (Err (Stops.Failure k)) r e f = subst (CountsFaults s t) (sym e) f
+counts_none s t (Err Stops.OutOfMemory) r e f = subst (CountsFaults s t) (sym e) f
 
 more_reasons : {R A : Type 0} (count : ℕ) (t : Stream R A) (P Q : Type 0) → HasEnough count t P → HasEnough count t (P ⊎ Q)
 more_reasons count t P Q (inl a) = inl a
@@ -112,7 +110,7 @@ pub record SoFar {R A V O : Type 0} (left : R → Option (List ℕ)) (grammar : 
 pub record Stands {R A V O : Type 0} (left : R → Option (List ℕ)) (grammar : Grammar Bytes V O (Error Bytes)) (s u : Stream R A) (lacks : Bool) (k : Needed) :
     Type 0 where
   pub so_far : SoFar left grammar s u lacks
-  pub waits : Takes grammar true (held_of u.held) (held_of u.held) (Undecided k)
+  pub waits : Takes grammar true (held_of u.held) (held_of u.held) (undecided k)
 
 module _ {R A V O : Type 0} (left : R → Option (List ℕ)) (grammar : Grammar Bytes V O (Error Bytes)) (s u : Stream R A) (lacks : Bool)
     (i : SoFar left grammar s u lacks) where
@@ -227,7 +225,7 @@ module _ {R A V O : Type 0} {left : R → Option (List ℕ)} {grammar : Grammar 
         as_needed = MoreRead given f.given refl (all_filled left grammar s u lacks i given here goes_on few told has_room i.reads.as_needed)
             (record {
               needed = k;
-              waits = subst (λ z. Takes grammar true z z (Undecided k)) here there.waits;
+              waits = subst (λ z. Takes grammar true z z (undecided k)) here there.waits;
               no_more = omega (arith, below, ap length f.gives.added, length-append (held_of u.held) f.given, wanted, ap most_read i.settings);
             })
             (subst (λ z. HasEnough z t Unreadable) all enough);
@@ -250,7 +248,7 @@ module _ {R A V O : Type 0} {left : R → Option (List ℕ)} {grammar : Grammar 
         let here : held_of u.held ≡ held_of s.held ++ [] = added ∙ ap (λ z. held_of s.held ++ z) e' in
         MoreRead [] [] e' (NoFilling refl) (record {
           needed = k;
-          waits = subst (λ z. Takes grammar true z z (Undecided k)) here there.waits;
+          waits = subst (λ z. Takes grammar true z z (undecided k)) here there.waits;
           no_more = omega arith;
         }) (inr (inr (inr unread)))
     as_before given added (MoreRead earlier last e' all f' enough) = MoreRead earlier last e' all f' (inr (inr (inr unread)))
@@ -276,7 +274,7 @@ module _ {R A V O : Type 0} {left : R → Option (List ℕ)} {grammar : Grammar 
         reads = faulted_reads w e d.fills none;
         faults = one_told s u w e i.faults d.faults;
         at_end = λ _. d.at_end;
-        answers = Faulted e refl (k, subst (λ z. Takes grammar true z z (Undecided k)) (sym none) there.waits) refl;
+        answers = Faulted e refl (k, subst (λ z. Takes grammar true z z (undecided k)) (sym none) there.waits) refl;
         no_read = λ h. absurd (goes_on_from goes_on h);
         source = refl;
         ended = refl;
@@ -324,15 +322,15 @@ ends_by grammar p q e {u} {t} {k} {r} h = subst (λ z. Ends (grammar z) u t k r)
 
 -- where what was taken leaves the item undecided, all is held as it was
 pub stands_there : {R A V O State : Type 0} (left : R → Option (List ℕ)) (grammar : State → Grammar Bytes V O (Error Bytes)) (p q : State) → p ≡ q →
-    (s u : Stream R A) (lacks : Bool) → SoFar left (grammar q) s u lacks → (h : Held A) (taken : Taken O) (k : Needed) → taken ≡ Undecided k →
+    (s u : Stream R A) (lacks : Bool) → SoFar left (grammar q) s u lacks → (h : Held A) (taken : Taken O) (k : Needed) → taken ≡ undecided k →
     Stays u.held h taken → Takes (grammar p) true (held_of u.held) (held_of h) taken → (b : vec_len h.bytes ≤ u.settings.most) →
     Stands left (grammar q) s (record u { held = h; bounded = b }) lacks k
 stands_there left grammar p q same s u lacks i h taken k e stays takes b =
     let held : h ≡ u.held = subst (Stays u.held h) e stays in
-    let now : Takes (grammar p) true (held_of u.held) (held_of h) (Undecided k) = subst (Takes (grammar p) true (held_of u.held) (held_of h)) e takes in
+    let now : Takes (grammar p) true (held_of u.held) (held_of h) (undecided k) = subst (Takes (grammar p) true (held_of u.held) (held_of h)) e takes in
     record {
       so_far = subst (λ z. (b : vec_len z.bytes ≤ u.settings.most) → SoFar left (grammar q) s (record u { held = z; bounded = b }) lacks) (sym held)
           (λ b. subst (λ b. SoFar left (grammar q) s (record u { bounded = b }) lacks) (le_prop u.bounded b) i) b;
-      waits = subst (λ z. Takes (grammar z) true (held_of h) (held_of h) (Undecided k)) same
-          (subst (λ z. Takes (grammar p) true (held_of z) (held_of h) (Undecided k)) (sym held) now);
+      waits = subst (λ z. Takes (grammar z) true (held_of h) (held_of h) (undecided k)) same
+          (subst (λ z. Takes (grammar p) true (held_of z) (held_of h) (undecided k)) (sym held) now);
     }

@@ -1,16 +1,15 @@
 -- One answer is that of the whole.
-use Rattle.std.proofs.Common.{◌≡◌, ℕ, ◌≤◌, Bool, true, false, List, [], ◌++◌, length, Option, Some, None, refl, sym, ◌∙◌, ap, subst}
+use Rattle.std.proofs.Common.{arith, ◌≡◌, ℕ, zero, suc, ◌≤◌, Bool, true, false, List, [], ◌++◌, length, Option, Some, None, Ok, Err, refl, sym, ◌∙◌, ap, subst}
 use Rattle.std.proofs.Common.{append_assoc, append-nil, inl, inr}
 use Rattle.std.specs.Io.KnownBytes.{Consumes, IsAtEnd}
 use Rattle.nom_internal.specs.Prelude.{size_of, Needed, bytes_model, Outcome, Accept, Refuse, Stop, Fails, Needs, Outright, TooLarge, IsDecided, Meaning}
 use Rattle.nom_internal.specs.Prelude.{Grammar}
 use Rattle.nom_internal.specs.Prelude.{IsLawful, IsSteady, Cause}
+use Rattle.nom_error.specs.declared.answer.Err.TheVariants as Stops
 use Rattle.nom_error.specs.declared.value.Error.{Error}
-use Rattle.nom_stream.specs.declared.step.Taken.{Taken}
-use Rattle.nom_stream.specs.declared.step.Taken.TheVariants as Took
 use Rattle.nom_stream.specs.declared.stream.Stream.{Stream}
 use Rattle.nom_stream.specs.Held.{held_of}
-use Rattle.nom_stream.specs.Items.{Bytes, IsUndecided, Takes}
+use Rattle.nom_stream.specs.Items.{Bytes, IsUndecided, Taken, Takes, undecided}
 use Rattle.nom_stream.specs.Streams.{Answers, Decides, Ends, EndsAsReader, Gives, IsItemResult, ItemResult}
 use Rattle.nom_stream.specs.Streams.Answers.{Decided, AtEnd, Full, Faulted, Lacking}
 use Rattle.nom_stream.specs.Streams.Ends.{Clean, Within, Completed}
@@ -88,12 +87,13 @@ module _ {R A V O : Type 0} (grammar : Grammar Bytes V O (Error Bytes)) (t : Str
 
     tells : (held : (more ≡ true → ⊥) → held_of t.held ≡ x.now → held_of t.held ≡ i.now) (taken : Taken O) →
         (more ≡ true → IsUndecided taken → ⊥) → Means grammar more x (held_of t.held) taken → (r : ItemResult O) → IsItemResult taken r → Tellings r
-    tells held (Took.Item n o) d h r e = subst Tellings (sym e) (h.0, h.1, same (Accept n h.0) h.2 (λ _. tt))
-    tells held Took.Nothing d h r e = subst Tellings (sym e) ((h.0).0, same (Accept 0 (h.0).0) (h.0).1 (λ _. tt))
-    tells held (Took.Undecided k) d h r e = subst Tellings (sym e) (held (λ f. d f tt) h.1, same (Stop (Needs (size_of k))) h.0 (λ f. absurd (d f tt)))
-    tells held (Took.Refused k at) d h r e = subst Tellings (sym e) (sym (same Refuse h.0 (λ _. tt)))
-    tells held (Took.Failed k at) d h r e = subst Tellings (sym e) (tells_failure (h.0).0 (h.0).1)
-    tells held Took.OutOfMemory d h r e = subst Tellings (sym e) tt
+    tells held (Ok (zero, o)) d h r e = subst Tellings (sym (e.0 refl)) (h.0, same (Accept 0 h.0) h.2 (λ _. tt))
+    tells held (Ok (suc n, o)) d h r e = subst Tellings (sym (e.1 (omega arith))) (h.0, h.1, same (Accept (suc n) h.0) h.2 (λ _. tt))
+    tells held (Err (Stops.Incomplete k)) d h r e =
+        subst Tellings (sym e) (held (λ f. d f tt) h.1, same (Stop (Needs (size_of k))) h.0 (λ f. absurd (d f tt)))
+    tells held (Err (Stops.Error k)) d h r e = subst Tellings (sym e) (sym (same Refuse h.0 (λ _. tt)))
+    tells held (Err (Stops.Failure k)) d h r e = subst Tellings (sym e) (tells_failure (h.0).0 (h.0).1)
+    tells held (Err Stops.OutOfMemory) d h r e = subst Tellings (sym e) tt
 
 -- how many bytes an item had: they are no longer among those that no item had
 module _ {R A V O : Type 0} (grammar : Grammar Bytes V O (Error Bytes)) (t : Stream R A) where
@@ -105,12 +105,12 @@ module _ {R A V O : Type 0} (grammar : Grammar Bytes V O (Error Bytes)) (t : Str
 
   pub moves : (more : Bool) (x : Bytes) (taken : Taken O) → Means grammar more x (held_of t.held) taken → (r : ItemResult O) → IsItemResult taken r →
       Moves x.now r
-  moves more x (Took.Item n o) h r e = subst (Moves x.now) (sym e) (h.3)
-  moves more x Took.Nothing h r e = stays x.now r (ap used_of e) h.1
-  moves more x (Took.Undecided k) h r e = stays x.now r (ap used_of e) h.1
-  moves more x (Took.Refused k at) h r e = stays x.now r (ap used_of e) h.1
-  moves more x (Took.Failed k at) h r e = stays x.now r (ap used_of e) h.1
-  moves more x Took.OutOfMemory h r e = stays x.now r (ap used_of e) h
+  moves more x (Ok (zero, o)) h r e = let f = h.3 in (f.0, f.1 ∙ sym (ap used_of (e.0 refl)), f.2)
+  moves more x (Ok (suc n, o)) h r e = subst (Moves x.now) (sym (e.1 (omega arith))) (h.3)
+  moves more x (Err (Stops.Incomplete k)) h r e = stays x.now r (ap used_of e) h.1
+  moves more x (Err (Stops.Error k)) h r e = stays x.now r (ap used_of e) h.1
+  moves more x (Err (Stops.Failure k)) h r e = stays x.now r (ap used_of e) h.1
+  moves more x (Err Stops.OutOfMemory) h r e = stays x.now r (ap used_of e) h
 
   moves_taken : (more : Bool) (old : List ℕ) (taken : Taken O) (r : ItemResult O) → Takes grammar more old (held_of t.held) taken → IsItemResult taken r →
       Moves old r
@@ -144,11 +144,11 @@ module _ {R A V O : Type 0} (left : R → Option (List ℕ)) (grammar : Grammar 
       (f refl) b) (λ a. inr (inr (x, has.0, longer, a)))
       (λ f. absurd (f refl)) taken (λ _. d) (meant grammar true (held_of u.held) (held_of t.held) taken g) r e
 
-  of_ends : u.ended ≡ true → (k : Needed) (r : ItemResult O) → Takes grammar true (held_of u.held) (held_of u.held) (Took.Undecided k) →
+  of_ends : u.ended ≡ true → (k : Needed) (r : ItemResult O) → Takes grammar true (held_of u.held) (held_of u.held) (undecided k) →
       Ends grammar u t k r → TellsWhole grammar t r i p
   of_ends ended k r g (Clean a c e) =
       let x = g.input in
-      let h = meant grammar true (held_of u.held) (held_of u.held) (Took.Undecided k) g in
+      let h = meant grammar true (held_of u.held) (held_of u.held) (undecided k) g in
       let all : i.now ≡ x.now = at_end ended ∙ sym g.is_held in
       subst (λ z. TellsWhole grammar t z i p) (sym e) (
         at_end ended ∙ a,
@@ -158,14 +158,14 @@ module _ {R A V O : Type 0} (left : R → Option (List ℕ)) (grammar : Grammar 
       )
   of_ends ended k r g (Within s a c e) =
       let x = g.input in
-      let h = meant grammar true (held_of u.held) (held_of u.held) (Took.Undecided k) g in
+      let h = meant grammar true (held_of u.held) (held_of u.held) (undecided k) g in
       let all : i.now ≡ x.now = at_end ended ∙ sym g.is_held in
       subst (λ z. TellsWhole grammar t z i p) (sym e)
       (c ∙ sym (at_end ended), lacking grammar.meaning (g.parses.lawful sound) x i g.known ki all u.settings.complete a (size_of k) p h.0 b)
   of_ends ended k r g (Completed s a taken q l e) =
       let x = g.input in
       let y = q.input in
-      let h = meant grammar true (held_of u.held) (held_of u.held) (Took.Undecided k) g in
+      let h = meant grammar true (held_of u.held) (held_of u.held) (undecided k) g in
       let all : i.now ≡ x.now = at_end ended ∙ sym g.is_held in
       let all_too : i.now ≡ y.now = at_end ended ∙ sym q.is_held in
       let one : (o : Outcome V) → grammar.meaning.answers false y o → o ≡ p =

@@ -1,13 +1,12 @@
 -- One item from what is held.
-use Rattle.std.specs.Prelude.{◌≡◌, ℕ, zero, suc, ◌+◌, ◌≤◌, Bool, List, length, take, Ok, Err}
+use Rattle.std.specs.Prelude.{◌≡◌, ℕ, ◌+◌, ◌≤◌, Bool, List, length, take, Result, Ok, Err}
 use Rattle.std.specs.Borrow.{Bor}
 use Rattle.nom_internal.specs.Prelude.{IResult, Needed, bytes_model, IsLawful, IsSteady, Grammar, Parses}
 use Rattle.nom_error.specs.declared.answer.Err as Answer
 use Rattle.nom_error.specs.declared.answer.Err.TheVariants as Stopped
+use Rattle.nom_error.specs.declared.kind.ErrorKind.{ErrorKind}
 use Rattle.nom_error.specs.declared.value.Error.{Error}
 use Rattle.nom_stream.specs.declared.held.Held.{Held}
-use Rattle.nom_stream.specs.declared.step.Taken.{Taken}
-use Rattle.nom_stream.specs.declared.step.Taken.TheVariants.{Item, Nothing, Undecided, Refused, Failed, OutOfMemory}
 use Rattle.nom_stream.specs.Held.{last_of}
 
 abbrev pub Bytes : Type 0
@@ -24,22 +23,27 @@ pub record ParsesItem {V O : Type 0} (grammar : Grammar Bytes V O (Error Bytes))
   pub lawful : grammar.meaning.IsSound → IsLawful bytes_model grammar.meaning
   pub steady : grammar.meaning.IsSound → IsSteady bytes_model grammar.meaning
 
--- what is told where nothing is accepted: of an error its kind, and the length of the input that it holds
-abbrev pub IsStopped : {O : Type 0} → Answer.Err (Error Bytes) (Error Bytes) Needed → Taken O → Type 0
-IsStopped (Stopped.Incomplete k) r = r ≡ Undecided k
-IsStopped (Stopped.Error e) r = r ≡ Refused e.code (length e.input.now)
-IsStopped (Stopped.Failure e) r = r ≡ Failed e.code (length e.input.now)
-IsStopped Stopped.OutOfMemory r = r ≡ OutOfMemory
+-- why nothing is accepted: of an error its kind, and the length of the input that it holds
+abbrev pub Stops : Type 0
+Stops = Answer.Err (ErrorKind × ℕ) (ErrorKind × ℕ) Needed
 
--- an item of a length, or that it has none
-abbrev pub taken_of : {O : Type 0} → ℕ → O → Taken O
-taken_of zero o = Nothing
-taken_of (suc n) o = Item (suc n) o
+abbrev pub without_input : Answer.Err (Error Bytes) (Error Bytes) Needed → Stops
+without_input (Stopped.Incomplete k) = Stopped.Incomplete k
+without_input (Stopped.Error e) = Stopped.Error (e.code, length e.input.now)
+without_input (Stopped.Failure e) = Stopped.Failure (e.code, length e.input.now)
+without_input Stopped.OutOfMemory = Stopped.OutOfMemory
+
+-- what is taken: an item with its length, or why there is none
+abbrev pub Taken : Type 0 → Type 0
+Taken O = Result (ℕ × O) Stops
+
+abbrev pub undecided : {O : Type 0} → Needed → Taken O
+undecided k = Err (Stopped.Incomplete k)
 
 -- what is taken for an answer at the input x, and what is held then
 abbrev pub Took : {O : Type 0} → Bytes → List ℕ → Answered O → Taken O → Type 0
-Took x new (Ok (j, o)) r = (n : ℕ) × (n + length j.now ≡ length x.now) × (new ≡ j.now) × (r ≡ taken_of n o)
-Took x new (Err e) r = (new ≡ x.now) × IsStopped e r
+Took x new (Ok (j, o)) r = (n : ℕ) × (n + length j.now ≡ length x.now) × (new ≡ j.now) × (r ≡ Ok (n, o))
+Took x new (Err e) r = (new ≡ x.now) × (r ≡ Err (without_input e))
 
 -- What is held is parsed once, by whether more may come: an accepted item is taken off its front, and else it stays.
 pub record Takes {V O : Type 0} (grammar : Grammar Bytes V O (Error Bytes)) (more : Bool) (old new : List ℕ) (r : Taken O) : Type 0 where
@@ -52,27 +56,18 @@ pub record Takes {V O : Type 0} (grammar : Grammar Bytes V O (Error Bytes)) (mor
 
 -- an item's bytes, of those that were held, are the last that were used
 abbrev pub HoldsLast : {A O : Type 0} → List ℕ → Held A → Taken O → Type 0
-HoldsLast old h (Item n o) = (n ≤ h.start) × (last_of n h ≡ take n old)
-HoldsLast old h Nothing = Unit {0}
-HoldsLast old h (Undecided k) = Unit {0}
-HoldsLast old h (Refused e n) = Unit {0}
-HoldsLast old h (Failed e n) = Unit {0}
-HoldsLast old h OutOfMemory = Unit {0}
+HoldsLast old h (Ok (n, o)) = (n ≤ h.start) × (last_of n h ≡ take n old)
+HoldsLast old h (Err e) = Unit {0}
 
 -- unless an item was taken, all is held as it was
 abbrev pub Stays : {A O : Type 0} → Held A → Held A → Taken O → Type 0
-Stays old new (Item n o) = Unit {0}
-Stays old new Nothing = new ≡ old
-Stays old new (Undecided k) = new ≡ old
-Stays old new (Refused e n) = new ≡ old
-Stays old new (Failed e n) = new ≡ old
-Stays old new OutOfMemory = new ≡ old
+Stays old new (Ok (n, o)) = Unit {0}
+Stays old new (Err e) = new ≡ old
 
 -- the bytes don't decide
 abbrev pub IsUndecided : {O : Type 0} → Taken O → Type 0
-IsUndecided (Item n o) = ⊥
-IsUndecided Nothing = ⊥
-IsUndecided (Undecided k) = Unit {0}
-IsUndecided (Refused e n) = ⊥
-IsUndecided (Failed e n) = ⊥
-IsUndecided OutOfMemory = ⊥
+IsUndecided (Ok (n, o)) = ⊥
+IsUndecided (Err (Stopped.Incomplete k)) = Unit {0}
+IsUndecided (Err (Stopped.Error e)) = ⊥
+IsUndecided (Err (Stopped.Failure e)) = ⊥
+IsUndecided (Err Stopped.OutOfMemory) = ⊥

@@ -4,18 +4,17 @@ use Rattle.std.specs.Prelude.{List, [], ◌++◌, length, Option, Some, None, Re
 use Rattle.std.specs.Io.KnownBytes.{Consumes, IsAtEnd}
 use Rattle.std_io.specs.declared.io.error.Error as Io
 use Rattle.nom_internal.specs.Prelude.{Needed, Grammar}
+use Rattle.nom_error.specs.declared.answer.Err.TheVariants as Stops
 use Rattle.nom_error.specs.declared.value.Error.{Error}
 use Rattle.nom_stream.specs.declared.stream.Stop as Why
 use Rattle.nom_stream.specs.declared.stream.Stop.TheVariants as Stopped
 use Rattle.nom_stream.specs.declared.stream.Unread.{Unread}
 use Rattle.nom_stream.specs.declared.settings.Settings.{Settings}
 use Rattle.nom_stream.specs.declared.stream.Stream.{Stream}
-use Rattle.nom_stream.specs.declared.step.Taken.{Taken}
-use Rattle.nom_stream.specs.declared.step.Taken.TheVariants as Took
 use Rattle.nom_stream.specs.Held.{held_of}
-use Rattle.nom_stream.specs.Items.{Bytes, HoldsLast, IsUndecided, Takes}
+use Rattle.nom_stream.specs.Items.{Bytes, HoldsLast, IsUndecided, Taken, Takes, undecided}
 use Rattle.nom_io.specs.Faults.{NoFault, OneFault}
-use Rattle.nom_io.specs.declared.faults.Faults.{Faults}
+use Rattle.nom_io.specs.declared.counted.Faults.{Faults}
 use Rattle.nom_stream.specs.Wanted.{most_read, wanted_of}
 
 -- an item with how many bytes it has, none at the end, or why there is none
@@ -24,12 +23,11 @@ ItemResult O = Result (Option (ℕ × O)) Why.Stop
 
 -- what is told of what was taken
 abbrev pub IsItemResult : {O : Type 0} → Taken O → ItemResult O → Type 0
-IsItemResult (Took.Item n o) r = r ≡ Ok (Some (n, o))
-IsItemResult Took.Nothing r = r ≡ Err Stopped.Nothing
-IsItemResult (Took.Undecided k) r = r ≡ Err (Stopped.Incomplete k)
-IsItemResult (Took.Refused e n) r = r ≡ Err (Stopped.Refused e n)
-IsItemResult (Took.Failed e n) r = r ≡ Err (Stopped.Failed e n)
-IsItemResult Took.OutOfMemory r = r ≡ Err Stopped.OutOfMemory
+IsItemResult (Ok (n, o)) r = (n ≡ 0 → r ≡ Err Stopped.Nothing) × (0 < n → r ≡ Ok (Some (n, o)))
+IsItemResult (Err (Stops.Incomplete k)) r = r ≡ Err (Stopped.Incomplete k)
+IsItemResult (Err (Stops.Error e)) r = r ≡ Err (Stopped.Refused e.0 e.1)
+IsItemResult (Err (Stops.Failure e)) r = r ≡ Err (Stopped.Failed e.0 e.1)
+IsItemResult (Err Stops.OutOfMemory) r = r ≡ Err Stopped.OutOfMemory
 
 -- the offset after an answer: an item's bytes are counted, up to the greatest `u64`
 abbrev pub counted : {O : Type 0} → ℕ → ItemResult O → ℕ
@@ -130,14 +128,14 @@ IsUnread t r = ((e : Io.Error) × (r ≡ Err (Stopped.Fault e))) ⊎ IsUntold t 
 
 -- these bytes leave the item undecided
 abbrev pub WaitsForMore : {V O : Type 0} → Grammar Bytes V O (Error Bytes) → List ℕ → Type 0
-WaitsForMore grammar xs = (k : Needed) × Takes grammar true xs xs (Took.Undecided k)
+WaitsForMore grammar xs = (k : Needed) × Takes grammar true xs xs (undecided k)
 
 module _ {V O : Type 0} (grammar : Grammar Bytes V O (Error Bytes)) (settings : Settings) (held : List ℕ) where
   -- A filling: bytes that were read after those that were held and those of earlier fillings. These were parsed before it, and left the
   -- item undecided; and it has less than one read more than what was wanted then.
   pub record IsFilling (earlier last : List ℕ) : Type 0 where
     pub needed : Needed
-    pub waits : Takes grammar true (held ++ earlier) (held ++ earlier) (Took.Undecided needed)
+    pub waits : Takes grammar true (held ++ earlier) (held ++ earlier) (undecided needed)
     pub no_more : length last < wanted_of settings needed (length (held ++ earlier)) + most_read settings
 
   -- bytes that were read by fillings, each of which gave as many as were wanted, or more
@@ -173,7 +171,7 @@ module _ {R A V O : Type 0} (grammar : Grammar Bytes V O (Error Bytes)) (s t : S
     Decided : (taken : Taken O) → (IsUndecided taken → ⊥) → Takes grammar true (held_of s.held) (held_of t.held) taken →
         HoldsLast (held_of s.held) t.held taken → IsItemResult taken r → Answers r
     -- the reader is at its end
-    AtEnd : s.ended ≡ true → (k : Needed) → Takes grammar true (held_of s.held) (held_of s.held) (Took.Undecided k) → Ends k r → Answers r
+    AtEnd : s.ended ≡ true → (k : Needed) → Takes grammar true (held_of s.held) (held_of s.held) (undecided k) → Ends k r → Answers r
     -- the reader isn't at its end; as many bytes are held as may be, and don't decide
     Full : s.ended ≡ false → s.settings.most ≤ length (held_of s.held) → held_of t.held ≡ held_of s.held → WaitsForMore grammar (held_of s.held) →
         r ≡ Err Stopped.TooLong → Answers r

@@ -1,8 +1,8 @@
 //! The bytes that were read and aren't used yet, and reads of more.
 ghost use Rattle.std.specs.Prelude.{◌≤◌, vec_len};
 
-use crate::reader::Reader;
 use nom_error::answer::OutOfMemory;
+use nom_io::counted::Counted;
 use std::alloc::Allocator;
 use std::io;
 use std::io::Read;
@@ -169,7 +169,7 @@ impl<A: Allocator> Held<A> {
     }
 
     /// Makes one read of at most `count` bytes, after the held ones. An interrupted read is made again.
-    pub fn read_from<R: Read>(&mut self, source: &mut Reader<R>, count: usize) -> io::Result<usize>
+    pub fn read_from<R: Read>(&mut self, source: &mut Counted<R>, count: usize) -> io::Result<usize>
         requires room { self.old.end + count ≤ vec_len self.old.bytes }
         ensures given { IfOk result (λ n. (given : List ℕ) × (length given ≡ n) × (held_of self.new ≡ held_of self.old ++ given)
             × Consumes (R.remaining source.old.inner) (R.remaining source.new.inner) given) }
@@ -181,7 +181,7 @@ impl<A: Allocator> Held<A> {
         ensures buffer { vec_len self.new.bytes ≡ vec_len self.old.bytes }
     {
         let end = self.end;
-        match source.read(&mut self.bytes[end..end + count]) {
+        match source.read_retried(&mut self.bytes[end..end + count]) {
             Ok(given) => {
                 self.end = end + given;
                 Ok(given)

@@ -9,8 +9,6 @@ pub mod held;
 pub mod item_parser;
 pub mod lines;
 pub mod promises;
-pub mod reader;
-pub mod retried;
 pub mod settings;
 pub mod step;
 pub mod stream;

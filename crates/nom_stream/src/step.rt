@@ -1,8 +1,7 @@
 //! One item from the held bytes.
 ghost use Rattle.std.specs.Prelude.{◌≡◌, MatchOption};
 ghost use Rattle.nom_stream.specs.Held.{held_of};
-ghost use Rattle.nom_stream.specs.Items.{IsStopped, HoldsLast, IsUndecided, Stays, Takes};
-ghost use Rattle.nom_stream.specs.declared.step.Taken.TheVariants.{Undecided};
+ghost use Rattle.nom_stream.specs.Items.{HoldsLast, IsUndecided, Stays, Takes, undecided, without_input};
 
 use crate::held::Held;
 use crate::item_parser::ItemParser;
@@ -12,32 +11,19 @@ use nom_error::value::Error;
 use nom_traits::input::Items;
 use std::alloc::Allocator;
 
-/// The result of one parse of the held bytes.
-#[derive(Drop)]
-pub enum Taken<T> {
-    /// An item with the number of its bytes, which are no longer held.
-    Item(usize, T),
-    /// An item of no bytes.
-    Nothing,
-    /// The bytes don't decide.
-    Undecided(Needed),
-    /// A refusal, with the kind of its error and the length of the input that the error holds.
-    Refused(ErrorKind, usize),
-    /// A failure, with the kind of its error and the length of the input that the error holds.
-    Failed(ErrorKind, usize),
-    /// Memory ran out in the parser.
-    OutOfMemory,
-}
+/// The result of one parse of the held bytes: an item with the number of its bytes, which are no longer held, or
+/// why there is none. Of an error it has the kind, and the length of the input that the error holds.
+pub type Taken<T> = Result<(usize, T), Err<(ErrorKind, usize)>>;
 
 // What is told of an answer where nothing is accepted.
-fn stopped<T>(stop: Err<Error<&[u8]>>) -> Taken<T>
-    ensures { IsStopped stop.entry result }
+fn stopped(stop: Err<Error<&[u8]>>) -> Err<(ErrorKind, usize)>
+    ensures { result ≡ without_input stop.entry }
 {
     match stop {
-        Err::Incomplete(needed) => Taken::Undecided(needed),
-        Err::Error(error) => Taken::Refused(error.code, error.input.len()),
-        Err::Failure(error) => Taken::Failed(error.code, error.input.len()),
-        Err::OutOfMemory => Taken::OutOfMemory,
+        Err::Incomplete(needed) => Err::Incomplete(needed),
+        Err::Error(error) => Err::Error((error.code, error.input.len())),
+        Err::Failure(error) => Err::Failure((error.code, error.input.len())),
+        Err::OutOfMemory => Err::OutOfMemory,
     }
 }
 
@@ -63,28 +49,23 @@ pub fn take<A: Allocator, G: ItemParser>(
     match grammar.item(input, more) {
         Ok((rest, item)) => {
             let left = rest.len();
-            let used = len - left;
-            if used == 0 {
-                return Taken::Nothing;
-            }
             held.leave(left);
-            Taken::Item(used, item)
+            Ok((len - left, item))
         }
-        Err(stop) => stopped(stop),
+        Err(stop) => Err(stopped(stop)),
     }
 }
 
 /// Returns what is needed, if the bytes don't decide.
 #[inline(always)]
 pub fn needed_of<T>(taken: &Taken<T>) -> Option<Needed>
-    ensures { MatchOption result (IsUndecided taken.now → ⊥) (λ k. taken.now ≡ Undecided k) }
+    ensures { MatchOption result (IsUndecided taken.now → ⊥) (λ k. taken.now ≡ undecided k) }
 {
     match taken {
-        Taken::Undecided(needed) => Some(*needed),
-        Taken::Item(_, _) => None,
-        Taken::Nothing => None,
-        Taken::Refused(_, _) => None,
-        Taken::Failed(_, _) => None,
-        Taken::OutOfMemory => None,
+        Err(Err::Incomplete(needed)) => Some(*needed),
+        Err(Err::Error(_)) => None,
+        Err(Err::Failure(_)) => None,
+        Err(Err::OutOfMemory) => None,
+        Ok(_) => None,
     }
 }

@@ -3,11 +3,11 @@ ghost use Rattle.std.specs.Prelude.{◌≤◌, vec_len};
 
 use crate::held::Held;
 use crate::item_parser::ItemParser;
-use crate::reader::Reader;
 use crate::settings::Settings;
 use crate::step::{Taken, needed_of, take};
-use nom_error::answer::Needed;
+use nom_error::answer::{Err as Why, Needed};
 use nom_error::kind::ErrorKind;
+use nom_io::counted::Counted;
 use std::alloc::Allocator;
 use std::io;
 use std::io::Read;
@@ -47,7 +47,7 @@ pub enum Stop {
 /// The items of a reader, one for each `next_item`.
 #[derive(Drop)]
 pub struct Stream<R, A: Allocator> {
-    pub source: Reader<R>,
+    pub source: Counted<R>,
     pub held: Held<A>,
     pub settings: Settings,
     /// The number of bytes of the items so far. It stays at the greatest `u64`.
@@ -79,7 +79,7 @@ impl<R: Read, A: Allocator + Copy> Stream<R, A> {
         ensures settings { result.settings ≡ settings }
     {
         Stream {
-            source: Reader::new(source),
+            source: Counted::new(source),
             held: Held::new(alloc),
             settings,
             offset: 0,
@@ -150,7 +150,7 @@ impl<R: Read, A: Allocator + Copy> Stream<R, A> {
         Ok(())
     }
 
-    // The same, with room for the answer as in `end`.
+    // The same, inlined, so that the slot of the answer is cleared on this path alone, as in `end`.
     #[inline(always)]
     fn fill(&mut self, wants: usize) -> Result<(), Unread>
         requires { MayWait self.old wants }
@@ -161,22 +161,24 @@ impl<R: Read, A: Allocator + Copy> Stream<R, A> {
 
     // What is told of what was taken; the bytes of an item are counted.
     #[inline(always)]
-    fn tell<T>(&mut self, taken: Taken<T>) -> Result<Option<(usize, T)>, Stop>
+    fn tell<T: Drop>(&mut self, taken: Taken<T>) -> Result<Option<(usize, T)>, Stop>
         ensures tells { IsItemResult taken result }
         ensures offset { self.new.offset ≡ counted self.old.offset result }
         ensures others { (self.new.source ≡ self.old.source) × (self.new.held ≡ self.old.held)
             × (self.new.settings ≡ self.old.settings) × (self.new.ended ≡ self.old.ended) × (self.new.pending ≡ self.old.pending) }
     {
         match taken {
-            Taken::Item(used, item) => {
+            Ok((used, item)) => {
+                if used == 0 {
+                    return Err(Stop::Nothing);
+                }
                 self.offset = self.offset.saturating_add(used as u64);
                 Ok(Some((used, item)))
             }
-            Taken::Nothing => Err(Stop::Nothing),
-            Taken::Undecided(needed) => Err(Stop::Incomplete(needed)),
-            Taken::Refused(kind, len) => Err(Stop::Refused(kind, len)),
-            Taken::Failed(kind, len) => Err(Stop::Failed(kind, len)),
-            Taken::OutOfMemory => Err(Stop::OutOfMemory),
+            Err(Why::Incomplete(needed)) => Err(Stop::Incomplete(needed)),
+            Err(Why::Error((kind, len))) => Err(Stop::Refused(kind, len)),
+            Err(Why::Failure((kind, len))) => Err(Stop::Failed(kind, len)),
+            Err(Why::OutOfMemory) => Err(Stop::OutOfMemory),
         }
     }
 
@@ -202,7 +204,8 @@ impl<R: Read, A: Allocator + Copy> Stream<R, A> {
         self.tell(taken)
     }
 
-    // The same. It is here that the room for the answer is cleared, which a fault makes large, and so not for each item.
+    // The same, inlined. The slot of the answer, which a fault makes large, is cleared on this path alone. Without this function
+    // it is cleared for each item, which takes a third more time where items have 8 bytes.
     #[inline(always)]
     fn end<G: ItemParser>(
         &mut self,

@@ -1,7 +1,6 @@
 pub mod Adding
 pub mod Counted
 pub mod Everywhere
-pub mod Known
 pub mod Members
 pub mod Outcomes
 pub mod Piped

@@ -1,36 +1,25 @@
 -- The outcome that a stream tells of what it holds.
-use Rattle.std.proofs.Common.{arith, ◌≡◌, ℕ, zero, suc, ◌+◌, ◌<◌, ◌⊎◌, true, List, ◌++◌, length, Option, Some, Ok, sym, ◌∙◌}
+use Rattle.std.proofs.Common.{arith, ◌≡◌, ℕ, ◌+◌, ◌⊎◌, true, List, ◌++◌, length, Option, Ok, Err, sym, ◌∙◌}
 use Rattle.std.proofs.Common.{ap, subst, inl, inr}
 use Rattle.std.proofs.Common.{length-append}
+use Rattle.nom_error.specs.declared.answer.Err.TheVariants as Stops
 use Rattle.nom_error.specs.declared.kind.ErrorKind.{ErrorKind}
 use Rattle.nom_error.specs.declared.value.Error.{Error}
 use Rattle.nom_internal.specs.Prelude.{bytes_model, Grammar, items_len-ones, Needed, Outcome, Accept, Refuse, Stop, Fails, Needs, Parses, ParseRanOut, Parsed}
-use Rattle.nom_stream.specs.declared.step.Taken.{Taken}
-use Rattle.nom_stream.specs.declared.step.Taken.TheVariants as Took
-use Rattle.nom_stream.specs.Items.{Answered, Bytes, IsUndecided, Takes, taken_of}
+use Rattle.nom_stream.specs.Items.{Answered, Bytes, Taken, Takes, undecided}
 use Rattle.nom_stream.specs.Items as Items
-use Rattle.nom_stream.specs.Streams.{IsItemResult, ItemResult}
-
--- an item is told that has bytes
-pub item_told : {O : Type 0} (n : ℕ) (o : O) (r : ItemResult O) → 0 < n → IsItemResult (taken_of n o) r → r ≡ Ok (Some (n, o))
-item_told zero o r some s = absurd (omega (arith, some))
-item_told (suc n) o r some s = s
-
-taken_not_undecided : {O : Type 0} (n : ℕ) (o : O) (k : Needed) → Took.Undecided k ≡ taken_of n o → ⊥
-taken_not_undecided zero o k e = cc (e)
-taken_not_undecided (suc n) o k e = cc (e)
 
 module _ {V O : Type 0} (g : Grammar Bytes V O (Error Bytes)) (x : Bytes) (new : List ℕ) (taken : Taken O) where
   -- what is taken where this is the outcome at x
   abbrev pub TakenFor : Outcome V → Type 0
-  TakenFor (Accept n v) = (o : O) × g.IsOutput v o × (taken ≡ taken_of n o) × ((front : List ℕ) × (length front ≡ n) × (x.now ≡ front ++ new))
-  TakenFor Refuse = (k : ErrorKind) × (at : ℕ) × (taken ≡ Took.Refused k at)
-  TakenFor (Stop (Fails cause)) = (k : ErrorKind) × (at : ℕ) × (taken ≡ Took.Failed k at)
-  TakenFor (Stop (Needs j)) = (k : Needed) × (taken ≡ Took.Undecided k)
+  TakenFor (Accept n v) = (o : O) × g.IsOutput v o × (taken ≡ Ok (n, o)) × ((front : List ℕ) × (length front ≡ n) × (x.now ≡ front ++ new))
+  TakenFor Refuse = (k : ErrorKind) × (at : ℕ) × (taken ≡ Err (Stops.Error (k, at)))
+  TakenFor (Stop (Fails cause)) = (k : ErrorKind) × (at : ℕ) × (taken ≡ Err (Stops.Failure (k, at)))
+  TakenFor (Stop (Needs j)) = (k : Needed) × (taken ≡ undecided k)
 
   -- an outcome is told, or memory ran out in the parser
   abbrev pub TellsOutcome : Type 0
-  TellsOutcome = ((p : Outcome V) × g.meaning.answers true x p × TakenFor p) ⊎ ((new ≡ x.now) × (taken ≡ Took.OutOfMemory))
+  TellsOutcome = ((p : Outcome V) × g.meaning.answers true x p × TakenFor p) ⊎ ((new ≡ x.now) × (taken ≡ Err Stops.OutOfMemory))
 
   same_size : (m n : ℕ) (front rest : List ℕ) → m + length rest ≡ length x.now → x.now ≡ front ++ rest → length front ≡ n → m ≡ n
   same_size m n front rest a e f = omega (arith, a, ap length e, length-append front rest, f)
@@ -48,7 +37,7 @@ module _ {V O : Type 0} (g : Grammar Bytes V O (Error Bytes)) (x : Bytes) (new :
         (
           h.1,
           h.3,
-          took.3 ∙ ap (λ m. taken_of m h.1) same,
+          took.3 ∙ ap (λ m. Ok (m, h.1)) same,
           ((h.2).front, long, (h.2).whole ∙ ap (λ z. (h.2).front ++ z) (sym took.2)),
         ),
       )
@@ -67,12 +56,12 @@ pub told : {V O : Type 0} (g : Grammar Bytes V O (Error Bytes)) (old new : List 
 told g old new taken t = outcome g t.input new taken t.answer t.parses.shown t.took
 
 -- where more is needed that is the outcome
-pub lacks : {V O : Type 0} (g : Grammar Bytes V O (Error Bytes)) (old new : List ℕ) (k : Needed) → (t : Takes g true old new (Took.Undecided k)) →
+pub lacks : {V O : Type 0} (g : Grammar Bytes V O (Error Bytes)) (old new : List ℕ) (k : Needed) → (t : Takes g true old new (undecided k)) →
     (j : Option ℕ) × g.meaning.answers true t.input (Stop (Needs j))
-lacks {V} {O} g old new k t = by (told g old new (Took.Undecided k) t)
+lacks {V} {O} g old new k t = by (told g old new (undecided k) t)
   where
-    by : TellsOutcome g t.input new (Took.Undecided k) → (j : Option ℕ) × g.meaning.answers true t.input (Stop (Needs j))
-    by (inl (Accept n v, a, h)) = absurd (taken_not_undecided n h.0 k h.2)
+    by : TellsOutcome g t.input new (undecided k) → (j : Option ℕ) × g.meaning.answers true t.input (Stop (Needs j))
+    by (inl (Accept n v, a, h)) = absurd (cc (h.2))
     by (inl (Refuse, a, h)) = absurd (cc (h.2))
     by (inl (Stop (Fails cause), a, h)) = absurd (cc (h.2))
     by (inl (Stop (Needs j), a, h)) = (j, a)

@@ -5,16 +5,15 @@ use Rattle.std.specs.Io.KnownBytes.{Appends, Consumes, IsAtEnd}
 use Rattle.nom_error.specs.declared.value.Error.{Error}
 use Rattle.nom_internal.specs.Prelude.{bytes_model, items_len, items_len-ones, Cause, Outright, TooLarge, Grammar, IsDecided, IsLawful, IsPinned, IsSteady}
 use Rattle.nom_internal.specs.Prelude.{NeverTooLarge, Outcome, Accept, Refuse, Stop, Fails, Needs, View, Needed}
-use Rattle.nom_stream.specs.declared.step.Taken.{Taken}
 use Rattle.nom_stream.specs.declared.stream.Stop.TheVariants as Stopped
 use Rattle.nom_stream.specs.declared.stream.Stream.{Stream}
 use Rattle.nom_stream.specs.Held.{held_of}
-use Rattle.nom_stream.specs.Items.{Bytes, IsUndecided}
+use Rattle.nom_stream.specs.Items.{Bytes, IsUndecided, Taken}
 use Rattle.nom_stream.specs.Streams.{Answers, Ends, EndsAsReader, Gives, IsItemResult, ItemResult}
 use Rattle.nom_stream.specs.Streams.Answers.{Decided, AtEnd, Full, Faulted, Lacking}
 use Rattle.nom_stream.specs.Streams.Ends.{Clean, Within, Completed}
 use Rattle.nom_stream.specs.Wholes.{Calls, HasLeft}
-use Rattle.nom_write_stream.proofs.Outcomes.{item_told, lacks, TellsOutcome, told}
+use Rattle.nom_write_stream.proofs.Outcomes.{lacks, TellsOutcome, told}
 use Rattle.nom_sink.specs.Lists.{EachForm}
 use Rattle.nom_write.specs.Reads.{IsTaken, Reads}
 use Rattle.nom_write_stream.specs.Outgoing.{IsItem}
@@ -155,7 +154,7 @@ module _ {V O : Type 0} (view : View O) (Pins : Type 0) (g : Grammar Bytes V O (
             let size : n ≡ items_len bytes_model.item_len xs = cc (both) in
             let same : tree ≡ w.0 = cc (both) in
             let long : n ≡ length xs = size ∙ items_len-ones xs in
-            let given = item_told n h.0 r (omega (arith, long, item.some)) (subst (λ z. IsItemResult z r) h.2 s) in
+            let given = (subst (λ z. IsItemResult z r) h.2 s).1 (omega (arith, long, item.some)) in
             let front = h.3 in
             subst TellsIt (sym given) (
               long,

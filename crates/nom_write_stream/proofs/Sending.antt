@@ -4,7 +4,7 @@ use Rattle.std.specs.Io.KnownBytes.{Appends}
 use Rattle.nom_write_stream.specs.declared.outgoing.Outgoing.{Outgoing}
 use Rattle.nom_write_stream.specs.Outgoing.{Sends, held_of}
 use Rattle.nom_io.specs.Faults.{NoFault}
-use Rattle.nom_write_stream.proofs.Known.{appends-more, appends-none}
+use Rattle.nom_io.proofs.Known.{appends_more, appends_none}
 
 module _ {W A : Type 0} (contents : W → Option (List ℕ)) where
   -- nothing is written, and these bytes are held more
@@ -12,7 +12,7 @@ module _ {W A : Type 0} (contents : W → Option (List ℕ)) where
   sends_added a b xs h t = (
     [],
     sym h,
-    subst (λ z. Appends (contents a.target.inner) (contents z.inner) []) (sym t) (appends-none (contents a.target.inner)),
+    subst (λ z. Appends (contents a.target.inner) (contents z.inner) []) (sym t) (appends_none (contents a.target.inner)),
   )
 
   pub sends_none : (a b : Outgoing W A) → held_of b ≡ held_of a → b.target ≡ a.target → Sends contents a b []
@@ -23,7 +23,7 @@ module _ {W A : Type 0} (contents : W → Option (List ℕ)) where
     p.0 ++ q.0,
     sym (append_assoc (held_of a) xs ys) ∙ (ap (λ z. z ++ ys) p.1 ∙ (append_assoc p.0 (held_of b) ys ∙ (ap (λ z. p.0 ++ z) q.1 ∙
         sym (append_assoc p.0 q.0 (held_of c))))),
-    appends-more (contents a.target.inner) (contents b.target.inner) (contents c.target.inner) p.0 q.0 p.2 q.2,
+    appends_more (contents a.target.inner) (contents b.target.inner) (contents c.target.inner) p.0 q.0 p.2 q.2,
   )
 
 -- no call was made

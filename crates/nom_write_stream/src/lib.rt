@@ -6,5 +6,3 @@
 pub mod held;
 pub mod outgoing;
 pub mod promises;
-pub mod retried;
-pub mod target;

@@ -3,8 +3,8 @@ ghost use Rattle.std.specs.Prelude.{◌≡◌, ◌≤◌, length, vec_capacity};
 ghost use Rattle.nom_write_stream.specs.Reasons.{why_unwritten};
 
 use crate::held::Held;
-use crate::target::Target;
 use nom_error::answer::OutOfMemory;
+use nom_io::counted::Counted;
 use nom_traits::input::Items;
 use nom_write::sink::Sink;
 use nom_write::{WriteError, Writer};
@@ -45,7 +45,7 @@ pub struct Halted {
 /// Each call of `write_item` adds one item. `flush` writes what is held.
 #[derive(Drop)]
 pub struct Outgoing<W, A: Allocator> {
-    pub target: Target<W>,
+    pub target: Counted<W>,
     pub held: Held<A>,
     /// The maximum number of bytes that are held. A longer item can't be written.
     pub most: usize,
@@ -84,7 +84,7 @@ impl<W: Write, A: Allocator> Outgoing<W, A> {
         let mut held = Held::new(alloc);
         match held.take_room(most) {
             Ok(()) => Ok(Outgoing {
-                target: Target::new(target),
+                target: Counted::new(target),
                 held,
                 most,
             }),

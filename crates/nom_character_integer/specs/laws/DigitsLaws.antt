@@ -144,6 +144,7 @@ module _ {I A : Type 0} (w : Model I A) (code : A → ℕ) (base m n greatest : 
       record { front = first_digits code base n (w.elements i); rest = whole.0; whole = whole.1; length_is = sym e }
 
   digits_laws : LeafLaws w (counted_digits w code base m n greatest)
+  unfolding counted_digits
   digits_laws = record {
     place = λ s i k v h a. digits_place i k a.2;
     one_accepted = λ s i j k u v h a b. (a.2 ∙ sym b.2, a.3 ∙ sym b.3);

@@ -6,7 +6,7 @@ pub returns-in-Ok-clause-given : goal.returns-in-Ok-clause-given
 returns-in-Ok-clause-given g c =
     let h = c.args.self.now in
     let l = c.deref_mut.result.now in
-    let room = c.read.new.room in
+    let room = c.read_retried.new.room in
     let n = c.in-Ok.given in
     let value : l ≡ h.bytes.items = c.deref_mut.ensures.value in
     let within : h.end ≤ length l = omega (arith, c.args.self.now.within.1, ap length value) in
@@ -22,7 +22,7 @@ pub returns-in-Err-clause-fault : goal.returns-in-Err-clause-fault
 returns-in-Err-clause-fault g c =
     let h = c.args.self.now in
     let l = c.deref_mut.result.now in
-    let room = c.read.new.room in
+    let room = c.read_retried.new.room in
     let value : l ≡ h.bytes.items = c.deref_mut.ensures.value in
     let within : h.end ≤ length l = omega (arith, c.args.self.now.within.1, ap length value) in
     let same = kept_in (vec_len h.bytes) l room _ _ h.start h.end c.args.self.now.within.0 within c.args.self.now.within.1 in
